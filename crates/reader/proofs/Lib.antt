@@ -1,0 +1,7 @@
+pub mod Columns
+pub mod Scan
+pub mod Turns
+pub mod Line
+pub mod Text
+pub mod Faults
+pub mod Written

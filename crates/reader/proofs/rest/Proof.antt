@@ -1,0 +1,20 @@
+-- `reader::rest` is the bytes after the k-th field, or none.
+use borrow.Author.Needs.{needs}
+use native.Mathlib.Omega.{arith}
+use Rattle.reader.proofs.Line as line
+use Rattle.reader.proofs.rest.Statement.{statement}
+use Rattle.reader.proofs.rest.Tie as tie
+
+pub rest-spec : {M : Type 1} → statement M
+rest-spec =
+    tie.close
+    (tie.spec
+    (λ c. search needs)
+    (λ c. search needs)
+    (λ c. search needs)
+    (λ c. search needs)
+    (λ c. search needs)
+    (λ c. search needs)
+    (λ c. search needs)
+    (λ c. search line.part-all)
+    (λ c. search line.part-none))

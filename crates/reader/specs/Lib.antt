@@ -1,0 +1,4 @@
+pub mod Columns
+pub mod Line
+pub mod Text
+pub mod Scan

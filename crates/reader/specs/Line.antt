@@ -1,0 +1,46 @@
+-- The fields of a line's bytes, from the left (01, "Design text": "A line is one or more fields of six columns").
+-- Of bytes that are not whole fields `fieldsOf` gives those that they begin with. A part of a line that starts after its k-th field
+-- has just the later fields (proofs/Line): so the rest of a line after a term can be handed on as a part.
+use Prim.Native.Nat.{ℕ, zero, suc, _+_, _*_, _/_, _<_}
+use mathlib.Core.Path.{_≡_}
+use mathlib.Core.Logic.{_≢_}
+use mathlib.Core.List.{List, [], _∷_, _++_}
+use lib.ListN.{length, take, drop}
+use Rattle.reader.specs.Columns.{columnsOf, fieldOf}
+use Rattle.reader.specs.declared.Field.{Field}
+use Rattle.reader.specs.declared.Field.the-variants.{Number, Malformed}
+
+-- fields one after the other
+unfoldable pub written : List ℕ → List ℕ
+written [] = []
+written (n ∷ ns) = columnsOf n ++ written ns
+
+-- each is a number that a field can be
+pub data Each16 : List ℕ → Type 0 where
+  none : Each16 []
+  more : {n : ℕ} {ns : List ℕ} → n < 65536 → Each16 ns → Each16 (n ∷ ns)
+
+-- "A line is one or more fields of six columns", without its byte 10
+pub record IsLine (line : List ℕ) : Type 0 where
+  pub fields : List ℕ
+  pub each : Each16 fields
+  pub some : fields ≢ []
+  pub whole : line ≡ written fields
+
+-- the field in the k-th six columns, from 0
+abbrev pub fieldAt : List ℕ → ℕ → Field
+fieldAt bytes k = fieldOf (take 6 (drop (6 * k) bytes))
+
+-- a field and those after it; no more where it is malformed
+abbrev pub andThen : Field → List ℕ → List ℕ
+andThen (Number n) later = n ∷ later
+andThen Malformed later = []
+
+-- the fields that bytes begin with, at most k of them
+unfoldable pub fieldsFrom : ℕ → List ℕ → List ℕ
+fieldsFrom zero bytes = []
+fieldsFrom (suc k) bytes = let later = fieldsFrom k (drop 6 bytes) in andThen (fieldOf (take 6 bytes)) later
+
+-- the fields that bytes begin with
+unfoldable pub fieldsOf : List ℕ → List ℕ
+fieldsOf bytes = fieldsFrom (length bytes / 6) bytes

@@ -1,0 +1,172 @@
+// From bytes to fields and lines: what six columns are a field, the fields of a line, and whether a text's columns are at fault.
+// Every public function answers any bytes. The definitions are in specs/Columns, specs/Line and specs/Text.
+ghost use mathlib.Core.Path.{_≡_};
+ghost use Prim.Native.Nat.{_+_, _*_, _≤_};
+ghost use lib.ListN.{length, take, drop};
+ghost use Rattle.reader.specs.Columns.{fieldOf};
+ghost use Rattle.reader.specs.Line.{fieldAt, fieldsOf};
+ghost use Rattle.reader.specs.Text.{columnsFault, linesFault};
+ghost use Rattle.reader.specs.Scan.{blanksOf, digitsFrom};
+
+// What six columns are.
+pub enum Field {
+    Number(u16),
+    Malformed,
+}
+
+// The columns of a field, and the limits of a text.
+pub const COLUMNS: usize = 6;
+
+pub const MAX_BYTES: usize = 28672;
+
+pub const MAX_LINE_FIELDS: usize = 256;
+
+pub const MAX_FIELDS: usize = 4096;
+
+const BLANK: u8 = 32;
+
+const DIGIT_0: u8 = 48;
+
+const DIGIT_9: u8 = 57;
+
+const LINE_END: u8 = 10;
+
+// The k-th field of a part of a line, counted from 0; malformed also where the part has no k-th six columns.
+pub fn field_at(part: &[u8], k: usize) -> Field
+    ensures { λ r. ⌜ r ≡ fieldAt (now (part .entry)) k ⌝ }
+{
+    if k < part.len() / COLUMNS {
+        let at = COLUMNS * k;
+        first_field(&part[at..])
+    } else {
+        Field::Malformed
+    }
+}
+
+// What is left of a part after its first k fields.
+pub fn rest(part: &[u8], k: usize) -> &[u8]
+    ensures { λ r. ⌜ now r ≡ drop (6 * k) (now (part .entry)) ⌝ }
+{
+    if k <= part.len() / COLUMNS {
+        let at = COLUMNS * k;
+        &part[at..]
+    } else {
+        &part[part.len()..]
+    }
+}
+
+// How many fields a part begins with.
+pub fn count(part: &[u8]) -> usize
+    ensures { λ r. ⌜ r ≡ length (fieldsOf (now (part .entry))) ⌝ }
+{
+    let most = part.len() / COLUMNS;
+    let mut k = 0;
+    while k < most {
+        let f = field_at(part, k);
+        let Field::Number(_) = f else {
+            return k;
+        };
+        k += 1;
+    }
+    k
+}
+
+// The lowest of the faults 1, 2 and 3 that a text has, or 0.
+pub fn columns_fault(text: &[u8]) -> u16
+    ensures { λ r. ⌜ r ≡ columnsFault (now (text .entry)) ⌝ }
+{
+    if MAX_BYTES < text.len() {
+        return 1;
+    }
+    lines_fault(text)
+}
+
+// The lower of the faults 2 and 3 that a text has, or 0. A line is where fields stand one after the other up to a byte 10, so
+// that no search for the line's end is needed.
+fn lines_fault(text: &[u8]) -> u16
+    ensures { λ r. ⌜ r ≡ linesFault (now (text .entry)) ⌝ }
+{
+    let mut at = 0;
+    let mut total = 0;
+    let mut long = false;
+    while at < text.len() {
+        let n = count(&text[at..]);
+        let end = at + COLUMNS * n;
+        if n == 0 {
+            return 2;
+        }
+        if text.len() <= end {
+            return 2;
+        }
+        if text[end] != LINE_END {
+            return 2;
+        }
+        long = long | (MAX_LINE_FIELDS < n);
+        total += n;
+        at = end + 1;
+    }
+    if long {
+        return 3;
+    }
+    if MAX_FIELDS < total {
+        return 3;
+    }
+    0
+}
+
+// The field in the first six columns: blanks, then digits, of which only a single one may begin with 0.
+fn first_field(part: &[u8]) -> Field
+    requires { ⌜ 6 ≤ length (now part) ⌝ }
+    ensures { λ r. ⌜ r ≡ fieldOf (take 6 (now (part .entry))) ⌝ }
+{
+    let b = blanks(part);
+    if COLUMNS <= b {
+        return Field::Malformed;
+    }
+    if part[b] == DIGIT_0 {
+        if b + 1 == COLUMNS {
+            return Field::Number(0);
+        }
+        return Field::Malformed;
+    }
+    digits(part, b)
+}
+
+// The blanks that begin the first six columns.
+fn blanks(part: &[u8]) -> usize
+    requires { ⌜ 6 ≤ length (now part) ⌝ }
+    ensures { λ r. ⌜ r ≡ blanksOf (take 6 (now (part .entry))) ⌝ }
+{
+    let mut i = 0;
+    while i < COLUMNS {
+        if part[i] != BLANK {
+            return i;
+        }
+        i += 1;
+    }
+    i
+}
+
+// The number that the columns from one on to the sixth are the digits of.
+fn digits(part: &[u8], from: usize) -> Field
+    requires { ⌜ (6 ≤ length (now part)) × (from ≤ 6) ⌝ }
+    ensures { λ r. ⌜ r ≡ digitsFrom 0 (drop from (take 6 (now (part .entry)))) ⌝ }
+{
+    let mut n: u32 = 0;
+    let mut i = from;
+    while i < COLUMNS {
+        let b = part[i];
+        if b < DIGIT_0 {
+            return Field::Malformed;
+        }
+        if DIGIT_9 < b {
+            return Field::Malformed;
+        }
+        n = n * 10 + (b - DIGIT_0) as u32;
+        if 65535 < n {
+            return Field::Malformed;
+        }
+        i += 1;
+    }
+    Field::Number(n as u16)
+}
