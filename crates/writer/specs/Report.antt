@@ -1,0 +1,12 @@
+-- The report as bytes (01, "The desk"): "The report is five fields and byte 10: verdict (0, 1, 2), criterion or turned-down number,
+-- state, row, sum value; unused fields are 0." So it is a text of one line.
+use Prim.Native.Nat.{ℕ}
+use mathlib.Core.List.{List, [], _∷_}
+use Rattle.reader.specs.Text.{textOf}
+use Rattle.writer.specs.declared.Report.{Report}
+
+abbrev pub fieldsOfReport : Report → List ℕ
+fieldsOfReport r = r .verdict ∷ r .number ∷ r .state ∷ r .row ∷ r .sum ∷ []
+
+unfoldable pub reportOf : Report → List ℕ
+reportOf r = textOf (fieldsOfReport r ∷ [])

@@ -1,0 +1,67 @@
+// A number as six columns of a lent buffer, and the report in its first 31 bytes. What is written is what the reader reads:
+// `columnsOf` and `textOf` are the reader's definitions. Every byte of the buffer at exit is determined; its length stays.
+ghost use mathlib.Core.Path.{_≡_};
+ghost use mathlib.Core.List.{_++_};
+ghost use Prim.Native.Nat.{_+_, _<_, _≤_};
+ghost use lib.ListN.{length, drop};
+ghost use lib.Seq.{sets};
+ghost use Rattle.reader.specs.Columns.{columnOf, columnsOf};
+ghost use Rattle.writer.specs.Report.{reportOf};
+
+// The report's five numbers.
+pub struct Report {
+    // 0 accepted, 1 failed, 2 turned down
+    pub verdict: u16,
+    // the criterion that failed, or the number by which a text is turned down
+    pub number: u16,
+    pub state: u16,
+    pub row: u16,
+    pub sum: u16,
+}
+
+// Five fields and byte 10.
+pub const REPORT_BYTES: usize = 31;
+
+const BLANK: u8 = 32;
+
+const DIGIT_0: u8 = 48;
+
+const LINE_END: u8 = 10;
+
+// A number in the six columns from `at` on.
+pub fn put_field(buffer: &mut [u8], at: usize, n: u16)
+    requires { ⌜ at + 6 ≤ length (now buffer) ⌝ }
+    ensures { λ _. ⌜ now (buffer .exit) ≡ sets (now (buffer .entry)) at (columnsOf n) ⌝ }
+{
+    buffer[at] = BLANK;
+    buffer[at + 1] = column(n, 10000);
+    buffer[at + 2] = column(n, 1000);
+    buffer[at + 3] = column(n, 100);
+    buffer[at + 4] = column(n, 10);
+    buffer[at + 5] = DIGIT_0 + (n % 10) as u8;
+}
+
+// The report in the first 31 bytes; later bytes keep their content.
+pub fn put_report(buffer: &mut [u8], report: Report)
+    requires { ⌜ 31 ≤ length (now buffer) ⌝ }
+    ensures { λ _. ⌜ now (buffer .exit) ≡ reportOf report ++ drop 31 (now (buffer .entry)) ⌝ }
+{
+    put_field(buffer, 0, report.verdict);
+    put_field(buffer, 6, report.number);
+    put_field(buffer, 12, report.state);
+    put_field(buffer, 18, report.row);
+    put_field(buffer, 24, report.sum);
+    buffer[30] = LINE_END;
+}
+
+// The byte in the column of a weight: the digit, or a blank before the first digit.
+fn column(n: u16, weight: u16) -> u8
+    requires { ⌜ 0 < weight ⌝ }
+    ensures { λ r. ⌜ r ≡ columnOf n weight ⌝ }
+{
+    if n < weight {
+        BLANK
+    } else {
+        DIGIT_0 + (n / weight % 10) as u8
+    }
+}
