@@ -1,0 +1,5 @@
+pub mod Read
+pub mod Depth
+pub mod Printing
+pub mod Eval
+pub mod Fit
