@@ -2,18 +2,17 @@
 --
 -- Each law's premises are what the code knows there, one fact each, and its conclusion is the answer as the code builds it; so the
 -- proof of the functions only names the law. Marks 3, 4 and 5 are one law over the operation, as are 12 and 13, and 15 and 16.
-use mathlib.Core.Path.{_≡_, refl, sym, ap, _∙_}
+use mathlib.Core.Path.{_≡_, refl, _∙_}
 use mathlib.Core.Bool.{Bool, true, false, not}
-use mathlib.Core.List.{List, [], _∷_}
+use mathlib.Core.List.{List, []}
 use Prim.Native.Nat.{ℕ, zero, suc, _+_, _-_, _<_, _≤_}
 use native.Mathlib.Omega.{arith}
-use native.Mathlib.Numerals.{add-one, sub-one}
 use lib.ListN.{length, getD, drop, drop-of-length-le}
-use lib.Seq.{drop-cons, drop-drop}
+use lib.Seq.{drop-cons}
 use Rattle.terms.specs.Tree.{evalV, evalF, pick, arithOf, compareOf, joinOf}
 use Rattle.terms.specs.Mark.{valueMark, formulaMark}
 use Rattle.terms.specs.Read.{readV, readF, valueBy, formulaBy}
-use Rattle.terms.proofs.Read.{step-v, step-f}
+use Rattle.terms.proofs.Read.{step-v, step-f, place}
 use Rattle.terms.specs.declared.Arith.{Arith}
 use Rattle.terms.specs.declared.Compare.{Compare}
 use Rattle.terms.specs.declared.Join.{Join}
@@ -42,10 +41,6 @@ next-v e i = e i .next
 
 next-f : {a b : Held} → a ≡ b → a .next ≡ b .next
 next-f e i = e i .next
-
--- where the second of two terms stands
-place : (s : List ℕ) (n u : ℕ) {x : ℕ} → x ≡ n + u → drop u (drop n s) ≡ drop x s
-place s n u e = drop-drop u n s ∙ ap (λ (k : ℕ). drop k s) (sym e)
 
 module _ (ps : List ℕ) (x : ℕ) where
   empty-v : (d at : ℕ) → valued 0 at ≡ answerV at ps x (readV d [])

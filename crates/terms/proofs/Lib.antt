@@ -1,3 +1,4 @@
+pub mod And
 pub mod Read
 pub mod Depth
 pub mod Printing

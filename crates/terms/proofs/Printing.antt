@@ -6,7 +6,7 @@
 -- Each stands once for values (-v) and once for formulas (-f). The first two go by induction, on the tree and on the depth, with
 -- one law for "two terms follow" and one for "three"; the last two follow from them.
 use mathlib.Core.Path.{_≡_, refl, sym, ap, _∙_}
-use mathlib.Core.Bool.{Bool, true, false, _&&_, false≢true}
+use mathlib.Core.Bool.{Bool, true, false, false≢true}
 use mathlib.Core.List.{List, [], _∷_, _++_, append-assoc, append-nil}
 use Prim.Native.Nat.{ℕ, zero, suc, _+_, _≤_}
 use native.Mathlib.Omega.{arith}
@@ -31,15 +31,8 @@ use Rattle.terms.specs.declared.ValueMark.{ValueMark}
 use Rattle.terms.specs.declared.ValueMark.the-variants as vm
 use Rattle.terms.specs.declared.FormulaMark.{FormulaMark}
 use Rattle.terms.specs.declared.FormulaMark.the-variants as fm
+use Rattle.terms.proofs.And.{and-left, and-right}
 use Rattle.terms.proofs.Depth.{within-v, within-f, positive-v, positive-f}
-
-pub and-left : (a b : Bool) → a && b ≡ true → a ≡ true
-and-left true b h = refl
-and-left false b h = h
-
-pub and-right : (a b : Bool) → a && b ≡ true → b ≡ true
-and-right true b h = h
-and-right false b h = absurd (false≢true h)
 
 leaf-eq : {A : Type 0} (a : A) {m n : ℕ} → m ≡ n → leaf a m ≡ leaf a n
 leaf-eq a e i = leaf a (e i)

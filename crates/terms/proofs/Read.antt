@@ -1,10 +1,11 @@
--- The law of reading that every proof about code uses: a term is read by its mark. Laws between reading and printing are in Printing.
-use mathlib.Core.Path.{_≡_, refl}
+-- The laws of reading that every proof about code uses: a term is read by its mark, and where the next one stands. Laws between
+-- reading and printing are in Printing.
+use mathlib.Core.Path.{_≡_, refl, sym, ap, _∙_}
 use mathlib.Core.List.{List}
 use Prim.Native.Nat.{ℕ, zero, suc, _+_, _-_, _<_}
 use native.Mathlib.Numerals.{add-one, sub-one}
 use lib.ListN.{length, getD, drop}
-use lib.Seq.{drop-cons}
+use lib.Seq.{drop-cons, drop-drop}
 use Rattle.terms.specs.Mark.{valueMark, formulaMark}
 use Rattle.terms.specs.Read.{readV, readF, valueBy, formulaBy}
 
@@ -20,3 +21,7 @@ pub step-f : (s : List ℕ) (at d : ℕ) → (d ≡ 0 → ⊥) → at < length s
 unfolding readF
 step-f s at zero deep h = absurd (deep refl)
 step-f s at (suc d) deep h = rw (drop-cons s at 0 h, add-one at, sub-one)
+
+-- what is left after u more fields is what stands u places further
+pub place : (s : List ℕ) (n u : ℕ) {x : ℕ} → x ≡ n + u → drop u (drop n s) ≡ drop x s
+place s n u e = drop-drop u n s ∙ ap (λ (k : ℕ). drop k s) (sym e)
