@@ -1,0 +1,115 @@
+-- The joint proof of the two functions; the depth falls with every call. Each return is a law of Laws.
+use borrow.Author.Needs.{needs}
+use Prim.Native.Nat.{ℕ, _<_}
+use borrow.Fn.Kinds.{In}
+use borrow.Fn.PlainCycle.{Measures, is, falls, and}
+use Rattle.sum_free.proofs.formula_sum_free.Reads as formula-sum-free
+use Rattle.sum_free.proofs.formula_sum_free.Kinds as formula-sum-free-kinds
+use Rattle.sum_free.proofs.+formula_sum_free+value_sum_free.Lts-formula_sum_free as formula-sum-free-lts
+use Rattle.sum_free.proofs.value_sum_free.Reads as value-sum-free
+use Rattle.sum_free.proofs.value_sum_free.Kinds as value-sum-free-kinds
+use Rattle.sum_free.proofs.+formula_sum_free+value_sum_free.Lts-value_sum_free as value-sum-free-lts
+use Rattle.terms.proofs.formula_mark.Reads as formula-mark-reads
+use Rattle.terms.proofs.value_mark.Reads as value-mark-reads
+use Rattle.sum_free.proofs.Laws as laws
+use Rattle.sum_free.proofs.+formula_sum_free+value_sum_free.{statement}
+use Rattle.sum_free.proofs.+formula_sum_free+value_sum_free.Tie.{close}
+
+abbrev μ-formula-sum-free : Measures 1 formula-sum-free-kinds.ps ℕ
+μ-formula-sum-free κs a = a .1 .1 .0
+
+abbrev μ-value-sum-free : Measures 1 value-sum-free-kinds.ps ℕ
+μ-value-sum-free κs a = a .1 .1 .0
+
+abbrev formula-sum-free-at : ℕ → In 1 formula-sum-free-kinds.ps
+formula-sum-free-at t =
+    and 1 formula-sum-free-kinds.ps (is 1 formula-sum-free-kinds.ps μ-formula-sum-free t) formula-sum-free.Pre
+
+abbrev formula-sum-free-below : ℕ → In 1 formula-sum-free-kinds.ps
+formula-sum-free-below t =
+    and
+    1
+    formula-sum-free-kinds.ps
+    (falls 1 formula-sum-free-kinds.ps _<_ μ-formula-sum-free t)
+    formula-sum-free.Pre
+
+abbrev value-sum-free-at : ℕ → In 1 value-sum-free-kinds.ps
+value-sum-free-at t =
+    and 1 value-sum-free-kinds.ps (is 1 value-sum-free-kinds.ps μ-value-sum-free t) value-sum-free.Pre
+
+abbrev value-sum-free-below : ℕ → In 1 value-sum-free-kinds.ps
+value-sum-free-below t =
+    and 1 value-sum-free-kinds.ps (falls 1 value-sum-free-kinds.ps _<_ μ-value-sum-free t) value-sum-free.Pre
+
+pub +formula-sum-free+value-sum-free-spec : {M : Type 1} → statement M
++formula-sum-free+value-sum-free-spec = close μ-formula-sum-free μ-value-sum-free (λ t. formula-sum-free-lts.spec (formula-mark-reads.Asked, formula-mark-reads.Learnt, value-sum-free-below t, value-sum-free.Post, formula-sum-free-below t, formula-sum-free.Post)
+    (formula-sum-free-at t)
+    formula-sum-free.Post
+    (λ c. search laws.shallow-f)
+    (λ c. search laws.ended-f)
+    (λ c. search needs)
+    (λ c. search needs)
+    (λ c κs. search needs)
+    (λ c. search needs)
+    (λ c. search needs)
+    (λ c. search needs)
+    (λ c. search needs)
+    (λ c. search needs)
+    (λ c κs. search needs)
+    (λ c. search needs)
+    (λ c κs. search needs)
+    (λ c. search needs)
+    (λ c. search needs)
+    (λ c. search needs)
+    (λ c κs. search needs)
+    (λ c. search needs)
+    (λ c. search needs)
+    (λ c. search needs)
+    (λ c κs. search needs)
+    (λ c. search needs)
+    (λ c κs. search needs)
+    (λ c. search needs)
+    (λ c. search laws.constant)
+    (λ c. search laws.comparison)
+    (λ c. search laws.negation)
+    (λ c. search laws.connective)
+    (λ c. search laws.wrong-f))
+    λ t. value-sum-free-lts.spec (value-mark-reads.Asked, value-mark-reads.Learnt, value-sum-free-below t, value-sum-free.Post, formula-sum-free-below t, formula-sum-free.Post)
+    (value-sum-free-at t)
+    value-sum-free.Post
+    (λ c. search laws.shallow-v)
+    (λ c. search laws.ended-v)
+    (λ c. search needs)
+    (λ c. search needs)
+    (λ c κs. search needs)
+    (λ c. search needs)
+    (λ c. search needs)
+    (λ c. search needs)
+    (λ c. search needs)
+    (λ c. search needs)
+    (λ c. search needs)
+    (λ c. search needs)
+    (λ c. search needs)
+    (λ c. search needs)
+    (λ c. search needs)
+    (λ c. search needs)
+    (λ c κs. search needs)
+    (λ c. search needs)
+    (λ c κs. search needs)
+    (λ c. search needs)
+    (λ c. search needs)
+    (λ c. search needs)
+    (λ c κs. search needs)
+    (λ c. search needs)
+    (λ c κs. search needs)
+    (λ c. search needs)
+    (λ c κs. search needs)
+    (λ c. search needs)
+    (λ c. search laws.number)
+    (λ c. search laws.no-number)
+    (λ c. search laws.parameter)
+    (λ c. search laws.no-parameter)
+    (λ c. search laws.sum-value)
+    (λ c. search laws.arithmetic)
+    (λ c. search laws.choice)
+    (λ c. search laws.wrong-v)

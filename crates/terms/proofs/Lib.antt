@@ -1,0 +1,6 @@
+pub mod And
+pub mod Read
+pub mod Depth
+pub mod Printing
+pub mod Eval
+pub mod Fit

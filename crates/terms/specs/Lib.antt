@@ -1,0 +1,6 @@
+pub mod Tree
+pub mod Mark
+pub mod Read
+pub mod Depth
+pub mod Print
+pub mod Fit
