@@ -10,7 +10,7 @@ use borrow.Author.Tests.{eqb-true, eq-eqb}
 use lib.ListN.{length}
 use lib.Dec.{eqb}
 use Rattle.foundation.specs.First.{Outcome, pass, fail}
-use Rattle.foundation.proofs.Lowest.{place-pass, place-fail}
+use Rattle.foundation.proofs.Trial.{place-pass, place-fail}
 use Rattle.terms.specs.Tree.{evalF}
 use Rattle.criteria.specs.Design.{Design, Row, State, RowIs}
 use Rattle.foundation.specs.Nth.{first, later}
@@ -74,7 +74,7 @@ true-and a b p q = rw (p, q)
 
 pub pass-focus : (d : Design) (s : State) → firstInternal d s ≡ pass → FocusPoint d s
 pass-focus d s h k r e is z on =
-    true≢false (sym (true-and _ _ (eq-eqb (r .action) 0 z) (on .1)) ∙ no-row (d .impl .rows) (internalTest s) (λ k e. (k, e)) h k r e is (on .0))
+    true≢false (sym (true-and _ _ (eq-eqb (r .action) 0 z) (on .condition)) ∙ no-row (d .impl .rows) (internalTest s) (λ k e. (k, e)) h k r e is (on .in-span))
 
 -- an internal row is enabled at s
 pub record SomeInternal (d : Design) (s : State) : Type 0 where
@@ -89,7 +89,7 @@ pub fail-internal : (d : Design) (s : State) (x : ℕ × ℕ) → firstInternal 
 fail-internal d s x h =
     let f = row-found (d .impl .rows) (internalTest s) (λ k e. (k, e)) x h in
     let b = and-true (eqb (f .row .action) 0) (evalF (f .row .condition) s (f .sum)) (f .says) in
-    record { at = f .at; row = f .row; sum = f .sum; is-row = f .is-row; zero = eqb-true (f .row .action) 0 (b .0); enabled = (f .in-span, b .1) }
+    record { at = f .at; row = f .row; sum = f .sum; is-row = f .is-row; zero = eqb-true (f .row .action) 0 (b .0); enabled = record { in-span = f .in-span; condition = b .1 } }
 
 -- evaluation decides it
 pub focus-or-internal : (d : Design) (s : State) → FocusPoint d s ⊎ SomeInternal d s

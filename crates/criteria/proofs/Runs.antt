@@ -1,6 +1,6 @@
--- Where the criteria hold: steps stay inside, internal steps keep the mapped state and lower the measure, so runs end, and
--- some run reaches a focus point.
-use mathlib.Core.Path.{_≡_, refl, _∙_, subst}
+-- Where the criteria hold: steps stay inside, internal steps keep the mapped state and lower the measure; so runs end, and some run
+-- reaches a focus point, whichever enabled rows it takes.
+use mathlib.Core.Path.{_≡_, refl, sym, _∙_, subst}
 use mathlib.Core.Logic.{_⊎_, inl, inr}
 use Prim.Native.Nat.{ℕ, zero, suc, _+_, _≤_, _<_}
 use native.Mathlib.Omega.{arith}
@@ -10,13 +10,20 @@ use Rattle.foundation.proofs.Nth.{nth-nil, nth-cons}
 use Rattle.criteria.specs.Design.{Design, State, Inside, mapped, measureAt}
 use Rattle.criteria.specs.Step.{Label, Step, Internal, FocusPoint, Run, none, more, statesOf, CantGoOn, nextState}
 use Rattle.criteria.specs.Criteria.{Criteria}
-use Rattle.criteria.specs.Bisimilar.{RunKept, Reached}
+use Rattle.criteria.specs.Bisimilar.{RunKept}
 use Rattle.criteria.proofs.Rows.{SomeInternal, focus-or-internal, step-of}
 
 -- a state where nothing goes on is a focus point, whatever the criteria
 pub stopped-focus : (d : Design) (s : State) → CantGoOn d s → FocusPoint d s
 stopped-focus d s stop k r e is z on =
     stop (nextState r s e) (step-of d s (record { at = k; row = r; sum = e; is-row = is; zero = z; enabled = on }))
+
+-- a focus point that some run reaches
+pub record Reached (d : Design) (s : State) : Type 0 where
+  pub length : ℕ
+  pub end : State
+  pub run : Run d s length end
+  pub focus : FocusPoint d end
 
 module _ (d : Design) (others : (s : State) → Inside d s → Criteria d s) where
   -- criterion 3
@@ -30,7 +37,7 @@ module _ (d : Design) (others : (s : State) → Inside d s → Criteria d s) whe
   pub internal-mapped : (s s′ : State) → Inside d s → Internal (d .impl) s s′ → mapped d s′ ≡ mapped d s
   internal-mapped s s′ i t =
       let st = t .step in
-      subst (λ u. mapped d u ≡ mapped d s) (st .goes) (others s i .fourth (st .at) (st .row) (st .sum) (st .is-row) (st .enabled) (st .action ∙ t .zero))
+      subst (λ u. mapped d u ≡ mapped d s) (st .goes) (sym (others s i .fourth (st .at) (st .row) (st .sum) (st .is-row) (st .enabled) (st .action ∙ t .zero)))
 
   -- criterion 5
   pub internal-measure : (s s′ : State) → Inside d s → Internal (d .impl) s s′ → measureAt d s′ < measureAt d s

@@ -21,7 +21,7 @@ stuck = record { impl = one-parameter []; spec = one-parameter (always ∷ []); 
 
 spec-steps : Step (stuck .spec) (record { action = 1; number = 7 }) (0 ∷ []) (0 ∷ [])
 unfolding evalF
-spec-steps = record { at = 1; row = always; sum = 0; is-row = first; enabled = (omega arith, refl); action = refl; number = refl; goes = refl }
+spec-steps = record { at = 1; row = always; sum = 0; is-row = first; enabled = record { in-span = omega arith; condition = refl }; action = refl; number = refl; goes = refl }
 
 pub not-bisimilar : Bisimilar stuck (0 ∷ []) (0 ∷ []) → ⊥
 not-bisimilar b =

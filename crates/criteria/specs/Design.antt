@@ -1,10 +1,13 @@
--- What a design text says (01, "Design text"): parameters, rows, invariant, mapping, measure; and states.
+-- What a design text says (01, "Design text"): parameters, rows, invariant, mapping, measure; states of the two processes; and
+-- what a text that is not turned down keeps. How a text is read is not here; terms and their values are in the crate terms.
+-- Throughout: d a design, s a state of the implementation, t one of the specification, r a row, q a row of the specification,
+-- e a sum value.
 use mathlib.Core.Path.{_≡_}
 use mathlib.Core.Logic.{_≢_}
 use mathlib.Core.Bool.{true}
 use mathlib.Core.List.{List, map}
-use Prim.Native.Nat.{ℕ, _<_}
-use Rattle.foundation.specs.Radix.{Below}
+use Prim.Native.Nat.{ℕ, _≤_, _<_}
+use Rattle.foundation.specs.Radix.{Below, product, numberOf}
 use Rattle.foundation.specs.Nth.{Nth, EachIs}
 use Rattle.terms.specs.Tree.{Value, Formula, num, evalV, evalF}
 
@@ -12,6 +15,7 @@ pub record Parameter : Type 0 where
   pub size : ℕ
   pub initial : ℕ
 
+-- "action, span, condition, data, one next value for each" parameter; `carries` is the data
 pub record Row : Type 0 where
   pub action : ℕ
   pub span : ℕ
@@ -31,30 +35,42 @@ pub record Design : Type 0 where
   pub mapping : List Value
   pub measure : Value
 
+-- row number k of these rows is r: "rows count from 1 within their process"
+abbrev pub RowIs : List Row → ℕ → Row → Type 0
+RowIs = Nth
+
 -- ---- states
 
 abbrev pub State : Type 0
 State = List ℕ
 
-abbrev pub sizes : Process → List ℕ
-sizes p = map (λ (q : Parameter). q .size) (p .parameters)
-
--- "inside the sizes"
-abbrev pub InSize : Process → State → Type 0
-InSize p s = Below (sizes p) s
-
 -- "a state of a process is one number from 0 to 65,535 for each of its parameters, in size or not"
 abbrev pub StateOf : Process → State → Type 0
 StateOf p s = Below (map (λ (_ : Parameter). 65536) (p .parameters)) s
 
+abbrev pub sizes : Process → List ℕ
+sizes p = map (λ (q : Parameter). q .size) (p .parameters)
+
+-- "an implementation state has each below its size"; of the specification's: "each mapped value is below its size"
+abbrev pub InSize : Process → State → Type 0
+InSize p s = Below (sizes p) s
+
 abbrev pub initialState : Process → State
 initialState p = map (λ (q : Parameter). q .initial) (p .parameters)
+
+-- "a state's number counts its parameter values in mixed radix, the first parameter most significant"
+abbrev pub stateNumber : Design → State → ℕ
+stateNumber d s = numberOf (sizes (d .impl)) s
+
+-- how many states there are
+abbrev pub states : Design → ℕ
+states d = product (sizes (d .impl))
+
+-- ---- invariant, mapping, measure. Kinds 5 to 7 have no sum value: 0 stands for it, and no term there reads it.
 
 -- the values of terms at a state, for a sum value
 abbrev pub values : List Value → State → ℕ → State
 values vs s e = map (λ (v : Value). evalV v s e) vs
-
--- ---- the words of the paper. Kinds 5 to 7 have no sum value: 0 stands for it, and no term there reads it.
 
 -- "in which the invariant holds"
 abbrev pub Invariant : Design → State → Type 0
@@ -67,22 +83,24 @@ mapped d s = values (d .mapping) s 0
 abbrev pub measureAt : Design → State → ℕ
 measureAt d s = evalV (d .measure) s 0
 
--- "an implementation state has each below its size", and here the invariant holds in it
+-- an implementation state in which the invariant holds
 pub record Inside (d : Design) (s : State) : Type 0 where
   pub in-size : InSize (d .impl) s
   pub invariant : Invariant d s
 
--- row number k of these rows is r; "rows count from 1"
-abbrev pub RowIs : List Row → ℕ → Row → Type 0
-RowIs = Nth
+-- ---- what a text that is not turned down keeps of its numbers: fault 5, and that a field is at most 65,535
 
--- ---- what a text that is not turned down keeps, as far as the criteria need it
-
--- number 5, and that a field is at most 65,535
+-- "sizes .. are at least 1 .., initial values below their size"
 abbrev pub SizesFit : Process → Type 0
 SizesFit p = EachIs (p .parameters) (λ q. (q .size < 65536) × (q .initial < q .size))
 
--- number 7: "a visible action in two rows of one process"
+-- "sizes and spans are at least 1, spans at most 256"
+abbrev pub SpansFit : Process → Type 0
+SpansFit p = EachIs (p .rows) (λ r. (1 ≤ r .span) × (r .span ≤ 256))
+
+-- ---- and of its rows: fault 7
+
+-- "a visible action in two rows of one process"
 abbrev pub OneEach : List Row → Type 0
 OneEach rows = (k j : ℕ) (r q : Row) → RowIs rows k r → RowIs rows j q → r .action ≢ 0 → r .action ≡ q .action → k ≡ j
 
@@ -92,6 +110,10 @@ OneRowEach p = OneEach (p .rows)
 pub record Admitted (d : Design) : Type 0 where
   pub impl-sizes : SizesFit (d .impl)
   pub spec-sizes : SizesFit (d .spec)
+  pub impl-spans : SpansFit (d .impl)
+  pub spec-spans : SpansFit (d .spec)
+  -- "the product of the kind 1 sizes is at most 65,536"
+  pub few-states : states d ≤ 65536
   pub impl-one-row : OneRowEach (d .impl)
   pub spec-one-row : OneRowEach (d .spec)
   -- "action 0 in a kind 4 line"

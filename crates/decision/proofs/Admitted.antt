@@ -1,19 +1,27 @@
--- The test for what a text keeps says whether it keeps it.
+-- The test for `Admitted` says whether a design is.
 use mathlib.Core.Path.{_≡_, refl, sym, _∙_, ap, subst}
 use mathlib.Core.Logic.{_≢_}
 use mathlib.Core.List.{List, [], _∷_}
-use Prim.Native.Nat.{suc}
+use Prim.Native.Nat.{ℕ, suc, _≤_}
+use native.Mathlib.Omega.{arith}
+use lib.Dec.{ltb}
 use native.Mathlib.Nat.{suc-inj}
 use Rattle.foundation.specs.Nth.{first, later, EachIs}
 use Rattle.foundation.specs.Reflects.{Reflects, so, not-so}
 use Rattle.foundation.proofs.Nth.{nth-nil, nth-positive, by-each}
 use Rattle.foundation.proofs.Reflects.{by-eqb, by-ltb, by-not, by-and, by-if, by-iff}
 use Rattle.terms.specs.Tree.{Value, num, par, sumValue, arith as arithmetic, choice, noValue}
-use Rattle.criteria.specs.Design.{Design, Process, Row, SizesFit, OneEach, Admitted}
-use Rattle.decision.specs.Admitted.{sizesFitB, oneEachB, isZero, admittedB}
+use Rattle.criteria.specs.Design.{Design, Process, Row, SizesFit, SpansFit, OneEach, Admitted, states}
+use Rattle.decision.specs.Admitted.{sizesFitB, spansFitB, oneEachB, isZero, admittedB}
 
 by-sizes : (p : Process) → Reflects (SizesFit p) (sizesFitB p)
 by-sizes p = by-each _ _ (λ q. by-and (by-ltb (q .size) 65536) (by-ltb (q .initial) (q .size))) (p .parameters)
+
+by-at-most : (m n : ℕ) → Reflects (m ≤ n) (ltb m (suc n))
+by-at-most m n = by-iff (λ h. omega arith) (λ h. omega arith) (by-ltb m (suc n))
+
+by-spans : (p : Process) → Reflects (SpansFit p) (spansFitB p)
+by-spans p = by-each _ _ (λ r. by-and (by-ltb 0 (r .span)) (by-at-most (r .span) 256)) (p .rows)
 
 -- ---- one row for each visible action
 
@@ -64,17 +72,23 @@ by-admitted d =
     (λ h. record {
       impl-sizes = h .0;
       spec-sizes = h .1 .0;
-      impl-one-row = h .1 .1 .0;
-      spec-one-row = h .1 .1 .1 .0;
-      spec-visible = h .1 .1 .1 .1 .0;
-      internal-data = h .1 .1 .1 .1 .1 .0;
-      same-span = h .1 .1 .1 .1 .1 .1;
+      impl-spans = h .1 .1 .0;
+      spec-spans = h .1 .1 .1 .0;
+      few-states = h .1 .1 .1 .1 .0;
+      impl-one-row = h .1 .1 .1 .1 .1 .0;
+      spec-one-row = h .1 .1 .1 .1 .1 .1 .0;
+      spec-visible = h .1 .1 .1 .1 .1 .1 .1 .0;
+      internal-data = h .1 .1 .1 .1 .1 .1 .1 .1 .0;
+      same-span = h .1 .1 .1 .1 .1 .1 .1 .1 .1;
     })
-    (λ a. (a .impl-sizes, (a .spec-sizes, (a .impl-one-row, (a .spec-one-row, (a .spec-visible, (a .internal-data, a .same-span)))))))
+    (λ a. (a .impl-sizes, (a .spec-sizes, (a .impl-spans, (a .spec-spans, (a .few-states, (a .impl-one-row, (a .spec-one-row, (a .spec-visible, (a .internal-data, a .same-span))))))))))
     (by-and (by-sizes (d .impl))
     (by-and (by-sizes (d .spec))
+    (by-and (by-spans (d .impl))
+    (by-and (by-spans (d .spec))
+    (by-and (by-at-most (states d) 65536)
     (by-and (by-one (d .impl .rows))
     (by-and (by-one (d .spec .rows))
     (by-and (by-each _ _ (λ q. by-not (by-eqb (q .action) 0)) (d .spec .rows))
     (by-and (by-each _ _ (λ r. by-if _ (by-eqb (r .action) 0) (λ _. by-zero (r .carries))) (d .impl .rows))
-    (by-each _ _ (λ r. by-each _ _ (λ q. by-if _ (by-eqb (r .action) (q .action)) (λ _. by-eqb (r .span) (q .span))) (d .spec .rows)) (d .impl .rows))))))))
+    (by-each _ _ (λ r. by-each _ _ (λ q. by-if _ (by-eqb (r .action) (q .action)) (λ _. by-eqb (r .span) (q .span))) (d .spec .rows)) (d .impl .rows)))))))))))

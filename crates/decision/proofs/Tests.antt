@@ -4,23 +4,23 @@ use mathlib.Core.Logic.{_⊎_, inl, inr, _≢_}
 use mathlib.Core.Bool.{Bool, not}
 use Prim.Native.Nat.{ℕ, _<_}
 use lib.Dec.{eqb}
-use Rattle.foundation.specs.First.{Outcome, pass, fail}
+use Rattle.foundation.specs.First.{Outcome, pass, fail, passes}
 use Rattle.foundation.specs.Radix.{sameB}
 use Rattle.foundation.specs.Reflects.{Reflects, so, not-so, _⇒_}
 use Rattle.foundation.proofs.Reflects.{by-value, by-eqb, by-ltb, by-below, by-same, by-not, by-and, by-if, by-iff}
 use Rattle.terms.specs.Tree.{evalF}
 use Rattle.criteria.specs.Design.{Design, Process, Row, State, RowIs, OneRowEach, Admitted, Inside, sizes, initialState, mapped, measureAt}
-use Rattle.criteria.specs.Step.{Enabled, FocusPoint, nextState, dataNumber}
-use Rattle.criteria.specs.Criteria.{Criterion1, Criterion2, Criterion3, Criterion4, Criterion5, Criterion6, Criterion7, Criterion8, Criterion9, ActionEnabled, Partner}
+use Rattle.criteria.specs.Step.{Enabled, FocusPoint, ActionEnabled, InternalRow, nextState, dataNumber}
+use Rattle.criteria.specs.Criteria.{Criterion1, Criterion2, Criterion3, Criterion4, Criterion5, Criterion6, Criterion7, Criterion8, Criterion9, Partner}
 use Rattle.criteria.specs.Rows.{rowAt, firstInternal}
 use Rattle.criteria.proofs.Rows.{pass-focus, fail-internal}
-use Rattle.decision.specs.Tests.{enabledB, internalB, invariantB, insideB, passes, focusB, rowOf, partner, holds1, holds2, holds3, holds4, holds5, holds6, holds7, holds8, holds9}
+use Rattle.decision.specs.Tests.{enabledB, internalB, invariantB, insideB, focusB, rowOf, partner, holds1, holds2, holds3, holds4, holds5, holds6, holds7, holds8, holds9}
 use Rattle.decision.proofs.Find.{Found, Missing, find, found-some, found-partner, found-only}
 
 -- ---- the parts
 
 pub by-enabled : (r : Row) (s : State) (e : ℕ) → e < r .span → Reflects (Enabled r s e) (enabledB r s e)
-by-enabled r s e u = by-iff (λ h. (u, h)) (λ on. on .1) (by-value (enabledB r s e))
+by-enabled r s e u = by-iff (λ h. record { in-span = u; condition = h }) (λ on. on .condition) (by-value (enabledB r s e))
 
 pub by-inside : (d : Design) (s : State) → Reflects (Inside d s) (insideB d s)
 by-inside d s =
@@ -84,14 +84,14 @@ module _ (d : Design) (a : Admitted d) (s : State) (k : ℕ) (r : Row) (e : ℕ)
   on : Reflects (Enabled r s e) (enabledB r s e)
   on = by-enabled r s e inspan
 
-  internal : Reflects (r .action ≡ 0) (internalB r)
+  internal : Reflects (InternalRow r) (internalB r)
   internal = by-eqb (r .action) 0
 
   pub by-3 : Reflects (Criterion3 d s r e) (holds3 d s r e)
   by-3 = by-if _ on (λ _. by-inside d (nextState r s e))
 
   pub by-4 : Reflects (Criterion4 d s r e) (holds4 d s r e)
-  by-4 = by-if _ on (λ _. by-if _ internal (λ _. by-same (mapped d (nextState r s e)) (mapped d s)))
+  by-4 = by-if _ on (λ _. by-if _ internal (λ _. by-same (mapped d s) (mapped d (nextState r s e))))
 
   pub by-5 : Reflects (Criterion5 d s r e) (holds5 d s r e)
   by-5 = by-if _ on (λ _. by-if _ internal (λ _. by-ltb (measureAt d (nextState r s e)) (measureAt d s)))

@@ -1,64 +1,39 @@
--- Demand 2: the verdict that is computed is the one that the criteria ask for, and there is only one such.
+-- The check of all states is settled: what it comes to is the lowest failure of the design, or there is none, and then all nine
+-- criteria hold. By mixed radix every state is examined, and each under its own number.
 use mathlib.Core.Path.{_≡_, refl, sym, _∙_, ap, subst}
-use mathlib.Core.Logic.{_↔_}
-use mathlib.Core.Bool.{Bool, true, false, true≢false}
+use mathlib.Core.Logic.{_↔_, inl, inr}
+use mathlib.Core.Bool.{Bool}
+use mathlib.Core.List.{List}
 use Prim.Native.Nat.{ℕ, _<_, zero-le}
 use native.Mathlib.Omega.{arith}
+use borrow.Author.Tests.{ne-eqb}
+use lib.ListN.{getD}
 use Rattle.foundation.specs.First.{Outcome, pass, fail}
-use Rattle.foundation.specs.Lowest.{Place, Lowest, firstOf}
-use Rattle.foundation.specs.Radix.{valuesOf}
-use Rattle.foundation.specs.Walk.{walk}
+use Rattle.foundation.specs.Lowest.{Lower, Lowest, Settled, none, lowest}
+use Rattle.foundation.specs.Trial.{Place, placeTurn}
 use Rattle.foundation.specs.Reflects.{Reflects, so, not-so}
-use Rattle.foundation.proofs.Lowest.{Order, less, same, more, order, lowest-one}
-use Rattle.foundation.proofs.Radix.{number-below, values-of-number, values-below, number-of-values, same-number}
+use Rattle.foundation.proofs.Lowest.{Turns, lower-not-self}
+use Rattle.foundation.proofs.Radix.{number-below, values-of-number, number-of-values}
 use Rattle.foundation.proofs.Walk.{walk-all, walk-fails}
 use Rattle.terms.specs.Tree.{pick}
-use Rattle.criteria.specs.Design.{Design, State, Inside, Admitted, sizes}
+use Rattle.criteria.specs.Design.{Design, State, Inside, Admitted, sizes, states, stateNumber}
 use Rattle.criteria.specs.Criteria.{Criteria, Criterion1, Meets}
-use Rattle.criteria.specs.Failure.{Fails, FirstFailure, Failure, Verdict, accepted, startFailed, failed, Judged, accepts, fails-start, fails-at, stateNumber}
-use Rattle.decision.specs.Tests.{invariantB}
-use Rattle.decision.specs.Trial.{trial, named, examine, states, byOutcome, verdictOf}
+use Rattle.criteria.specs.Failure.{Failure, stage, turn, FailsAt, startFailure, failureAt, Fails, start, at, LowestFailure}
+use Rattle.decision.specs.Examine.{stateAt, examine}
+use Rattle.decision.specs.Verdict.{overStates, checked}
 use Rattle.decision.proofs.Tests.{by-1}
-use Rattle.decision.proofs.State.{passes-exactly, fails-exactly, none-fails}
+use Rattle.decision.proofs.Examine.{Examined, met, unmet, examined, examine-passes, none-fails, all-hold, not-first}
 
--- ---- one state
-
-abbrev pub stateAt : Design → ℕ → State
-stateAt d n = valuesOf (sizes (d .impl)) n
-
--- what came of the examination of state number n
-pub data Examined (d : Design) (n : ℕ) : Outcome Failure → Type 0 where
-  met : (Inside d (stateAt d n) → Criteria d (stateAt d n)) → Examined d n pass
-  unmet : {x : Place} → Inside d (stateAt d n) → Lowest (Fails d (stateAt d n)) x → Examined d n (fail (record { state = n; place = x }))
+-- a failure's turn says which failure it is
+pub failure-turns : Turns turn
+failure-turns = record { same-length = λ x y. refl; tells = tells }
+  where
+    tells : (x y : Failure) → turn x ≡ turn y → x ≡ y
+    tells x y h = λ i. record { state = getD (h i) 1 0; criterion = getD (h i) 2 0; row = getD (h i) 3 0; sum = getD (h i) 4 0 }
 
 module _ (d : Design) (a : Admitted d) where
-  searched : (n : ℕ) → Inside d (stateAt d n) → (o : Outcome Place) → firstOf (trial d (stateAt d n)) ≡ o → Examined d n (named n o)
-  searched n i pass h = met (λ _. passes-exactly d a (stateAt d n) .0 h)
-  searched n i (fail x) h = unmet i (fails-exactly d a (stateAt d n) x .0 h)
+  -- ---- states and their numbers
 
-  pub examined : (n : ℕ) → n < states d → Examined d n (examine d n)
-  unfolding examine
-  examined n l = go (invariantB d (stateAt d n)) refl
-    where
-      go : (b : Bool) → invariantB d (stateAt d n) ≡ b → Examined d n (pick b (named n (firstOf (trial d (stateAt d n)))) pass)
-      go true h = searched n (record { in-size = values-below (sizes (d .impl)) n l; invariant = h }) (firstOf (trial d (stateAt d n))) refl
-      go false h = met (λ i. absurd (true≢false (sym (i .invariant) ∙ h)))
-
-met-of : {d : Design} {n : ℕ} → Examined d n pass → Inside d (stateAt d n) → Criteria d (stateAt d n)
-met-of (met f) = f
-
-record Unmet (d : Design) (n : ℕ) (x : Failure) : Type 0 where
-  state : x .state ≡ n
-  inside : Inside d (stateAt d n)
-  lowest : Lowest (Fails d (stateAt d n)) (x .place)
-
-unmet-of : {d : Design} {n : ℕ} {x : Failure} → Examined d n (fail x) → Unmet d n x
-unmet-of (unmet i l) = record { state = refl; inside = i; lowest = l }
-
--- ---- the walk over all states
-
-module _ (d : Design) (a : Admitted d) where
-  -- a state is the one that has its number
   state-of-number : (s : State) → Inside d s → stateAt d (stateNumber d s) ≡ s
   state-of-number s i = values-of-number (sizes (d .impl)) s (i .in-size)
 
@@ -69,67 +44,61 @@ module _ (d : Design) (a : Admitted d) where
   passed : (s : State) → Inside d s → examine d (stateNumber d s) ≡ pass → Criteria d s
   passed s i h =
       let e = state-of-number s i in
-      subst (Criteria d) e (met-of (subst (Examined d (stateNumber d s)) h (examined d a (stateNumber d s) (number-inside s i))) (subst (Inside d) (sym e) i))
+      subst (Criteria d) e (examine-passes d a (stateNumber d s) (number-inside s i) .0 h (subst (Inside d) (sym e) i))
 
-  walked : Criterion1 d → (o : Outcome Failure) → walk (examine d) (states d) 0 .outcome ≡ o → Judged d (byOutcome o)
-  walked c pass h =
-      accepts (record { start = c; others = λ s i. passed s i (walk-all (examine d) (states d) 0 h (stateNumber d s) zero-le (let l = number-inside s i in omega arith)) })
-  walked c (fail x) h =
-      let f = walk-fails (examine d) (states d) 0 x h in
-      let inside : f .at < states d = omega arith in
-      let u = unmet-of (subst (Examined d (f .at)) (f .fails) (examined d a (f .at) inside)) in
-      fails-at c (record {
-        state = stateAt d (f .at);
-        inside = u .inside;
-        number = number-of-values (sizes (d .impl)) (f .at) inside ∙ sym (u .state);
-        lowest = u .lowest;
-        before = λ s i l. passed s i (f .before (stateNumber d s) zero-le (rw (u .state) at l));
-      })
+  -- ---- no failure at all: all nine criteria hold
 
-  -- demand 2: what is computed is what the criteria ask for
-  pub judged : Judged d (verdictOf d)
-  unfolding verdictOf
-  judged = go (by-1 d)
+  pub meets-exactly : Meets d ↔ ((x : Failure) → Fails d x → ⊥)
+  meets-exactly = (no-failure, λ n. record { start = first n (by-1 d); others = λ s i. all-hold d a s (λ x f. n (failureAt (stateNumber d s) x) (at i f)) })
     where
-      go : {b : Bool} → Reflects (Criterion1 d) b → Judged d (pick b (byOutcome (walk (examine d) (states d) 0 .outcome)) startFailed)
-      go (so c) = walked c (walk (examine d) (states d) 0 .outcome) refl
-      go (not-so n) = fails-start n
+      no-failure : Meets d → (x : Failure) → Fails d x → ⊥
+      no-failure m x (start n) = n (m .start)
+      no-failure m x (at {s = s} {x = p} i f) = none-fails d a s (m .others s i) p f
 
--- ---- and that is one verdict only
+      first : ((x : Failure) → Fails d x → ⊥) → {b : Bool} → Reflects (Criterion1 d) b → Criterion1 d
+      first n (so c) = c
+      first n (not-so m) = absurd (n (startFailure d) (start m))
 
-module _ (d : Design) (a : Admitted d) where
-  -- a state that has a lowest failure does not meet the criteria
-  unmet-criteria : (s : State) (x : Place) → Lowest (Fails d s) x → Criteria d s → ⊥
-  unmet-criteria s x l c = none-fails d a s c x (l .fails)
+  -- ---- what comes before what
 
-  one-failure : (x y : Failure) → FirstFailure d (x .state) (x .place) → FirstFailure d (y .state) (y .place) → x ≡ y
-  one-failure x y f g = go (order (x .state) (y .state))
+  after-start : (n : ℕ) (s : State) (x : Place) → FailsAt d s x → stage (failureAt n x) ≡ 1
+  after-start n s x f = rw (ne-eqb (x .criterion) 1 (not-first d a s x f))
+
+  -- nothing comes before the start
+  before-start : (y : Failure) → Lower (turn y) (turn (startFailure d)) → Fails d y → ⊥
+  before-start y l (start n) = lower-not-self (turn (startFailure d)) l
+  before-start y (inl l) (at {s = s} {x = x} i f) = let h = after-start (stateNumber d s) s x f in omega arith
+  before-start y (inr (e, l)) (at {s = s} {x = x} i f) = let h = after-start (stateNumber d s) s x f in omega arith
+
+  module _ (c : Criterion1 d) where
+    -- nothing comes before the lowest failure of a state before which all pass
+    before-at : (n : ℕ) (p : Place) → n < states d → Inside d (stateAt d n) → Lowest placeTurn (FailsAt d (stateAt d n)) p
+        → ((j : ℕ) → j < n → examine d j ≡ pass) → (y : Failure) → Lower (turn y) (turn (failureAt n p)) → Fails d y → ⊥
+    before-at n p u i m b y l (start k) = k c
+    before-at n p u i m b y (inl l) (at {s = s} {x = x} j f) = let h = after-start (stateNumber d s) s x f in let k = after-start n (stateAt d n) p (m .fails) in omega arith
+    before-at n p u i m b y (inr (e, inl l)) (at {s = s} {x = x} j f) = none-fails d a s (passed s j (b (stateNumber d s) l)) x f
+    before-at n p u i m b y (inr (e, inr (same, l))) (at {s = s} {x = x} j f) =
+        let here : s ≡ stateAt d n = sym (state-of-number s j) ∙ ap (stateAt d) same in
+        m .none-before x l (subst (λ v. FailsAt d v x) here f)
+
+    walked : (o : Outcome Failure) → overStates d ≡ o → Settled turn (Fails d) o
+    walked pass h = none (meets-exactly .0 (record { start = c; others = λ s i. passed s i (walk-all (examine d) (states d) 0 h (stateNumber d s) zero-le (let l = number-inside s i in omega arith)) }))
+    walked (fail x) h =
+        let f = walk-fails (examine d) (states d) 0 x h in
+        let inside : f .at < states d = omega arith in
+        go (f .at) x inside (λ j l. f .before j zero-le l) (subst (Examined d (f .at)) (f .fails) (examined d a (f .at) inside))
+      where
+        go : (n : ℕ) (y : Failure) → n < states d → ((j : ℕ) → j < n → examine d j ≡ pass) → Examined d n (fail y) → Settled turn (Fails d) (fail y)
+        go n y u b (unmet {x = p} i m) =
+            lowest (record {
+              fails = subst (λ k. Fails d (failureAt k p)) (number-of-values (sizes (d .impl)) n u) (at i (m .fails));
+              none-before = before-at n p u i m b;
+            })
+
+  pub check-settled : Settled turn (Fails d) (checked d)
+  unfolding checked
+  check-settled = go (by-1 d)
     where
-      go : Order (x .state) (y .state) → x ≡ y
-      go (less l) = absurd (unmet-criteria (f .state) (x .place) (f .lowest) (g .before (f .state) (f .inside) (rw (f .number) l)))
-      go (more l) = absurd (unmet-criteria (g .state) (y .place) (g .lowest) (f .before (g .state) (g .inside) (rw (g .number) l)))
-      go (same e) =
-          let p : f .state ≡ g .state = same-number (sizes (d .impl)) (f .state) (g .state) (f .inside .in-size) (g .inside .in-size) (f .number ∙ e ∙ sym (g .number)) in
-          let q : x .place ≡ y .place = lowest-one (Fails d (g .state)) (x .place) (y .place) (subst (λ s. Lowest (Fails d s) (x .place)) p (f .lowest)) (g .lowest) in
-          λ i. record { state = e i; place = q i }
-
-  pub one-verdict : {v w : Verdict} → Judged d v → Judged d w → v ≡ w
-  one-verdict (accepts m) (accepts m′) = refl
-  one-verdict (accepts m) (fails-start n) = absurd (n (m .start))
-  one-verdict (accepts m) (fails-at {x = x} c f) = absurd (unmet-criteria (f .state) (x .place) (f .lowest) (m .others (f .state) (f .inside)))
-  one-verdict (fails-start n) (accepts m) = absurd (n (m .start))
-  one-verdict (fails-start n) (fails-start n′) = refl
-  one-verdict (fails-start n) (fails-at c f) = absurd (n c)
-  one-verdict (fails-at {x = x} c f) (accepts m) = absurd (unmet-criteria (f .state) (x .place) (f .lowest) (m .others (f .state) (f .inside)))
-  one-verdict (fails-at c f) (fails-start n) = absurd (n c)
-  one-verdict (fails-at {x = x} c f) (fails-at {x = y} c′ g) = ap failed (one-failure x y f g)
-
-  pub verdict-exactly : (v : Verdict) → (verdictOf d ≡ v) ↔ Judged d v
-  verdict-exactly v = (λ h. subst (Judged d) h (judged d a), λ j. one-verdict (judged d a) j)
-
-  -- "a check accepts exactly if all nine criteria hold"
-  pub accepted-exactly : (verdictOf d ≡ accepted) ↔ Meets d
-  accepted-exactly = (λ h. of (verdict-exactly accepted .0 h), λ m. verdict-exactly accepted .1 (accepts m))
-    where
-      of : Judged d accepted → Meets d
-      of (accepts m) = m
+      go : {b : Bool} → Reflects (Criterion1 d) b → Settled turn (Fails d) (pick b (overStates d) (fail (startFailure d)))
+      go (so c) = walked c (overStates d) refl
+      go (not-so n) = lowest (record { fails = start n; none-before = before-start })

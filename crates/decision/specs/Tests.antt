@@ -1,9 +1,10 @@
--- The nine criteria as tests that compute: what the code evaluates, row by row and sum value by sum value.
-use mathlib.Core.Bool.{Bool, true, false, not, _&&_}
+-- The nine criteria as tests that compute, row by row and sum value by sum value. What they decide is said in criteria/specs/Criteria;
+-- that they decide it, in proofs/Tests.
+use mathlib.Core.Bool.{Bool, not, _&&_}
 use mathlib.Core.List.{List, [], _∷_}
 use Prim.Native.Nat.{ℕ, suc}
 use lib.Dec.{eqb, ltb}
-use Rattle.foundation.specs.First.{Outcome, pass, fail}
+use Rattle.foundation.specs.First.{passes}
 use Rattle.foundation.specs.Radix.{belowB, sameB}
 use Rattle.foundation.specs.Reflects.{_⇒_}
 use Rattle.terms.specs.Tree.{pick, evalF}
@@ -23,10 +24,6 @@ invariantB d s = evalF (d .invariant) s 0
 
 abbrev pub insideB : Design → State → Bool
 insideB d s = belowB (sizes (d .impl)) s && invariantB d s
-
-abbrev pub passes : {A : Type 0} → Outcome A → Bool
-passes pass = true
-passes (fail x) = false
 
 abbrev pub focusB : Design → State → Bool
 focusB d s = passes (firstInternal d s)
@@ -54,7 +51,7 @@ abbrev pub holds3 : Design → State → Row → ℕ → Bool
 holds3 d s r e = enabledB r s e ⇒ insideB d (nextState r s e)
 
 abbrev pub holds4 : Design → State → Row → ℕ → Bool
-holds4 d s r e = enabledB r s e ⇒ internalB r ⇒ sameB (mapped d (nextState r s e)) (mapped d s)
+holds4 d s r e = enabledB r s e ⇒ internalB r ⇒ sameB (mapped d s) (mapped d (nextState r s e))
 
 abbrev pub holds5 : Design → State → Row → ℕ → Bool
 holds5 d s r e = enabledB r s e ⇒ internalB r ⇒ ltb (measureAt d (nextState r s e)) (measureAt d s)

@@ -1,11 +1,15 @@
--- What the first failure among n is: the lowest that fails; and if there is none, every one passes.
-use mathlib.Core.Path.{_≡_, refl, sym, _∙_, subst}
+-- What the first failure among n is: the lowest that fails; and if there is none, every one passes. Then: a test that is the same
+-- for all numbers needs one look; whether all pass can be asked in any order; and the search as a loop.
+use mathlib.Core.Path.{_≡_, refl, sym, _∙_, ap, subst}
 use mathlib.Core.Bool.{Bool, true, false}
-use Prim.Native.Nat.{ℕ, zero, suc, _+_, _≤_, _<_}
+use Prim.Native.Nat.{ℕ, zero, suc, _+_, _-_, _≤_, _<_}
 use native.Mathlib.Omega.{arith}
 use native.Mathlib.Nat.{eq-or-lt-of-le}
+use native.Mathlib.Numerals.{add-one}
 use mathlib.Core.Logic.{_⊎_, inl, inr}
-use Rattle.foundation.specs.First.{Outcome, pass, fail, failIf, firstIn}
+use Rattle.foundation.specs.First.{Outcome, pass, fail, failIf, firstIn, AllPass, passes, allIn}
+use Rattle.foundation.specs.Reflects.{Reflects, so, not-so}
+use Rattle.foundation.proofs.Reflects.{by-and, by-iff}
 
 -- pass is no failure
 abbrev IsPass : {A : Type 0} → Outcome A → Type 0
@@ -37,10 +41,7 @@ module _ {A : Type 0} (f : ℕ → Outcome A) where
   first-stops n i x h = rw h
 
   -- no failure: all pass
-  abbrev pub AllPass : ℕ → ℕ → Type 0
-  AllPass n i = (j : ℕ) → i ≤ j → j < i + n → f j ≡ pass
-
-  pub first-pass : (n i : ℕ) → firstIn f n i ≡ pass → AllPass n i
+  pub first-pass : (n i : ℕ) → firstIn f n i ≡ pass → AllPass f n i
   first-pass zero i h j l u = absurd (omega arith)
   first-pass (suc n) i h j l u = go (f i) refl (λ k m. first-pass n (suc i) k j m) (eq-or-lt-of-le l)
     where
@@ -49,7 +50,7 @@ module _ {A : Type 0} (f : ℕ → Outcome A) where
       go pass e ih (inl p) = rw (← p) e
       go pass e ih (inr p) = ih (sym (first-goes n i e) ∙ h) p (omega arith)
 
-  pub all-pass : (n i : ℕ) → AllPass n i → firstIn f n i ≡ pass
+  pub all-pass : (n i : ℕ) → AllPass f n i → firstIn f n i ≡ pass
   unfolding firstIn
   all-pass zero i h = refl
   all-pass (suc n) i h = rw (h i (omega arith) (omega arith)) (all-pass n (suc i) (λ j l u. h j (omega arith) (omega arith)))
@@ -88,3 +89,79 @@ module _ {A : Type 0} (f : ℕ → Outcome A) where
       go (inr p) ih =
           first-goes n i (h .before i (omega arith) p)
           ∙ ih (record { at = h .at; from = p; below = omega arith; fails = h .fails; before = λ j l u. h .before j (omega arith) u })
+
+  -- whether all pass is asked in any order: it is whether each does
+  pub by-first : (n i : ℕ) → Reflects (AllPass f n i) (passes (firstIn f n i))
+  by-first n i = go (firstIn f n i) refl
+    where
+      go : (o : Outcome A) → firstIn f n i ≡ o → Reflects (AllPass f n i) (passes o)
+      go pass h = so (first-pass n i h)
+      go (fail x) h = not-so (λ p. pass≢fail (sym (all-pass n i p) ∙ h))
+
+  -- where a pass at i means a pass at all later ones, only i has to be examined
+  pub first-same : (n i : ℕ) → (f i ≡ pass → AllPass f n (suc i)) → firstIn f (suc n) i ≡ f i
+  first-same n i h = go (f i) refl
+    where
+      go : (o : Outcome A) → f i ≡ o → firstIn f (suc n) i ≡ o
+      go pass e = first-goes n i e ∙ all-pass n (suc i) (h e)
+      go (fail x) e = first-stops n i x e
+
+-- ---- examinations that come to the same
+
+pub first-alike : {A : Type 0} (f g : ℕ → Outcome A) (n i : ℕ) → ((j : ℕ) → i ≤ j → j < i + n → f j ≡ g j) → firstIn f n i ≡ firstIn g n i
+unfolding firstIn
+first-alike f g zero i h = refl
+first-alike f g (suc n) i h = rw (h i (omega arith) (omega arith), first-alike f g n (suc i) (λ j l u. h j (omega arith) (omega arith)))
+
+-- a test that says the same for all numbers fails first at number 0: one look does for n
+pub test-same : {A : Type 0} (t : ℕ → Bool) (name : ℕ → A) (n : ℕ) → 0 < n → ((j : ℕ) → j < n → t j ≡ t 0)
+    → firstIn (λ e. failIf (t e) (name e)) n 0 ≡ firstIn (λ e. failIf (t e) (name e)) 1 0
+test-same t name zero l h = absurd (omega arith)
+test-same t name (suc n) l h = whole n h ∙ sym (whole 0 (λ j u. h j (omega arith)))
+  where
+    whole : (m : ℕ) → ((j : ℕ) → j < suc m → t j ≡ t 0) → firstIn (λ e. failIf (t e) (name e)) (suc m) 0 ≡ failIf (t 0) (name 0)
+    whole m k =
+        first-same (λ e. failIf (t e) (name e)) m 0
+        (λ e j l u. ap (λ b. failIf b (name j)) (k j (omega arith) ∙ failIf-pass (t 0) (name 0) e))
+
+-- ---- the test whether all say yes
+
+module _ (P : ℕ → Type 0) (t : ℕ → Bool) (says : (j : ℕ) → Reflects (P j) (t j)) where
+  pub by-all : (n i : ℕ) → Reflects ((j : ℕ) → i ≤ j → j < i + n → P j) (allIn t n i)
+  unfolding allIn
+  by-all zero i = so (λ j l u. absurd (omega arith))
+  by-all (suc n) i =
+      by-iff (λ h j l u. here h j u (eq-or-lt-of-le l)) (λ h. (h i (omega arith) (omega arith), λ j l u. h j (omega arith) (omega arith))) (by-and (says i) (by-all n (suc i)))
+    where
+      here : P i × ((j : ℕ) → suc i ≤ j → j < suc i + n → P j) → (j : ℕ) → j < i + suc n → (i ≡ j) ⊎ (i < j) → P j
+      here h j u (inl p) = subst P p (h .0)
+      here h j u (inr l) = h .1 j l (omega arith)
+
+-- ---- the search as a loop that counts up: what is left of the search, from i on, is the whole of it
+
+module _ {A : Type 0} (f : ℕ → Outcome A) (n : ℕ) where
+  -- before the loop
+  pub loop-begins : firstIn f (n - 0) 0 ≡ firstIn f n 0
+  loop-begins = let e : n - 0 ≡ n = omega arith in rw e
+
+  -- a turn that passes
+  pub loop-turns : (i : ℕ) → i < n → f i ≡ pass → firstIn f (n - i) i ≡ firstIn f (n - (i + 1)) (i + 1)
+  loop-turns i l h = let e : n - i ≡ suc (n - (i + 1)) = omega arith in rw (e, add-one i) (first-goes f (n - suc i) i h)
+
+  -- a turn that fails
+  pub loop-fails : (i : ℕ) (x : A) → i < n → f i ≡ fail x → firstIn f (n - i) i ≡ fail x
+  loop-fails i x l h = let e : n - i ≡ suc (n - (i + 1)) = omega arith in rw e (first-stops f (n - (i + 1)) i x h)
+
+  -- after the loop
+  pub loop-ends : (i : ℕ) → n ≤ i → firstIn f (n - i) i ≡ pass
+  unfolding firstIn
+  loop-ends i l = let e : n - i ≡ 0 = omega arith in rw e
+
+-- the same where a test decides: b is what the code's call said at i
+module _ {A : Type 0} (t : ℕ → Bool) (p : ℕ → A) (n : ℕ) where
+  pub test-turns : (i : ℕ) {b : Bool} → i < n → b ≡ t i → b ≡ false
+      → firstIn (λ e. failIf (t e) (p e)) (n - i) i ≡ firstIn (λ e. failIf (t e) (p e)) (n - (i + 1)) (i + 1)
+  test-turns i l said no-fault = loop-turns (λ e. failIf (t e) (p e)) n i l (ap (λ b. failIf b (p i)) (sym said ∙ no-fault))
+
+  pub test-fails : (i : ℕ) {b : Bool} → i < n → b ≡ t i → b ≡ true → firstIn (λ e. failIf (t e) (p e)) (n - i) i ≡ fail (p i)
+  test-fails i l said fault = loop-fails (λ e. failIf (t e) (p e)) n i (p i) l (ap (λ b. failIf b (p i)) (sym said ∙ fault))

@@ -1,96 +1,45 @@
--- The search finds the lowest place that fails, or there is none; and there is one lowest at most.
+-- Turns are ordered: of two of the same length one is lower, or they are equal. So there is one lowest failure at most, and an
+-- outcome that is settled is the only one.
 use mathlib.Core.Path.{_≡_, refl, sym, _∙_, ap, subst}
-use mathlib.Core.Bool.{Bool, true, false, true≢false}
-use Prim.Native.Nat.{ℕ, _<_, zero-le}
+use mathlib.Core.Logic.{_⊎_, inl, inr, _↔_}
+use mathlib.Core.List.{List, [], _∷_}
+use Prim.Native.Nat.{ℕ, _<_}
 use native.Mathlib.Omega.{arith}
+use native.Mathlib.Nat.{suc-inj}
 use native.Mathlib.Decide.{decLt}
-use Rattle.foundation.specs.First.{Outcome, pass, fail, failIf, firstIn}
-use Rattle.foundation.specs.Lowest.{Place, Lower, by-criterion, by-row, by-sum, Lowest, Trial, FailsIn, firstPlace, inCriterion, firstOf}
-use Rattle.foundation.proofs.First.{failIf-pass, failIf-fail, first-pass, first-fail, FirstAt}
+use lib.ListN.{length}
+use Rattle.foundation.specs.First.{Outcome, pass, fail}
+use Rattle.foundation.specs.Lowest.{Lower, lowerB, Lowest, Settled, none, lowest}
+use Rattle.foundation.specs.Reflects.{Reflects, not-so}
+use Rattle.foundation.proofs.Reflects.{by-eqb, by-ltb, by-and, by-or}
 
--- ---- rows and sum values
+-- ---- the order of turns
 
-module _ {A : Type 0} (rows : ℕ) (sums : ℕ → ℕ) (test : ℕ → ℕ → Bool) (place : ℕ → ℕ → A) where
-  -- no row and sum value fails
-  abbrev pub NonePlace : Type 0
-  NonePlace = (k e : ℕ) → k < rows → e < sums k → test k e ≡ false
+pub by-lower : (xs ys : List ℕ) → Reflects (Lower xs ys) (lowerB xs ys)
+by-lower [] ys = not-so (λ b. b)
+by-lower (x ∷ xs) [] = not-so (λ b. b)
+by-lower (x ∷ xs) (y ∷ ys) = by-or (by-ltb x y) (by-and (by-eqb x y) (by-lower xs ys))
 
-  sums-pass : (k : ℕ) → firstIn (λ e. failIf (test k e) (place k e)) (sums k) 0 ≡ pass → (e : ℕ) → e < sums k → test k e ≡ false
-  sums-pass k h e u = failIf-pass (test k e) (place k e) (first-pass (λ e. failIf (test k e) (place k e)) (sums k) 0 h e zero-le (omega arith))
+pub lower-trans : (xs ys zs : List ℕ) → Lower xs ys → Lower ys zs → Lower xs zs
+lower-trans [] ys zs l m = absurd l
+lower-trans (x ∷ xs) [] zs l m = absurd l
+lower-trans (x ∷ xs) (y ∷ ys) [] l m = absurd m
+lower-trans (x ∷ xs) (y ∷ ys) (z ∷ zs) (inl l) (inl m) = inl (omega arith)
+lower-trans (x ∷ xs) (y ∷ ys) (z ∷ zs) (inl l) (inr (e, m)) = inl (omega arith)
+lower-trans (x ∷ xs) (y ∷ ys) (z ∷ zs) (inr (e, l)) (inl m) = inl (omega arith)
+lower-trans (x ∷ xs) (y ∷ ys) (z ∷ zs) (inr (e, l)) (inr (f, m)) = inr (e ∙ f, lower-trans xs ys zs l m)
 
-  pub place-pass : firstPlace rows sums test place ≡ pass → NonePlace
-  place-pass h k e u v = sums-pass k (first-pass (λ k. firstIn (λ e. failIf (test k e) (place k e)) (sums k) 0) rows 0 h k zero-le (omega arith)) e v
+pub lower-not-self : (xs : List ℕ) → Lower xs xs → ⊥
+lower-not-self [] l = l
+lower-not-self (x ∷ xs) (inl l) = omega arith
+lower-not-self (x ∷ xs) (inr (e, l)) = lower-not-self xs l
 
-  -- the first row and sum value that fail
-  pub record PlaceAt (x : A) : Type 0 where
-    pub row : ℕ
-    pub sum : ℕ
-    pub row-below : row < rows
-    pub sum-below : sum < sums row
-    pub fails : test row sum ≡ true
-    pub is-place : place row sum ≡ x
-    pub rows-before : (k e : ℕ) → k < row → e < sums k → test k e ≡ false
-    pub sums-before : (e : ℕ) → e < sum → test row e ≡ false
-
-  pub place-fail : (x : A) → firstPlace rows sums test place ≡ fail x → PlaceAt x
-  place-fail x h =
-      let r = first-fail (λ k. firstIn (λ e. failIf (test k e) (place k e)) (sums k) 0) rows 0 x h in
-      let k : ℕ = r .at in
-      let s = first-fail (λ e. failIf (test k e) (place k e)) (sums k) 0 x (r .fails) in
-      let t = failIf-fail (test k (s .at)) (place k (s .at)) x (s .fails) in
-      record {
-        row = k;
-        sum = s .at;
-        row-below = omega arith;
-        sum-below = omega arith;
-        fails = t .0;
-        is-place = t .1;
-        rows-before = λ j e u v. sums-pass j (r .before j zero-le u) e v;
-        sums-before = λ e u. failIf-pass (test k e) (place k e) (s .before e zero-le u);
-      }
-
--- ---- criteria, rows and sum values
-
-not-both : {b : Bool} → b ≡ true → b ≡ false → ⊥
-not-both p q = true≢false (sym p ∙ q)
-
-module _ (t : Trial) where
-  abbrev at : ℕ → ℕ → ℕ → Place
-  at c k e = record { criterion = c; row = k; sum = e }
-
-  none-in : (c : ℕ) → inCriterion t c ≡ pass → (k e : ℕ) → k < t .rows c → e < t .sums c k → t .test c k e ≡ false
-  none-in c h k e u v = place-pass (t .rows c) (t .sums c) (t .test c) (at c) h k e u v
-
-  -- it passes: no place fails
-  pub first-none : firstOf t ≡ pass → (x : Place) → FailsIn t x → ⊥
-  first-none h x f =
-      not-both (f .test) (none-in (x .criterion) (first-pass (λ c. inCriterion t c) (t .criteria) 0 h (x .criterion) zero-le (omega arith)) (x .row) (x .sum) (f .row) (f .sum))
-
-  -- it fails: at the lowest place
-  pub first-lowest : (x : Place) → firstOf t ≡ fail x → Lowest (FailsIn t) x
-  first-lowest x h =
-      let r = first-fail (λ c. inCriterion t c) (t .criteria) 0 x h in
-      let p = place-fail (t .rows (r .at)) (t .sums (r .at)) (t .test (r .at)) (at (r .at)) x (r .fails) in
-      subst (Lowest (FailsIn t)) (p .is-place) (record { fails = fails-here r p; none-lower = lower r p })
-    where
-      fails-here : (r : FirstAt (λ c. inCriterion t c) (t .criteria) 0 x) (p : PlaceAt (t .rows (r .at)) (t .sums (r .at)) (t .test (r .at)) (at (r .at)) x)
-          → FailsIn t (at (r .at) (p .row) (p .sum))
-      fails-here r p = record { criterion = omega arith; row = p .row-below; sum = p .sum-below; test = p .fails }
-
-      lower : (r : FirstAt (λ c. inCriterion t c) (t .criteria) 0 x) (p : PlaceAt (t .rows (r .at)) (t .sums (r .at)) (t .test (r .at)) (at (r .at)) x)
-          (y : Place) → Lower y (at (r .at) (p .row) (p .sum)) → FailsIn t y → ⊥
-      lower r p y (by-criterion l) f = not-both (f .test) (none-in (y .criterion) (r .before (y .criterion) zero-le l) (y .row) (y .sum) (f .row) (f .sum))
-      lower r p y (by-row c l) f = not-both (f .test) (rw c (p .rows-before (y .row) (y .sum) l (rw (← c) (f .sum))))
-      lower r p y (by-sum c k l) f = not-both (f .test) (rw (c, k) (p .sums-before (y .sum) l))
-
--- ---- there is one lowest place at most
-
-pub data Order (a b : ℕ) : Type 0 where
+data Order (a b : ℕ) : Type 0 where
   less : a < b → Order a b
   same : a ≡ b → Order a b
   more : b < a → Order a b
 
-pub order : (a b : ℕ) → Order a b
+order : (a b : ℕ) → Order a b
 order a b = go (decLt a b) (decLt b a)
   where
     go : Dec (a < b) → Dec (b < a) → Order a b
@@ -98,50 +47,61 @@ order a b = go (decLt a b) (decLt b a)
     go (no l) (yes m) = more m
     go (no l) (no m) = same (omega arith)
 
--- of two places one is lower, or they are the same
-pub data PlaceOrder (x y : Place) : Type 0 where
-  lower : Lower x y → PlaceOrder x y
-  equal : x ≡ y → PlaceOrder x y
-  higher : Lower y x → PlaceOrder x y
+pub data Compared (xs ys : List ℕ) : Type 0 where
+  lower : Lower xs ys → Compared xs ys
+  equal : xs ≡ ys → Compared xs ys
+  higher : Lower ys xs → Compared xs ys
 
-pub place-order : (x y : Place) → PlaceOrder x y
-place-order x y = criteria (order (x .criterion) (y .criterion))
+pub compared : (xs ys : List ℕ) → length xs ≡ length ys → Compared xs ys
+compared [] [] h = equal refl
+compared [] (y ∷ ys) h = absurd (omega arith)
+compared (x ∷ xs) [] h = absurd (omega arith)
+compared (x ∷ xs) (y ∷ ys) h = go (order x y) (compared xs ys (suc-inj h))
   where
-    sums : x .criterion ≡ y .criterion → x .row ≡ y .row → Order (x .sum) (y .sum) → PlaceOrder x y
-    sums c k (less l) = lower (by-sum c k l)
-    sums c k (same e) = equal (λ i. record { criterion = c i; row = k i; sum = e i })
-    sums c k (more l) = higher (by-sum (sym c) (sym k) l)
+    go : Order x y → Compared xs ys → Compared (x ∷ xs) (y ∷ ys)
+    go (less l) c = lower (inl l)
+    go (more l) c = higher (inl l)
+    go (same e) (lower l) = lower (inr (e, l))
+    go (same e) (equal p) = equal (λ i. e i ∷ p i)
+    go (same e) (higher l) = higher (inr (sym e, l))
 
-    rows : x .criterion ≡ y .criterion → Order (x .row) (y .row) → PlaceOrder x y
-    rows c (less l) = lower (by-row c l)
-    rows c (same k) = sums c k (order (x .sum) (y .sum))
-    rows c (more l) = higher (by-row (sym c) l)
+-- ---- one lowest
 
-    criteria : Order (x .criterion) (y .criterion) → PlaceOrder x y
-    criteria (less l) = lower (by-criterion l)
-    criteria (same c) = rows c (order (x .row) (y .row))
-    criteria (more l) = higher (by-criterion l)
+-- a turn says what has it
+pub record Turns {A : Type 0} (turn : A → List ℕ) : Type 0 where
+  pub same-length : (x y : A) → length (turn x) ≡ length (turn y)
+  pub tells : (x y : A) → turn x ≡ turn y → x ≡ y
 
-pub lowest-one : (Fails : Place → Type 0) (x y : Place) → Lowest Fails x → Lowest Fails y → x ≡ y
-lowest-one Fails x y p q = go (place-order x y)
-  where
-    go : PlaceOrder x y → x ≡ y
-    go (lower l) = absurd (q .none-lower x l (p .fails))
-    go (equal e) = e
-    go (higher l) = absurd (p .none-lower y l (q .fails))
+module _ {A : Type 0} (turn : A → List ℕ) (ts : Turns turn) (Fails : A → Type 0) where
+  pub lowest-one : (x y : A) → Lowest turn Fails x → Lowest turn Fails y → x ≡ y
+  lowest-one x y p q = go (compared (turn x) (turn y) (ts .same-length x y))
+    where
+      go : Compared (turn x) (turn y) → x ≡ y
+      go (lower l) = absurd (q .none-before x l (p .fails))
+      go (equal e) = ts .tells x y e
+      go (higher l) = absurd (p .none-before y l (q .fails))
 
--- ---- both directions: the search says exactly which place is the lowest, and exactly if there is none
+  pub settled-one : {o o′ : Outcome A} → Settled turn Fails o → Settled turn Fails o′ → o ≡ o′
+  settled-one (none n) (none m) = refl
+  settled-one (none n) (lowest {x = x} p) = absurd (n x (p .fails))
+  settled-one (lowest {x = x} p) (none n) = absurd (n x (p .fails))
+  settled-one (lowest {x = x} p) (lowest {x = y} q) = ap fail (lowest-one x y p q)
 
-pub lowest-first : (t : Trial) (x : Place) → Lowest (FailsIn t) x → firstOf t ≡ fail x
-lowest-first t x h = go (firstOf t) refl
-  where
-    go : (o : Outcome Place) → firstOf t ≡ o → o ≡ fail x
-    go pass e = absurd (first-none t e x (h .fails))
-    go (fail y) e = ap fail (lowest-one (FailsIn t) y x (first-lowest t y e) h)
+  -- so a settled outcome passes exactly if there is no failure, and fails exactly with the lowest
+  pub passes-exactly : {o : Outcome A} → Settled turn Fails o → (o ≡ pass) ↔ ((x : A) → Fails x → ⊥)
+  passes-exactly {o} s = (λ h. of (subst (Settled turn Fails) h s), λ n. settled-one s (none n))
+    where
+      of : Settled turn Fails pass → (x : A) → Fails x → ⊥
+      of (none n) = n
 
-pub none-first : (t : Trial) → ((x : Place) → FailsIn t x → ⊥) → firstOf t ≡ pass
-none-first t h = go (firstOf t) refl
-  where
-    go : (o : Outcome Place) → firstOf t ≡ o → o ≡ pass
-    go pass e = refl
-    go (fail y) e = absurd (h y (first-lowest t y e .fails))
+  pub fails-exactly : {o : Outcome A} → Settled turn Fails o → (x : A) → (o ≡ fail x) ↔ Lowest turn Fails x
+  fails-exactly {o} s x = (λ h. of (subst (Settled turn Fails) h s), λ l. settled-one s (lowest l))
+    where
+      of : Settled turn Fails (fail x) → Lowest turn Fails x
+      of (lowest l) = l
+
+-- the same of what fails alike
+pub settled-same : {A : Type 0} (turn : A → List ℕ) (F G : A → Type 0) → ((x : A) → F x → G x) → ((x : A) → G x → F x)
+    → {o : Outcome A} → Settled turn F o → Settled turn G o
+settled-same turn F G to from (none n) = none (λ x g. n x (from x g))
+settled-same turn F G to from (lowest {x = x} p) = lowest (record { fails = to x (p .fails); none-before = λ y l g. p .none-before y l (from y g) })

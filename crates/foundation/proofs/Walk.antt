@@ -1,14 +1,14 @@
 -- Laws of a walk: its outcome is the first failure, its count is right, a walk may be cut anywhere, and a failure stops it.
-use mathlib.Core.Path.{_≡_, refl, sym, _∙_, ap}
+use mathlib.Core.Path.{_≡_, refl, sym, _∙_, ap, subst}
 use mathlib.Core.List.{List, [], _∷_}
 use Prim.Native.Nat.{ℕ, zero, suc, _+_, _-_, _≤_, _<_}
 use native.Mathlib.Omega.{arith}
 use native.Mathlib.Nat.{zero-add, suc-add, add-zero, add-assoc, eq-or-lt-of-le}
 use native.Mathlib.Numerals.{one-add}
 use mathlib.Core.Logic.{_⊎_, inl, inr}
-use Rattle.foundation.specs.First.{Outcome, pass, fail, orElse, firstIn}
-use Rattle.foundation.specs.Walk.{Walked, walk, after, plus, then, thenBy, pieces, total}
-use Rattle.foundation.proofs.First.{AllPass, FirstAt, first-pass, first-fail}
+use Rattle.foundation.specs.First.{Outcome, pass, fail, orElse, firstIn, AllPass}
+use Rattle.foundation.specs.Walk.{Walked, walk, after, plus, then, thenBy, pieces, total, WalkIs, passed, stopped, WalkLaw}
+use Rattle.foundation.proofs.First.{FirstAt, first-pass, first-fail}
 
 module _ {A : Type 0} (f : ℕ → Outcome A) where
   -- the outcome is that of the search for the first failure (proofs/First)
@@ -123,3 +123,27 @@ module _ {A : Type 0} (f : ℕ → Outcome A) where
       let c : walk f (n + k) 0 .outcome ≡ fail x = ap (λ v. v .outcome) (from-there n k h) ∙ w in
       let e : n + k + (m - (n + k)) ≡ m = omega arith in
       rw (← e) (ap (λ v. v .outcome) (walk-over (n + k) (m - (n + k)) 0 x c) ∙ c)
+
+  -- ---- the law
+
+  is : (n i : ℕ) → WalkIs f n i (walk f n i)
+  is n i = go (walk f n i .outcome) refl
+    where
+      go : (o : Outcome A) → walk f n i .outcome ≡ o → WalkIs f n i (walk f n i)
+      go pass h = subst (WalkIs f n i) (sym (all-walk n i (walk-all n i h))) (passed (walk-all n i h))
+      go (fail x) h =
+          let r = walk-fails n i x h in
+          let k : ℕ = r .at - i in
+          let there : r .at ≡ i + k = omega arith in
+          let count : suc k ≡ suc (r .at) - i = omega arith in
+          subst (WalkIs f n i) ((λ j. record { outcome = fail x; count = count j }) ∙ sym (fail-walk n i x r))
+          (stopped k (omega arith) (λ j l u. r .before j l (omega arith)) (rw (← there) (r .fails)))
+
+  only : (n i : ℕ) (w : Walked A) → WalkIs f n i w → walk f n i ≡ w
+  only n i w (passed h) = all-walk n i h
+  only n i w (stopped k {x = x} l h e) =
+      let count : suc (i + k) - i ≡ suc k = omega arith in
+      fail-walk n i x (record { at = i + k; from = omega arith; below = omega arith; fails = e; before = h }) ∙ (λ j. record { outcome = fail x; count = count j })
+
+  pub walk-law : WalkLaw f
+  walk-law = record { is = is; only = only; add = walk-add; divided = pieces-walk }

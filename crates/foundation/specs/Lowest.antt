@@ -1,46 +1,31 @@
--- Places of failure (criterion, row, sum value), their order, the lowest one at which a test fails, and the search for it.
+-- An order of turns, what it means that a failure is the lowest, and that an outcome says which one it is. Things are compared by
+-- their turns, lists of numbers in which the first difference decides. Laws: proofs/Lowest.
 use mathlib.Core.Path.{_≡_}
-use mathlib.Core.Bool.{Bool, true}
+use mathlib.Core.Logic.{_⊎_}
+use mathlib.Core.Bool.{Bool, false, _&&_, _||_}
+use mathlib.Core.List.{List, [], _∷_}
 use Prim.Native.Nat.{ℕ, _<_}
-use Rattle.foundation.specs.First.{Outcome, failIf, firstIn}
+use lib.Dec.{eqb, ltb}
+use Rattle.foundation.specs.First.{Outcome, pass, fail}
 
-pub record Place : Type 0 where
-  pub criterion : ℕ
-  pub row : ℕ
-  pub sum : ℕ
+-- the first difference decides
+abbrev pub Lower : List ℕ → List ℕ → Type 0
+Lower [] ys = ⊥
+Lower (x ∷ xs) [] = ⊥
+Lower (x ∷ xs) (y ∷ ys) = (x < y) ⊎ ((x ≡ y) × Lower xs ys)
 
--- "criteria, rows and sum values rise": x comes before y
-pub data Lower (x y : Place) : Type 0 where
-  by-criterion : x .criterion < y .criterion → Lower x y
-  by-row : x .criterion ≡ y .criterion → x .row < y .row → Lower x y
-  by-sum : x .criterion ≡ y .criterion → x .row ≡ y .row → x .sum < y .sum → Lower x y
+-- as a test
+abbrev pub lowerB : List ℕ → List ℕ → Bool
+lowerB [] ys = false
+lowerB (x ∷ xs) [] = false
+lowerB (x ∷ xs) (y ∷ ys) = ltb x y || (eqb x y && lowerB xs ys)
 
--- it fails at x and at nothing lower
-pub record Lowest (Fails : Place → Type 0) (x : Place) : Type 0 where
+-- x fails, and nothing whose turn is lower
+pub record Lowest {A : Type 0} (turn : A → List ℕ) (Fails : A → Type 0) (x : A) : Type 0 where
   pub fails : Fails x
-  pub none-lower : (y : Place) → Lower y x → Fails y → ⊥
+  pub none-before : (y : A) → Lower (turn y) (turn x) → Fails y → ⊥
 
--- what is tried: the criteria below `criteria`, of each the rows below `rows`, of each the sum values below `sums`, by `test`
-pub record Trial : Type 0 where
-  pub criteria : ℕ
-  pub rows : ℕ → ℕ
-  pub sums : ℕ → ℕ → ℕ
-  pub test : ℕ → ℕ → ℕ → Bool
-
--- the test of a trial fails at a place: it is tried, and says so
-pub record FailsIn (t : Trial) (x : Place) : Type 0 where
-  pub criterion : x .criterion < t .criteria
-  pub row : x .row < t .rows (x .criterion)
-  pub sum : x .sum < t .sums (x .criterion) (x .row)
-  pub test : t .test (x .criterion) (x .row) (x .sum) ≡ true
-
--- the search in the rows below `rows`, in each the sum values below `sums`: the first that fails by `test`, as `place` names it
-abbrev pub firstPlace : {A : Type 0} → ℕ → (ℕ → ℕ) → (ℕ → ℕ → Bool) → (ℕ → ℕ → A) → Outcome A
-firstPlace rows sums test place = firstIn (λ k. firstIn (λ e. failIf (test k e) (place k e)) (sums k) 0) rows 0
-
--- and in the criteria
-abbrev pub inCriterion : Trial → ℕ → Outcome Place
-inCriterion t c = firstPlace (t .rows c) (t .sums c) (t .test c) (λ k e. record { criterion = c; row = k; sum = e })
-
-abbrev pub firstOf : Trial → Outcome Place
-firstOf t = firstIn (λ c. inCriterion t c) (t .criteria) 0
+-- the outcome says which failure is the lowest, or that there is none
+pub data Settled {A : Type 0} (turn : A → List ℕ) (Fails : A → Type 0) : Outcome A → Type 0 where
+  none : ((x : A) → Fails x → ⊥) → Settled turn Fails pass
+  lowest : {x : A} → Lowest turn Fails x → Settled turn Fails (fail x)

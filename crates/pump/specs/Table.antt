@@ -1,11 +1,11 @@
--- The pump table and its nine variants (01, "The pump table"), as designs, with the report of each.
+-- The pump table of 01 and its nine variants, as designs, with the report of each (01, "The pump table", the reports marked P).
 use mathlib.Core.Bool.{true, false}
 use mathlib.Core.List.{List, [], _∷_, _++_}
 use Prim.Native.Nat.{ℕ}
 use Rattle.terms.specs.Tree.{Value, Formula, num, par, sumValue, choice, const, compare}
 use Rattle.terms.specs.declared.Compare.the-variants.{Equal}
-use Rattle.criteria.specs.Design.{Design, Row, Parameter, initialState}
-use Rattle.criteria.specs.Failure.{Verdict, accepted, startFailed, failed, stateNumber}
+use Rattle.criteria.specs.Design.{Design, Row, Parameter}
+use Rattle.criteria.specs.Verdict.{Report}
 
 abbrev pub is : ℕ → Formula
 is n = compare Equal (par 0) (num n)
@@ -46,39 +46,34 @@ given = design 3 4 (done (par 1)) (is 2) (par 1) (const true) (par 1) busy
 abbrev pub wrong-data : Design
 wrong-data = design 3 4 (done (par 1)) (is 2) (num 0) (const true) (par 1) busy
 
--- the report's five numbers
-abbrev pub report : Design → Verdict → List ℕ
-report d accepted = 0 ∷ 0 ∷ 0 ∷ 0 ∷ 0 ∷ []
-report d startFailed = 1 ∷ 1 ∷ stateNumber d (initialState (d .impl)) ∷ 0 ∷ 0 ∷ []
-report d (failed x) = 1 ∷ x .place .criterion ∷ x .state ∷ x .place .row ∷ x .place .sum ∷ []
-
+-- a design and the report that 01 gives it
 pub record Case : Type 0 where
   pub table : Design
-  pub says : List ℕ
+  pub says : Report
 
-abbrev pub case : Design → List ℕ → Case
-case d r = record { table = d; says = r }
+abbrev pub case : Design → ℕ → ℕ → ℕ → ℕ → ℕ → Case
+case d v c n k e = record { table = d; says = record { verdict = v; criterion = c; state = n; row = k; sum = e } }
 
 unfoldable pub cases : List Case
 cases =
     -- as given
-    case given (0 ∷ 0 ∷ 0 ∷ 0 ∷ 0 ∷ [])
+    case given 0 0 0 0 0
     -- data of row 3 `0 0`
-    ∷ case wrong-data (1 ∷ 8 ∷ 9 ∷ 3 ∷ 0 ∷ [])
+    ∷ case wrong-data 1 8 9 3 0
     -- measure `0 0`
-    ∷ case (design 3 4 (done (par 1)) (is 2) (par 1) (const true) (par 1) (num 0)) (1 ∷ 5 ∷ 4 ∷ 2 ∷ 0 ∷ [])
+    ∷ case (design 3 4 (done (par 1)) (is 2) (par 1) (const true) (par 1) (num 0)) 1 5 4 2 0
     -- invariant `11`
-    ∷ case (design 3 4 (done (par 1)) (is 2) (par 1) (const false) (par 1) busy) (1 ∷ 1 ∷ 0 ∷ 0 ∷ 0 ∷ [])
+    ∷ case (design 3 4 (done (par 1)) (is 2) (par 1) (const false) (par 1) busy) 1 1 0 0 0
     -- row 2 removed
-    ∷ case (design 3 4 [] (is 2) (par 1) (const true) (par 1) busy) (1 ∷ 7 ∷ 4 ∷ 2 ∷ 0 ∷ [])
+    ∷ case (design 3 4 [] (is 2) (par 1) (const true) (par 1) busy) 1 7 4 2 0
     -- first size 2
-    ∷ case (design 2 4 (done (par 1)) (is 2) (par 1) (const true) (par 1) busy) (1 ∷ 3 ∷ 4 ∷ 2 ∷ 0 ∷ [])
+    ∷ case (design 2 4 (done (par 1)) (is 2) (par 1) (const true) (par 1) busy) 1 3 4 2 0
     -- second mapped value `0 0`
-    ∷ case (design 3 4 (done (par 1)) (is 2) (par 1) (const true) (num 0) busy) (1 ∷ 9 ∷ 0 ∷ 1 ∷ 1 ∷ [])
+    ∷ case (design 3 4 (done (par 1)) (is 2) (par 1) (const true) (num 0) busy) 1 9 0 1 1
     -- condition of row 3 `10`
-    ∷ case (design 3 4 (done (par 1)) (const true) (par 1) (const true) (par 1) busy) (1 ∷ 6 ∷ 0 ∷ 3 ∷ 0 ∷ [])
+    ∷ case (design 3 4 (done (par 1)) (const true) (par 1) (const true) (par 1) busy) 1 6 0 3 0
     -- last next value of row 2 `0 0`
-    ∷ case (design 3 4 (done (num 0)) (is 2) (par 1) (const true) (par 1) busy) (1 ∷ 4 ∷ 5 ∷ 2 ∷ 0 ∷ [])
+    ∷ case (design 3 4 (done (num 0)) (is 2) (par 1) (const true) (par 1) busy) 1 4 5 2 0
     -- second specification size 3
-    ∷ case (design 3 3 (done (par 1)) (is 2) (par 1) (const true) (par 1) busy) (1 ∷ 2 ∷ 3 ∷ 0 ∷ 0 ∷ [])
+    ∷ case (design 3 3 (done (par 1)) (is 2) (par 1) (const true) (par 1) busy) 1 2 3 0 0
     ∷ []

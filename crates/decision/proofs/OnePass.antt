@@ -8,16 +8,16 @@ use native.Mathlib.Nat.{not-suc-le-zero}
 use lib.Arith.{lt-one}
 use lib.ListN.{length}
 use Rattle.foundation.specs.First.{failIf}
-use Rattle.foundation.specs.Lowest.{Place, Lower, by-criterion, by-row, by-sum, FailsIn, firstOf}
-use Rattle.foundation.specs.Least.{Settled, none, lowest}
+use Rattle.foundation.specs.Trial.{Place, place, placeTurn, FailsIn}
+use Rattle.foundation.specs.Lowest.{Lower, Settled, none, lowest}
 use Rattle.foundation.specs.OnePass.{trialOf, overRows}
-use Rattle.foundation.proofs.Least.{settled-same, settled-first}
+use Rattle.foundation.proofs.Lowest.{settled-one, settled-same}
+use Rattle.foundation.proofs.Trial.{place-turns, trial-settled}
 use Rattle.foundation.proofs.OnePass.{sweep-settled}
 use Rattle.criteria.specs.Design.{Design, State}
-use Rattle.criteria.specs.Failure.{place}
 use Rattle.decision.specs.Tests.{holds2}
-use Rattle.decision.specs.Trial.{trial}
-use Rattle.decision.specs.Fast.{implSweep, specSweep, fastOf}
+use Rattle.decision.specs.Examine.{trial, firstFailing}
+use Rattle.decision.specs.OnePass.{implSweep, specSweep, onePass}
 
 module _ (d : Design) (s : State) where
   -- criterion 2 fails
@@ -27,16 +27,17 @@ module _ (d : Design) (s : State) where
     sum : x .sum ≡ 0
     fails : not (holds2 d s) ≡ true
 
-  two-settled : Settled Two (failIf (not (holds2 d s)) (place 2 0 0))
+  two-settled : Settled placeTurn Two (failIf (not (holds2 d s)) (place 2 0 0))
   two-settled = go (not (holds2 d s)) refl
     where
-      below : (y : Place) → Lower y (place 2 0 0) → Two y → ⊥
-      below y (by-criterion l) t = let q = t .criterion in omega arith
-      below y (by-row c l) t = omega arith
-      below y (by-sum c k l) t = omega arith
+      below : (y : Place) → Lower (placeTurn y) (placeTurn (place 2 0 0)) → Two y → ⊥
+      below y (inl l) t = let q = t .criterion in omega arith
+      below y (inr (c, inl l)) t = omega arith
+      below y (inr (c, inr (k, inl l))) t = omega arith
+      below y (inr (c, inr (k, inr (e, l)))) t = l
 
-      go : (b : Bool) → not (holds2 d s) ≡ b → Settled Two (failIf b (place 2 0 0))
-      go true h = lowest (record { fails = record { criterion = refl; row = refl; sum = refl; fails = h }; none-lower = below })
+      go : (b : Bool) → not (holds2 d s) ≡ b → Settled placeTurn Two (failIf b (place 2 0 0))
+      go true h = lowest (record { fails = record { criterion = refl; row = refl; sum = refl; fails = h }; none-before = below })
       go false h = none (λ x t. true≢false (sym (t .fails) ∙ h))
 
   abbrev Parts : Place → Type 0
@@ -89,10 +90,11 @@ module _ (d : Design) (s : State) where
   whole x (inl (inr f)) = of-impl (x .criterion) (x .row) (x .sum) f
   whole x (inr f) = of-spec (x .criterion) (x .row) (x .sum) f
 
-  pub fast-first : fastOf d s ≡ firstOf (trial d s)
-  fast-first =
+  pub one-pass-finds : onePass d s ≡ firstFailing d s
+  one-pass-finds =
       let two = failIf (not (holds2 d s)) (place 2 0 0) in
       let impl = overRows (implSweep d s) two (suc (length (d .impl .rows))) 0 in
-      sym (settled-first (trial d s)
-      (settled-same Parts (FailsIn (trial d s)) whole (λ x f. parts (x .criterion) (x .row) (x .sum) f)
-      (sweep-settled (specSweep d s) (λ x. Two x ⊎ FailsIn (trialOf (implSweep d s)) x) impl (sweep-settled (implSweep d s) Two two two-settled))))
+      settled-one placeTurn place-turns (FailsIn (trial d s))
+      (settled-same placeTurn Parts (FailsIn (trial d s)) whole (λ x f. parts (x .criterion) (x .row) (x .sum) f)
+      (sweep-settled (specSweep d s) (λ x. Two x ⊎ FailsIn (trialOf (implSweep d s)) x) impl (sweep-settled (implSweep d s) Two two two-settled)))
+      (trial-settled (trial d s))

@@ -1,10 +1,11 @@
--- The theorem: a design that meets the nine criteria has what demand 3 asks.
+-- The states in the invariant, each with its mapped state, are a branching bisimulation where the criteria hold: a visible step is
+-- answered at once (criteria 6, 8, 9), a step of the specification after a run to a focus point (criteria 7, 8, 9).
 use mathlib.Core.Path.{_≡_, refl, sym, _∙_, ap, subst}
 use Rattle.criteria.specs.Design.{Design, State, StateOf, Inside, Admitted, mapped}
 use Rattle.criteria.specs.Step.{Label, Step, Visible, FocusPoint, nextState}
-use Rattle.criteria.specs.Criteria.{Criteria, Meets, Partner}
-use Rattle.criteria.specs.Bisimilar.{Answer, Reply, BranchingBisimulation, Promised, Demand3}
-use Rattle.criteria.proofs.Parameters.{size-16-bits, initial-in-size}
+use Rattle.criteria.specs.Criteria.{Criteria, Partner}
+use Rattle.criteria.specs.Bisimilar.{Answer, Reply, BranchingBisimulation, Promised}
+use Rattle.criteria.proofs.Parameters.{size-16-bits}
 use Rattle.criteria.proofs.Runs.{step-inside, internal-inside, internal-mapped, along, run-kept, reaches}
 
 -- the relation: s is inside, and t is its mapped state
@@ -87,7 +88,7 @@ module _ (d : Design) (a : Admitted d) (others : (s : State) → Inside d s → 
 
   pub bisimulation : BranchingBisimulation d (Related d)
   bisimulation = record {
-    states = λ s t r. (r .inside .in-size, subst (StateOf (d .spec)) (r .is-mapped) (size-16-bits (d .spec) (a .spec-sizes) (mapped d s) (others s (r .inside) .second)));
+    between = λ s t r. (r .inside .in-size, subst (StateOf (d .spec)) (r .is-mapped) (size-16-bits (d .spec) (a .spec-sizes) (mapped d s) (others s (r .inside) .second)));
     internal = λ s t s′ r st. record { inside = internal-inside d others s s′ (r .inside) st; is-mapped = internal-mapped d others s s′ (r .inside) st ∙ r .is-mapped };
     visible = λ s t s′ l r v. subst (λ u. Answer d (Related d) l u s′) (r .is-mapped) (answer s s′ l (r .inside) v);
     back = λ s t t′ l r st. subst (λ u. Reply d (Related d) l s u t′) (r .is-mapped) (reply s t′ l (r .inside) (subst (λ u. Step (d .spec) l u t′) (sym (r .is-mapped)) st));
@@ -97,13 +98,4 @@ module _ (d : Design) (a : Admitted d) (others : (s : State) → Inside d s → 
   promised s i = record {
     bisimilar = record { relation = Related d; is-bisimulation = bisimulation; relates = record { inside = i; is-mapped = refl } };
     runs = run-kept d others s i;
-    reaches = reaches d others s i;
   }
-
--- every design text that is admitted and meets the nine criteria keeps demand 3
-pub demand3 : (d : Design) → Admitted d → Meets d → Demand3 d
-demand3 d a m = record {
-  each = promised d a (m .others);
-  initial-among = record { in-size = initial-in-size (d .impl) (a .impl-sizes); invariant = m .start .invariant };
-  initial-mapped = m .start .mapping;
-}

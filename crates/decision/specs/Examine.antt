@@ -1,17 +1,17 @@
--- The examination of a state, the walk over all states, and the verdict, as they compute.
+-- The examination of one state: which rows and sum values are tried for which criterion, in 01's order, and what is found there.
+-- The walk over the states and the verdict are in specs/Verdict; faster ways to the same in specs/Quick and specs/OnePass.
 use mathlib.Core.Bool.{Bool, false, not}
 use mathlib.Core.List.{List, [], _∷_}
 use Prim.Native.Nat.{ℕ, suc}
 use lib.ListN.{length, getD}
 use Rattle.foundation.specs.First.{Outcome, pass, fail}
-use Rattle.foundation.specs.Lowest.{Place, Trial, firstOf}
-use Rattle.foundation.specs.Radix.{product, valuesOf}
-use Rattle.foundation.specs.Walk.{walk}
+use Rattle.foundation.specs.Trial.{Place, Trial, firstOf}
+use Rattle.foundation.specs.Radix.{valuesOf}
 use Rattle.terms.specs.Tree.{pick}
 use Rattle.criteria.specs.Design.{Design, Row, State, sizes}
-use Rattle.criteria.specs.Failure.{Failure, Verdict, accepted, startFailed, failed}
+use Rattle.criteria.specs.Failure.{Failure, failureAt}
 use Rattle.criteria.specs.Rows.{rowAt}
-use Rattle.decision.specs.Tests.{invariantB, holds1, holds2, holds3, holds4, holds5, holds6, holds7, holds8, holds9}
+use Rattle.decision.specs.Tests.{invariantB, holds2, holds3, holds4, holds5, holds6, holds7, holds8, holds9}
 
 -- what is tried for one criterion: rows, their sum values, and where it fails
 pub record Column : Type 0 where
@@ -51,27 +51,22 @@ column d s c = getD (columns d s) c nothing
 abbrev pub trial : Design → State → Trial
 trial d s = record { criteria = 10; rows = λ c. column d s c .rows; sums = λ c. column d s c .sums; test = λ c. column d s c .fails }
 
+-- the lowest place that fails at a state
+abbrev pub firstFailing : Design → State → Outcome Place
+firstFailing d s = firstOf (trial d s)
+
 -- with the number of the state
 abbrev pub named : ℕ → Outcome Place → Outcome Failure
 named n pass = pass
-named n (fail x) = fail (record { state = n; place = x })
+named n (fail x) = fail (failureAt n x)
 
--- state number n is examined where the invariant holds
+-- the state that has number n
+abbrev pub stateAt : Design → ℕ → State
+stateAt d n = valuesOf (sizes (d .impl)) n
+
+-- state number n is tried where the invariant holds
 unfoldable pub examine : Design → ℕ → Outcome Failure
 examine d n =
-    let s : State = valuesOf (sizes (d .impl)) n in
-    let o = named n (firstOf (trial d s)) in
+    let s : State = stateAt d n in
+    let o = named n (firstFailing d s) in
     pick (invariantB d s) o pass
-
-abbrev pub states : Design → ℕ
-states d = product (sizes (d .impl))
-
-abbrev pub byOutcome : Outcome Failure → Verdict
-byOutcome pass = accepted
-byOutcome (fail x) = failed x
-
--- "criterion 1 comes before state 0. Then states rise; within a state criteria, rows and sum values rise."
-unfoldable pub verdictOf : Design → Verdict
-verdictOf d =
-    let w = byOutcome (walk (examine d) (states d) 0 .outcome) in
-    pick (holds1 d) w startFailed

@@ -1,7 +1,8 @@
--- At a state: the places that fail by the tests are those that fail by the criteria, so the search finds the lowest of them.
-use mathlib.Core.Path.{_≡_}
-use mathlib.Core.Logic.{_↔_}
-use mathlib.Core.Bool.{Bool, true, not}
+-- At a state the places that fail by the tests are those that fail by the criteria. So the search finds the lowest of them, and a
+-- state passes exactly if criteria 2 to 9 hold there or the invariant does not.
+use mathlib.Core.Path.{_≡_, refl, sym, _∙_, subst}
+use mathlib.Core.Logic.{_↔_, _≢_}
+use mathlib.Core.Bool.{Bool, true, false, not, true≢false}
 use mathlib.Core.List.{List}
 use Prim.Native.Nat.{ℕ, zero, suc, _<_}
 use native.Mathlib.Omega.{arith}
@@ -9,18 +10,22 @@ use native.Mathlib.Nat.{not-suc-le-zero}
 use native.Mathlib.Decide.{decLt}
 use borrow.Author.Tests.{not-true}
 use lib.Arith.{lt-one}
-use Rattle.foundation.specs.First.{pass, fail}
-use Rattle.foundation.specs.Lowest.{Place, Lowest, FailsIn, firstOf}
+use Rattle.foundation.specs.First.{Outcome, pass, fail}
+use Rattle.foundation.specs.Lowest.{Lowest, Settled}
+use Rattle.foundation.specs.Trial.{Place, place, placeTurn, FailsIn}
 use Rattle.foundation.specs.Reflects.{Reflects, so, not-so}
-use Rattle.foundation.proofs.Lowest.{first-none, first-lowest, lowest-first, none-first}
+use Rattle.foundation.proofs.Lowest.{passes-exactly, fails-exactly, settled-same}
+use Rattle.foundation.proofs.Trial.{place-turns, trial-settled}
 use Rattle.foundation.proofs.Reflects.{says-no, is-not}
-use Rattle.criteria.specs.Design.{Design, Row, State, RowIs, Admitted}
+use Rattle.criteria.specs.Design.{Design, Row, State, RowIs, Inside, Admitted, sizes, states}
 use Rattle.criteria.specs.Criteria.{Criterion2, Criterion3, Criterion4, Criterion5, Criterion6, Criterion7, Criterion8, Criterion9, Criteria}
-use Rattle.criteria.specs.Failure.{Fails, place, second, third, fourth, fifth, sixth, seventh, eighth, ninth}
+use Rattle.criteria.specs.Failure.{Failure, failureAt, FailsAt, second, third, fourth, fifth, sixth, seventh, eighth, ninth}
+use Rattle.terms.specs.Tree.{pick}
+use Rattle.foundation.proofs.Radix.{values-below}
 use Rattle.criteria.specs.Rows.{rowAt}
 use Rattle.criteria.proofs.Rows.{is-row-at, is-row-below, row-at-is}
-use Rattle.decision.specs.Tests.{holds3, holds4, holds5, holds6, holds7, holds8, holds9}
-use Rattle.decision.specs.Trial.{trial}
+use Rattle.decision.specs.Tests.{invariantB, holds3, holds4, holds5, holds6, holds7, holds8, holds9}
+use Rattle.decision.specs.Examine.{trial, firstFailing, stateAt, named, examine}
 use Rattle.decision.proofs.Tests.{by-2, by-3, by-4, by-5, by-6, by-7, by-8, by-9}
 
 -- ---- one criterion over rows
@@ -69,31 +74,31 @@ module _ (T : RowTest) where
 
 module _ (d : Design) (a : Admitted d) (s : State) where
   t3 : RowTest
-  t3 = record { rows = d .impl .rows; criterion = Criterion3 d s; holds = holds3 d s; says = λ k r e is u. by-3 d a s k r e u; idle = λ r e n on. absurd (n (on .0)) }
+  t3 = record { rows = d .impl .rows; criterion = Criterion3 d s; holds = holds3 d s; says = λ k r e is u. by-3 d a s k r e u; idle = λ r e n on. absurd (n (on .in-span)) }
 
   t4 : RowTest
-  t4 = record { rows = d .impl .rows; criterion = Criterion4 d s; holds = holds4 d s; says = λ k r e is u. by-4 d a s k r e u; idle = λ r e n on. absurd (n (on .0)) }
+  t4 = record { rows = d .impl .rows; criterion = Criterion4 d s; holds = holds4 d s; says = λ k r e is u. by-4 d a s k r e u; idle = λ r e n on. absurd (n (on .in-span)) }
 
   t5 : RowTest
-  t5 = record { rows = d .impl .rows; criterion = Criterion5 d s; holds = holds5 d s; says = λ k r e is u. by-5 d a s k r e u; idle = λ r e n on. absurd (n (on .0)) }
+  t5 = record { rows = d .impl .rows; criterion = Criterion5 d s; holds = holds5 d s; says = λ k r e is u. by-5 d a s k r e u; idle = λ r e n on. absurd (n (on .in-span)) }
 
   t6 : RowTest
-  t6 = record { rows = d .impl .rows; criterion = Criterion6 d s; holds = holds6 d s; says = λ k r e is u. by-6 d a s k r e u is; idle = λ r e n on. absurd (n (on .0)) }
+  t6 = record { rows = d .impl .rows; criterion = Criterion6 d s; holds = holds6 d s; says = λ k r e is u. by-6 d a s k r e u is; idle = λ r e n on. absurd (n (on .in-span)) }
 
   t7 : RowTest
-  t7 = record { rows = d .spec .rows; criterion = Criterion7 d s; holds = holds7 d s; says = λ k q e is u. by-7 d a s k q e u is; idle = λ r e n focus on. absurd (n (on .0)) }
+  t7 = record { rows = d .spec .rows; criterion = Criterion7 d s; holds = holds7 d s; says = λ k q e is u. by-7 d a s k q e u is; idle = λ r e n focus on. absurd (n (on .in-span)) }
 
   t8 : RowTest
-  t8 = record { rows = d .impl .rows; criterion = Criterion8 d s; holds = holds8 d s; says = λ k r e is u. by-8 d a s k r e u; idle = λ r e n on. absurd (n (on .0)) }
+  t8 = record { rows = d .impl .rows; criterion = Criterion8 d s; holds = holds8 d s; says = λ k r e is u. by-8 d a s k r e u; idle = λ r e n on. absurd (n (on .in-span)) }
 
   t9 : RowTest
-  t9 = record { rows = d .impl .rows; criterion = Criterion9 d s; holds = holds9 d s; says = λ k r e is u. by-9 d a s k r e u; idle = λ r e n on. absurd (n (on .0)) }
+  t9 = record { rows = d .impl .rows; criterion = Criterion9 d s; holds = holds9 d s; says = λ k r e is u. by-9 d a s k r e u; idle = λ r e n on. absurd (n (on .in-span)) }
 
-  second-at : (k e : ℕ) → k ≡ 0 → e ≡ 0 → (Criterion2 d s → ⊥) → Fails d s (place 2 k e)
+  second-at : (k e : ℕ) → k ≡ 0 → e ≡ 0 → (Criterion2 d s → ⊥) → FailsAt d s (place 2 k e)
   second-at k e p q n = rw (p, q) (second n)
 
   -- what fails by the tests fails by the criteria
-  fails-at : (c k e : ℕ) → FailsIn (trial d s) (place c k e) → Fails d s (place c k e)
+  fails-at : (c k e : ℕ) → FailsIn (trial d s) (place c k e) → FailsAt d s (place c k e)
   unfolding t3 t4 t5 t6 t7 t8 t9
   fails-at zero k e f = absurd (not-suc-le-zero (f .row))
   fails-at (suc zero) k e f = absurd (not-suc-le-zero (f .row))
@@ -108,7 +113,7 @@ module _ (d : Design) (a : Admitted d) (s : State) where
   fails-at (suc (suc (suc (suc (suc (suc (suc (suc (suc (suc c)))))))))) k e f = absurd (let l = f .criterion in omega arith)
 
   -- and the other way round
-  at-fails : (x : Place) → Fails d s x → FailsIn (trial d s) x
+  at-fails : (x : Place) → FailsAt d s x → FailsIn (trial d s) x
   unfolding t3 t4 t5 t6 t7 t8 t9
   at-fails x (second n) = record { criterion = omega arith; row = omega arith; sum = omega arith; test = rw (is-not (by-2 d s) n) }
   at-fails x (third {e = e} is n) = record { criterion = omega arith; row = is-row-below is; sum = fails-in-span t3 e is n; test = fails-test t3 e is n }
@@ -119,8 +124,8 @@ module _ (d : Design) (a : Admitted d) (s : State) where
   at-fails x (eighth {e = e} is n) = record { criterion = omega arith; row = is-row-below is; sum = fails-in-span t8 e is n; test = fails-test t8 e is n }
   at-fails x (ninth {e = e} is n) = record { criterion = omega arith; row = is-row-below is; sum = fails-in-span t9 e is n; test = fails-test t9 e is n }
 
-  -- the search at a state: it passes exactly if criteria 2 to 9 hold, and it fails exactly at the lowest place
-  pub all-hold : ((x : Place) → Fails d s x → ⊥) → Criteria d s
+  -- criteria 2 to 9 hold exactly if nothing fails
+  pub all-hold : ((x : Place) → FailsAt d s x → ⊥) → Criteria d s
   unfolding t3 t4 t5 t6 t7 t8 t9
   all-hold none = record {
     second = by-second (by-2 d s);
@@ -137,7 +142,7 @@ module _ (d : Design) (a : Admitted d) (s : State) where
       by-second (so c) = c
       by-second (not-so n) = absurd (none (place 2 0 0) (second n))
 
-  pub none-fails : Criteria d s → (x : Place) → Fails d s x → ⊥
+  pub none-fails : Criteria d s → (x : Place) → FailsAt d s x → ⊥
   none-fails c x (second n) = n (c .second)
   none-fails c x (third {k = k} {e = e} {r = r} is n) = n (c .third k r e is)
   none-fails c x (fourth {k = k} {e = e} {r = r} is n) = n (c .fourth k r e is)
@@ -147,18 +152,48 @@ module _ (d : Design) (a : Admitted d) (s : State) where
   none-fails c x (eighth {k = k} {e = e} {r = r} is n) = n (c .eighth k r e is)
   none-fails c x (ninth {k = k} {e = e} {r = r} is n) = n (c .ninth k r e is)
 
-  pub passes-exactly : (firstOf (trial d s) ≡ pass) ↔ Criteria d s
-  passes-exactly = (
-    λ h. all-hold (λ x f. first-none (trial d s) h x (at-fails x f)),
-    λ c. none-first (trial d s) (λ x f. none-fails c x (fails-at (x .criterion) (x .row) (x .sum) f)),
-  )
+  pub state-settled : Settled placeTurn (FailsAt d s) (firstFailing d s)
+  state-settled = settled-same placeTurn (FailsIn (trial d s)) (FailsAt d s) (λ x. fails-at (x .criterion) (x .row) (x .sum)) at-fails (trial-settled (trial d s))
 
-  -- the lowest by the tests is the lowest by the criteria
-  lowest-to : (x : Place) → Lowest (FailsIn (trial d s)) x → Lowest (Fails d s) x
-  lowest-to x l = record { fails = fails-at (x .criterion) (x .row) (x .sum) (l .fails); none-lower = λ y b f. l .none-lower y b (at-fails y f) }
+  pub state-passes : (firstFailing d s ≡ pass) ↔ Criteria d s
+  state-passes =
+      let exactly = passes-exactly placeTurn place-turns (FailsAt d s) state-settled in
+      (λ h. all-hold (exactly .0 h), λ c. exactly .1 (none-fails c))
 
-  lowest-from : (x : Place) → Lowest (Fails d s) x → Lowest (FailsIn (trial d s)) x
-  lowest-from x l = record { fails = at-fails x (l .fails); none-lower = λ y b f. l .none-lower y b (fails-at (y .criterion) (y .row) (y .sum) f) }
+  pub state-fails : (x : Place) → (firstFailing d s ≡ fail x) ↔ Lowest placeTurn (FailsAt d s) x
+  state-fails = fails-exactly placeTurn place-turns (FailsAt d s) state-settled
 
-  pub fails-exactly : (x : Place) → (firstOf (trial d s) ≡ fail x) ↔ Lowest (Fails d s) x
-  fails-exactly x = (λ h. lowest-to x (first-lowest (trial d s) x h), λ l. lowest-first (trial d s) x (lowest-from x l))
+  -- nothing at a state is criterion 1's
+  pub not-first : (x : Place) → FailsAt d s x → x .criterion ≢ 1
+  not-first x f e = not-suc-le-zero (subst (λ c. x .row < trial d s .rows c) e (at-fails x f .row))
+
+-- ---- the examination of a state's number
+
+-- what it comes to
+pub data Examined (d : Design) (n : ℕ) : Outcome Failure → Type 0 where
+  met : (Inside d (stateAt d n) → Criteria d (stateAt d n)) → Examined d n pass
+  unmet : {x : Place} → Inside d (stateAt d n) → Lowest placeTurn (FailsAt d (stateAt d n)) x → Examined d n (fail (failureAt n x))
+
+module _ (d : Design) (a : Admitted d) (n : ℕ) (below : n < states d) where
+  searched : Inside d (stateAt d n) → (o : Outcome Place) → firstFailing d (stateAt d n) ≡ o → Examined d n (named n o)
+  searched i pass h = met (λ _. state-passes d a (stateAt d n) .0 h)
+  searched i (fail x) h = unmet i (state-fails d a (stateAt d n) x .0 h)
+
+  pub examined : Examined d n (examine d n)
+  unfolding examine
+  examined = go (invariantB d (stateAt d n)) refl
+    where
+      go : (b : Bool) → invariantB d (stateAt d n) ≡ b → Examined d n (pick b (named n (firstFailing d (stateAt d n))) pass)
+      go true h = searched (record { in-size = values-below (sizes (d .impl)) n below; invariant = h }) (firstFailing d (stateAt d n)) refl
+      go false h = met (λ i. absurd (true≢false (sym (i .invariant) ∙ h)))
+
+  -- a state passes exactly if criteria 2 to 9 hold there or the invariant does not
+  pub examine-passes : (examine d n ≡ pass) ↔ (Inside d (stateAt d n) → Criteria d (stateAt d n))
+  examine-passes = (λ h. of (subst (Examined d n) h examined), λ c. go (examine d n) examined c)
+    where
+      of : Examined d n pass → Inside d (stateAt d n) → Criteria d (stateAt d n)
+      of (met f) = f
+
+      go : (o : Outcome Failure) → Examined d n o → (Inside d (stateAt d n) → Criteria d (stateAt d n)) → o ≡ pass
+      go pass e c = refl
+      go (fail x) (unmet {x = p} i l) c = absurd (none-fails d a (stateAt d n) (c i) p (l .fails))
