@@ -1,15 +1,15 @@
 -- What the first failure among n is: the lowest that fails; and if there is none, every one passes. Then: a test that is the same
 -- for all numbers needs one look; whether all pass can be asked in any order; and the search as a loop.
 use mathlib.Core.Path.{_≡_, refl, sym, _∙_, ap, subst}
-use mathlib.Core.Bool.{Bool, true, false}
+use mathlib.Core.Bool.{Bool, true, false, not, _&&_}
 use Prim.Native.Nat.{ℕ, zero, suc, _+_, _-_, _≤_, _<_}
 use native.Mathlib.Omega.{arith}
 use native.Mathlib.Nat.{eq-or-lt-of-le}
 use native.Mathlib.Numerals.{add-one}
 use mathlib.Core.Logic.{_⊎_, inl, inr}
-use Rattle.foundation.specs.First.{Outcome, pass, fail, failIf, firstIn, AllPass, passes, allIn}
+use Rattle.foundation.specs.First.{Outcome, pass, fail, failIf, orElse, firstIn, AllPass, passes, allIn}
 use Rattle.foundation.specs.Reflects.{Reflects, so, not-so}
-use Rattle.foundation.proofs.Reflects.{by-and, by-iff}
+use Rattle.foundation.proofs.Reflects.{by-and, by-iff, and-swap}
 
 -- pass is no failure
 abbrev IsPass : {A : Type 0} → Outcome A → Type 0
@@ -29,6 +29,10 @@ failIf-pass false x h = refl
 pub failIf-fail : {A : Type 0} (b : Bool) (x y : A) → failIf b x ≡ fail y → (b ≡ true) × (x ≡ y)
 failIf-fail true x y h = (refl, fail-inj h)
 failIf-fail false x y h = absurd (pass≢fail h)
+
+pub passes-failIf : {A : Type 0} (b : Bool) (x : A) → passes (failIf b x) ≡ not b
+passes-failIf true x = refl
+passes-failIf false x = refl
 
 module _ {A : Type 0} (f : ℕ → Outcome A) where
   -- two equations for the search: at a pass it goes on, at a failure it stops
@@ -136,6 +140,34 @@ module _ (P : ℕ → Type 0) (t : ℕ → Bool) (says : (j : ℕ) → Reflects 
       here : P i × ((j : ℕ) → suc i ≤ j → j < suc i + n → P j) → (j : ℕ) → j < i + suc n → (i ≡ j) ⊎ (i < j) → P j
       here h j u (inl p) = subst P p (h .0)
       here h j u (inr l) = h .1 j l (omega arith)
+
+-- whether none fails is whether each passes
+pub passes-all : {A : Type 0} (f : ℕ → Outcome A) (n i : ℕ) → passes (firstIn f n i) ≡ allIn (λ j. passes (f j)) n i
+unfolding firstIn allIn
+passes-all f zero i = refl
+passes-all f (suc n) i = go (f i) (passes-all f n (suc i))
+  where
+    go : (o : Outcome _) → passes (firstIn f n (suc i)) ≡ allIn (λ j. passes (f j)) n (suc i)
+        → passes (orElse o (firstIn f n (suc i))) ≡ passes o && allIn (λ j. passes (f j)) n (suc i)
+    go pass h = h
+    go (fail x) h = refl
+
+pub all-alike : (t u : ℕ → Bool) (n i : ℕ) → ((j : ℕ) → t j ≡ u j) → allIn t n i ≡ allIn u n i
+unfolding allIn
+all-alike t u zero i h = refl
+all-alike t u (suc n) i h = rw (h i, all-alike t u n (suc i) h)
+
+-- the same numbers, counted from one less
+pub all-from : (t : ℕ → Bool) (n i : ℕ) → allIn t n (suc i) ≡ allIn (λ j. t (suc j)) n i
+unfolding allIn
+all-from t zero i = refl
+all-from t (suc n) i = rw (all-from t n (suc i))
+
+-- two tests at once
+pub all-both : (t u : ℕ → Bool) (n i : ℕ) → allIn (λ j. t j && u j) n i ≡ allIn t n i && allIn u n i
+unfolding allIn
+all-both t u zero i = refl
+all-both t u (suc n) i = rw (all-both t u n (suc i)) (and-swap (t i) (u i) (allIn t n (suc i)) (allIn u n (suc i)))
 
 -- ---- the search as a loop that counts up: what is left of the search, from i on, is the whole of it
 

@@ -1,12 +1,13 @@
 -- Elements of a list by their number.
+use mathlib.Core.Path.{_≡_, refl}
 use mathlib.Core.List.{List, [], _∷_}
-use mathlib.Core.Bool.{Bool}
+use mathlib.Core.Bool.{Bool, _&&_}
 use mathlib.Core.Logic.{_≢_}
 use native.Mathlib.Omega.{arith}
 use Prim.Native.Nat.{ℕ, suc}
 use Rattle.foundation.specs.Nth.{Nth, first, later, EachIs, eachB}
 use Rattle.foundation.specs.Reflects.{Reflects, so}
-use Rattle.foundation.proofs.Reflects.{by-and, by-iff}
+use Rattle.foundation.proofs.Reflects.{by-and, by-iff, and-swap}
 
 abbrev IsCons : {A : Type 0} → List A → Type 0
 IsCons [] = ⊥
@@ -34,3 +35,12 @@ pub by-each : {A : Type 0} (P : A → Type 0) (t : A → Bool) → ((x : A) → 
 by-each P t says [] = so (λ k x at. absurd (nth-nil at))
 by-each P t says (y ∷ ys) =
     by-iff (λ h. nth-cons P (h .0) (h .1)) (λ h. (h 1 y first, λ k x at. h (suc k) x (later at))) (by-and (says y) (by-each P t says ys))
+
+-- two tests at once
+pub each-both : {A : Type 0} (t u : A → Bool) (xs : List A) → eachB (λ x. t x && u x) xs ≡ eachB t xs && eachB u xs
+each-both t u [] = refl
+each-both t u (x ∷ xs) = rw (each-both t u xs) (and-swap (t x) (u x) (eachB t xs) (eachB u xs))
+
+pub each-alike : {A : Type 0} (t u : A → Bool) (xs : List A) → ((x : A) → t x ≡ u x) → eachB t xs ≡ eachB u xs
+each-alike t u [] h = refl
+each-alike t u (x ∷ xs) h = rw (h x, each-alike t u xs h)

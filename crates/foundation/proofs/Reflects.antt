@@ -33,6 +33,11 @@ exactly r = (says-yes r, is-so r)
 pub exactly-not : {P : Type 0} {b : Bool} → Reflects P b → (b ≡ false) ↔ (P → ⊥)
 exactly-not r = (says-no r, is-not r)
 
+-- two tests of one thing say the same
+pub same-test : {P : Type 0} {a b : Bool} → Reflects P a → Reflects P b → a ≡ b
+same-test (so p) r = sym (is-so r p)
+same-test (not-so n) r = sym (is-not r n)
+
 -- a test's own value; numbers; lists of numbers
 pub by-value : (b : Bool) → Reflects (b ≡ true) b
 by-value true = so refl
@@ -93,3 +98,10 @@ by-same [] [] = so refl
 by-same [] (w ∷ ws) = not-so (λ h. subst IsNil h tt)
 by-same (v ∷ vs) [] = not-so (λ h. subst IsNil (sym h) tt)
 by-same (v ∷ vs) (w ∷ ws) = by-iff (λ h i. h .0 i ∷ h .1 i) (λ h. (cc, cc)) (by-and (by-eqb v w) (by-same vs ws))
+
+-- ---- both of two, in another order
+pub and-swap : (a b c d : Bool) → (a && b) && (c && d) ≡ (a && c) && (b && d)
+and-swap true true c d = refl
+and-swap true false true d = refl
+and-swap true false false d = refl
+and-swap false b c d = refl

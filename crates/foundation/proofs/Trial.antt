@@ -2,15 +2,15 @@
 -- lowest, and passes exactly if no place fails, in whatever order that is asked.
 use mathlib.Core.Path.{_≡_, refl, sym, _∙_, ap, subst}
 use mathlib.Core.Logic.{_↔_, inl, inr}
-use mathlib.Core.Bool.{Bool, true, false, true≢false}
+use mathlib.Core.Bool.{Bool, true, false, not, true≢false}
 use mathlib.Core.List.{List, [], _∷_}
 use Prim.Native.Nat.{ℕ, _<_, zero-le}
 use native.Mathlib.Omega.{arith}
 use lib.ListN.{getD}
-use Rattle.foundation.specs.First.{Outcome, pass, fail, failIf, firstIn}
+use Rattle.foundation.specs.First.{Outcome, pass, fail, failIf, firstIn, passes, allIn}
 use Rattle.foundation.specs.Lowest.{Lower, Lowest, Settled, none, lowest}
 use Rattle.foundation.specs.Trial.{Place, place, placeTurn, Trial, FailsIn, firstPlace, inCriterion, firstOf}
-use Rattle.foundation.proofs.First.{failIf-pass, failIf-fail, first-pass, first-fail, first-alike, test-same, FirstAt}
+use Rattle.foundation.proofs.First.{failIf-pass, failIf-fail, passes-failIf, first-pass, first-fail, first-alike, passes-all, all-alike, FirstAt}
 use Rattle.foundation.proofs.Lowest.{Turns, passes-exactly, fails-exactly}
 
 -- a place's turn says which place it is
@@ -60,6 +60,13 @@ module _ {A : Type 0} (rows : ℕ) (sums : ℕ → ℕ) (test : ℕ → ℕ → 
         rows-before = λ j e u v. sums-pass j (r .before j zero-le u) e v;
         sums-before = λ e u. failIf-pass (test k e) (name k e) (s .before e zero-le u);
       }
+
+-- whether none fails is whether the test of each says no, in any order
+pub place-passes : {A : Type 0} (rows : ℕ) (sums : ℕ → ℕ) (test : ℕ → ℕ → Bool) (name : ℕ → ℕ → A)
+    → passes (firstPlace rows sums test name) ≡ allIn (λ k. allIn (λ e. not (test k e)) (sums k) 0) rows 0
+place-passes rows sums test name =
+    passes-all (λ k. firstIn (λ e. failIf (test k e) (name k e)) (sums k) 0) rows 0
+    ∙ all-alike _ _ rows 0 (λ k. passes-all (λ e. failIf (test k e) (name k e)) (sums k) 0 ∙ all-alike _ _ (sums k) 0 (λ e. passes-failIf (test k e) (name k e)))
 
 -- a row whose tests do not depend on the sum value is looked at once
 pub place-same : {A : Type 0} (rows : ℕ) (sums : ℕ → ℕ) (test : ℕ → ℕ → Bool) (name : ℕ → ℕ → A) (looks : ℕ → ℕ)
