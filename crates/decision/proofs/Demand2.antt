@@ -7,8 +7,9 @@ use Rattle.foundation.proofs.Lowest.{passes-exactly, fails-exactly}
 use Rattle.criteria.specs.Design.{Design, Admitted}
 use Rattle.criteria.specs.Failure.{Failure, turn, Fails}
 use Rattle.criteria.specs.Verdict.{Verdict, accepted, failed, Demand2}
+use Rattle.criteria.proofs.Failure.{failure-turns}
 use Rattle.decision.specs.Verdict.{checked, byOutcome, verdictOf}
-use Rattle.decision.proofs.Verdict.{failure-turns, meets-exactly, check-settled}
+use Rattle.decision.proofs.Verdict.{meets-exactly, check-settled}
 
 -- a verdict is its outcome
 abbrev outcomeOf : Verdict → Outcome Failure

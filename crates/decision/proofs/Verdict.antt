@@ -1,35 +1,27 @@
 -- The check of all states is settled: what it comes to is the lowest failure of the design, or there is none, and then all nine
 -- criteria hold. By mixed radix every state is examined, and each under its own number.
 use mathlib.Core.Path.{_≡_, refl, sym, _∙_, ap, subst}
-use mathlib.Core.Logic.{_↔_, inl, inr}
+use mathlib.Core.Logic.{_↔_}
 use mathlib.Core.Bool.{Bool}
 use mathlib.Core.List.{List}
 use Prim.Native.Nat.{ℕ, _<_, zero-le}
 use native.Mathlib.Omega.{arith}
-use borrow.Author.Tests.{ne-eqb}
-use lib.ListN.{getD}
 use Rattle.foundation.specs.First.{Outcome, pass, fail}
 use Rattle.foundation.specs.Lowest.{Lower, Lowest, Settled, none, lowest}
 use Rattle.foundation.specs.Trial.{Place, placeTurn}
 use Rattle.foundation.specs.Reflects.{Reflects, so, not-so}
-use Rattle.foundation.proofs.Lowest.{Turns, lower-not-self}
+use Rattle.foundation.proofs.Lowest.{lower-not-self}
 use Rattle.foundation.proofs.Radix.{number-below, values-of-number, number-of-values}
 use Rattle.foundation.proofs.Walk.{walk-all, walk-fails}
 use Rattle.terms.specs.Tree.{pick}
 use Rattle.criteria.specs.Design.{Design, State, Inside, Admitted, sizes, states, stateNumber}
 use Rattle.criteria.specs.Criteria.{Criteria, Criterion1, Meets}
-use Rattle.criteria.specs.Failure.{Failure, stage, turn, FailsAt, startFailure, failureAt, Fails, start, at, LowestFailure}
+use Rattle.criteria.specs.Failure.{Failure, turn, FailsAt, startFailure, failureAt, Fails, start, at}
+use Rattle.criteria.proofs.Failure.{Earlier, by-state, by-place, earlier, start-lowest}
 use Rattle.decision.specs.Examine.{stateAt, examine}
 use Rattle.decision.specs.Verdict.{overStates, checked}
 use Rattle.decision.proofs.Tests.{by-1}
 use Rattle.decision.proofs.Examine.{Examined, met, unmet, examined, examine-passes, none-fails, all-hold, not-first}
-
--- a failure's turn says which failure it is
-pub failure-turns : Turns turn
-failure-turns = record { same-length = λ x y. refl; tells = tells }
-  where
-    tells : (x y : Failure) → turn x ≡ turn y → x ≡ y
-    tells x y h = λ i. record { state = getD (h i) 1 0; criterion = getD (h i) 2 0; row = getD (h i) 3 0; sum = getD (h i) 4 0 }
 
 module _ (d : Design) (a : Admitted d) where
   -- ---- states and their numbers
@@ -61,25 +53,24 @@ module _ (d : Design) (a : Admitted d) where
 
   -- ---- what comes before what
 
-  after-start : (n : ℕ) (s : State) (x : Place) → FailsAt d s x → stage (failureAt n x) ≡ 1
-  after-start n s x f = rw (ne-eqb (x .criterion) 1 (not-first d a s x f))
-
   -- nothing comes before the start
   before-start : (y : Failure) → Lower (turn y) (turn (startFailure d)) → Fails d y → ⊥
   before-start y l (start n) = lower-not-self (turn (startFailure d)) l
-  before-start y (inl l) (at {s = s} {x = x} i f) = let h = after-start (stateNumber d s) s x f in omega arith
-  before-start y (inr (e, l)) (at {s = s} {x = x} i f) = let h = after-start (stateNumber d s) s x f in omega arith
+  before-start y l (at {s = s} {x = x} i f) = start-lowest d (stateNumber d s) x (not-first d a s x f) l
 
   module _ (c : Criterion1 d) where
-    -- nothing comes before the lowest failure of a state before which all pass
-    before-at : (n : ℕ) (p : Place) → n < states d → Inside d (stateAt d n) → Lowest placeTurn (FailsAt d (stateAt d n)) p
+    -- nor before the lowest failure of a state before which all pass
+    before-at : (n : ℕ) (p : Place) → n < states d → Lowest placeTurn (FailsAt d (stateAt d n)) p
         → ((j : ℕ) → j < n → examine d j ≡ pass) → (y : Failure) → Lower (turn y) (turn (failureAt n p)) → Fails d y → ⊥
-    before-at n p u i m b y l (start k) = k c
-    before-at n p u i m b y (inl l) (at {s = s} {x = x} j f) = let h = after-start (stateNumber d s) s x f in let k = after-start n (stateAt d n) p (m .fails) in omega arith
-    before-at n p u i m b y (inr (e, inl l)) (at {s = s} {x = x} j f) = none-fails d a s (passed s j (b (stateNumber d s) l)) x f
-    before-at n p u i m b y (inr (e, inr (same, l))) (at {s = s} {x = x} j f) =
-        let here : s ≡ stateAt d n = sym (state-of-number s j) ∙ ap (stateAt d) same in
-        m .none-before x l (subst (λ v. FailsAt d v x) here f)
+    before-at n p u m b y l (start k) = k c
+    before-at n p u m b y l (at {s = s} {x = x} i f) =
+        go (earlier (stateNumber d s) n x p (not-first d a s x f) (not-first d a (stateAt d n) p (m .fails)) l)
+      where
+        go : Earlier (stateNumber d s) n x p (not-first d a s x f) (not-first d a (stateAt d n) p (m .fails)) → ⊥
+        go (by-state e) = none-fails d a s (passed s i (b (stateNumber d s) e)) x f
+        go (by-place e k) =
+            let here : s ≡ stateAt d n = sym (state-of-number s i) ∙ ap (stateAt d) e in
+            m .none-before x k (subst (λ v. FailsAt d v x) here f)
 
     walked : (o : Outcome Failure) → overStates d ≡ o → Settled turn (Fails d) o
     walked pass h = none (meets-exactly .0 (record { start = c; others = λ s i. passed s i (walk-all (examine d) (states d) 0 h (stateNumber d s) zero-le (let l = number-inside s i in omega arith)) }))
@@ -92,7 +83,7 @@ module _ (d : Design) (a : Admitted d) where
         go n y u b (unmet {x = p} i m) =
             lowest (record {
               fails = subst (λ k. Fails d (failureAt k p)) (number-of-values (sizes (d .impl)) n u) (at i (m .fails));
-              none-before = before-at n p u i m b;
+              none-before = before-at n p u m b;
             })
 
   pub check-settled : Settled turn (Fails d) (checked d)
