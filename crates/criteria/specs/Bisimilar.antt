@@ -1,0 +1,69 @@
+-- Branching bisimilarity, and demand 3 of a design (01, "What demand 3 speaks of"; 00, demand 3). Source 000, section 6, has it
+-- for processes that may both have internal steps; here the specification has none.
+use mathlib.Core.Path.{_≡_}
+use Prim.Native.Nat.{ℕ, _≤_}
+use Rattle.foundation.specs.Nth.{Nth}
+use Rattle.criteria.specs.Design.{Design, State, StateOf, InSize, Inside, mapped, measureAt, initialState}
+use Rattle.criteria.specs.Step.{Label, Step, Internal, Visible, FocusPoint, Chain, Run, statesOf, CantGoOn}
+
+-- "there is a step from t with the same label, and the two lead to related states": s′ is where the implementation's step led
+pub record Answer (d : Design) (R : State → State → Type 0) (l : Label) (t s′ : State) : Type 0 where
+  pub to : State
+  pub step : Step (d .spec) l t to
+  pub related : R s′ to
+
+-- "some chain of internal steps from s, none or more, leads to a state related to t, and from there some step with the same label
+-- leads to a state related to the one that t's step leads to": that one is t′
+pub record Reply (d : Design) (R : State → State → Type 0) (l : Label) (s t t′ : State) : Type 0 where
+  pub length : ℕ
+  pub before : State
+  pub chain : Chain d s length before
+  pub still : R before t
+  pub to : State
+  pub step : Step (d .impl) l before to
+  pub related : R to t′
+
+-- "A relation between states of the implementation and of the specification is a branching bisimulation if for each related pair,
+-- s and t:"
+pub record BranchingBisimulation (d : Design) (R : State → State → Type 0) : Type 0 where
+  -- it is between states of the implementation and of the specification
+  pub between : (s t : State) → R s t → InSize (d .impl) s × StateOf (d .spec) t
+  -- "each internal step from s leads to a state related to t"
+  pub internal : (s t s′ : State) → R s t → Internal (d .impl) s s′ → R s′ t
+  -- "for each visible step from s there is a step from t with the same label, and the two lead to related states"
+  pub visible : (s t s′ : State) (l : Label) → R s t → Visible (d .impl) l s s′ → Answer d R l t s′
+  -- "for each step from t, some chain of internal steps from s, none or more, leads to a state related to t, and from there some
+  -- step with the same label leads to a state related to the one that t's step leads to"
+  pub back : (s t t′ : State) (l : Label) → R s t → Step (d .spec) l t t′ → Reply d R l s t t′
+
+-- "Two states are branching bisimilar if some branching bisimulation relates them."
+pub record Bisimilar (d : Design) (s t : State) : Type 1 where
+  pub relation : State → State → Type 0
+  pub is-bisimulation : BranchingBisimulation d relation
+  pub relates : relation s t
+
+-- ---- demand 3
+
+-- what is so of a run of n internal steps from s to s′
+pub record RunKept (d : Design) {s s′ : State} {n : ℕ} (run : Run d s n s′) : Type 0 where
+  -- "has at most as many steps as the state's measure"
+  pub at-most : n ≤ measureAt d s
+  -- "and stays where the invariant holds and the mapped state is the same": so is each state u of the run
+  pub stays : (k : ℕ) (u : State) → Nth (statesOf run) k u → Inside d u × (mapped d u ≡ mapped d s)
+  -- "a run that can't go on has stopped at a focus point"
+  pub stopped : CantGoOn d s′ → FocusPoint d s′
+
+-- of a state
+pub record Promised (d : Design) (s : State) : Type 1 where
+  -- "That state and its mapped specification state are branching bisimilar"
+  pub bisimilar : Bisimilar d s (mapped d s)
+  -- "Every run of internal steps from it, whichever enabled rows and sum values it takes"
+  pub runs : (n : ℕ) (s′ : State) (run : Run d s n s′) → RunKept d run
+
+-- of a design
+pub record Demand3 (d : Design) : Type 1 where
+  -- "every implementation state where its invariant holds"
+  pub each : (s : State) → Inside d s → Promised d s
+  -- "the initial one among them", and its mapped state is the specification's initial one
+  pub initial-among : Inside d (initialState (d .impl))
+  pub initial-mapped : mapped d (initialState (d .impl)) ≡ initialState (d .spec)

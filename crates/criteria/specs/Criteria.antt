@@ -1,0 +1,75 @@
+-- The nine criteria (01, "Nine criteria"), a definition for each, in 01's order, with the number and the formula of source 004,
+-- definition 3.2, where it has one: there h is the mapping, b the condition, f the data, g the next state of an action's row, and
+-- b′, f′, g′ those of the specification's. Criteria 3 to 9 are stated for a row and a sum value; `Criteria` says for which rows,
+-- and `Meets` for which states.
+use mathlib.Core.Path.{_≡_}
+use Prim.Native.Nat.{ℕ, _<_}
+use Rattle.criteria.specs.Design.{Design, Process, Row, State, RowIs, InSize, Inside, Invariant, mapped, measureAt, initialState}
+use Rattle.criteria.specs.Step.{Enabled, InternalRow, VisibleRow, FocusPoint, ActionEnabled, nextState, dataNumber}
+
+-- 1. "The invariant holds in the initial state, whose mapping is the specification's initial state." (ours: the start)
+pub record Criterion1 (d : Design) : Type 0 where
+  pub invariant : Invariant d (initialState (d .impl))
+  pub mapping : mapped d (initialState (d .impl)) ≡ initialState (d .spec)
+
+-- 2. "Each mapped value is below its size." (ours: the sizes)
+abbrev pub Criterion2 : Design → State → Type 0
+Criterion2 d s = InSize (d .spec) (mapped d s)
+
+-- 3. "Each enabled row leads inside the kind 1 sizes to a state where the invariant holds." (ours: the invariant; 004, definition
+-- 2.5: b(d,e) and I(d) → I(g(d,e)))
+abbrev pub Criterion3 : Design → State → Row → ℕ → Type 0
+Criterion3 d s r e = Enabled r s e → Inside d (nextState r s e)
+
+-- 4. "An enabled internal row keeps the mapping (source 004, criterion 2)." b(d,e) → h(d) = h(g(d,e)), for the internal action
+abbrev pub Criterion4 : Design → State → Row → ℕ → Type 0
+Criterion4 d s r e = Enabled r s e → InternalRow r → mapped d s ≡ mapped d (nextState r s e)
+
+-- 5. "An enabled internal row leads to a smaller measure (criterion 1, with the measure given)." 004: convergent, definition 2.3:
+-- b(d,e) → g(d,e) < d, for the internal action
+abbrev pub Criterion5 : Design → State → Row → ℕ → Type 0
+Criterion5 d s r e = Enabled r s e → InternalRow r → measureAt d (nextState r s e) < measureAt d s
+
+-- 6. "For an enabled visible row, the specification row of that action is enabled at the mapped state for the same sum value
+-- (criterion 3)." b(d,e) → b′(h(d),e)
+abbrev pub Criterion6 : Design → State → Row → ℕ → Type 0
+Criterion6 d s r e = Enabled r s e → VisibleRow r → ActionEnabled (d .spec) (r .action) (mapped d s) e
+
+-- 7. "At a focus point each specification row enabled at the mapped state has its implementation row enabled, for the same sum
+-- value (criterion 4)." FC(d) and b′(h(d),e) → b(d,e). Here q is the specification's row.
+abbrev pub Criterion7 : Design → State → Row → ℕ → Type 0
+Criterion7 d s q e = FocusPoint d s → Enabled q (mapped d s) e → ActionEnabled (d .impl) (q .action) s e
+
+-- the specification's row of that action (fault 7: one at most; where there is none, criterion 6 fails)
+abbrev pub Partner : Design → Row → Row → Type 0
+Partner d r q = (j : ℕ) × (RowIs (d .spec .rows) j q × (q .action ≡ r .action))
+
+-- 8. "An enabled visible row has equal data on both sides (criterion 5)." b(d,e) → f(d,e) = f′(h(d),e)
+abbrev pub Criterion8 : Design → State → Row → ℕ → Type 0
+Criterion8 d s r e = Enabled r s e → VisibleRow r → (q : Row) → Partner d r q → dataNumber r s e ≡ dataNumber q (mapped d s) e
+
+-- 9. "The mapping of its next state is the specification's next state (criterion 6)." b(d,e) → h(g(d,e)) = g′(h(d),e)
+abbrev pub Criterion9 : Design → State → Row → ℕ → Type 0
+Criterion9 d s r e = Enabled r s e → VisibleRow r → (q : Row) → Partner d r q → mapped d (nextState r s e) ≡ nextState q (mapped d s) e
+
+-- ---- all of them
+
+-- at each row of the process, for each sum value
+abbrev pub Each : Process → (Row → ℕ → Type 0) → Type 0
+Each p C = (k : ℕ) (r : Row) (e : ℕ) → RowIs (p .rows) k r → C r e
+
+-- criteria 2 to 9 at a state
+pub record Criteria (d : Design) (s : State) : Type 0 where
+  pub second : Criterion2 d s
+  pub third : Each (d .impl) (Criterion3 d s)
+  pub fourth : Each (d .impl) (Criterion4 d s)
+  pub fifth : Each (d .impl) (Criterion5 d s)
+  pub sixth : Each (d .impl) (Criterion6 d s)
+  pub seventh : Each (d .spec) (Criterion7 d s)
+  pub eighth : Each (d .impl) (Criterion8 d s)
+  pub ninth : Each (d .impl) (Criterion9 d s)
+
+-- all nine: "the start's in the initial state, the others in every state where the invariant holds" (00, demand 2)
+pub record Meets (d : Design) : Type 0 where
+  pub start : Criterion1 d
+  pub others : (s : State) → Inside d s → Criteria d s

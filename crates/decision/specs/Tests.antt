@@ -1,0 +1,75 @@
+-- The nine criteria as tests that compute, row by row and sum value by sum value. What they decide is said in criteria/specs/Criteria;
+-- that they decide it, in proofs/Tests.
+use mathlib.Core.Bool.{Bool, not, _&&_}
+use mathlib.Core.List.{List, [], _∷_}
+use Prim.Native.Nat.{ℕ, suc}
+use lib.Dec.{eqb, ltb}
+use Rattle.foundation.specs.First.{passes}
+use Rattle.foundation.specs.Radix.{belowB, sameB}
+use Rattle.foundation.specs.Reflects.{_⇒_}
+use Rattle.terms.specs.Tree.{pick, evalF}
+use Rattle.criteria.specs.Design.{Design, Process, Row, State, sizes, initialState, mapped, measureAt}
+use Rattle.criteria.specs.Step.{nextState, dataNumber}
+use Rattle.criteria.specs.Rows.{rowAt, firstInternal}
+
+-- a row's condition, where the sum value is known to be in its span
+abbrev pub enabledB : Row → State → ℕ → Bool
+enabledB r s e = evalF (r .condition) s e
+
+abbrev pub internalB : Row → Bool
+internalB r = eqb (r .action) 0
+
+abbrev pub invariantB : Design → State → Bool
+invariantB d s = evalF (d .invariant) s 0
+
+abbrev pub insideB : Design → State → Bool
+insideB d s = belowB (sizes (d .impl)) s && invariantB d s
+
+abbrev pub focusB : Design → State → Bool
+focusB d s = passes (firstInternal d s)
+
+-- the number of the first row of an action, counted from k; 0 if there is none
+unfoldable pub rowFrom : List Row → ℕ → ℕ → ℕ
+rowFrom [] action k = 0
+rowFrom (r ∷ rows) action k = let n = rowFrom rows action (suc k) in pick (eqb (r .action) action) k n
+
+abbrev pub rowOf : Process → ℕ → ℕ
+rowOf p action = rowFrom (p .rows) action 1
+
+abbrev pub partner : Process → ℕ → Row
+partner p action = rowAt (p .rows) (rowOf p action)
+
+-- ---- the criteria
+
+abbrev pub holds1 : Design → Bool
+holds1 d = invariantB d (initialState (d .impl)) && sameB (mapped d (initialState (d .impl))) (initialState (d .spec))
+
+abbrev pub holds2 : Design → State → Bool
+holds2 d s = belowB (sizes (d .spec)) (mapped d s)
+
+abbrev pub holds3 : Design → State → Row → ℕ → Bool
+holds3 d s r e = enabledB r s e ⇒ insideB d (nextState r s e)
+
+abbrev pub holds4 : Design → State → Row → ℕ → Bool
+holds4 d s r e = enabledB r s e ⇒ internalB r ⇒ sameB (mapped d s) (mapped d (nextState r s e))
+
+abbrev pub holds5 : Design → State → Row → ℕ → Bool
+holds5 d s r e = enabledB r s e ⇒ internalB r ⇒ ltb (measureAt d (nextState r s e)) (measureAt d s)
+
+abbrev pub holds6 : Design → State → Row → ℕ → Bool
+holds6 d s r e = enabledB r s e ⇒ not (internalB r) ⇒ enabledB (partner (d .spec) (r .action)) (mapped d s) e
+
+-- q is the specification's row
+abbrev pub holds7 : Design → State → Row → ℕ → Bool
+holds7 d s q e = focusB d s ⇒ enabledB q (mapped d s) e ⇒ enabledB (partner (d .impl) (q .action)) s e
+
+-- where the specification has no row of the action, criterion 6 has failed, and there is nothing to compare
+abbrev pub holds8 : Design → State → Row → ℕ → Bool
+holds8 d s r e =
+    enabledB r s e ⇒ not (internalB r) ⇒ not (eqb (rowOf (d .spec) (r .action)) 0)
+    ⇒ eqb (dataNumber r s e) (dataNumber (partner (d .spec) (r .action)) (mapped d s) e)
+
+abbrev pub holds9 : Design → State → Row → ℕ → Bool
+holds9 d s r e =
+    enabledB r s e ⇒ not (internalB r) ⇒ not (eqb (rowOf (d .spec) (r .action)) 0)
+    ⇒ sameB (mapped d (nextState r s e)) (nextState (partner (d .spec) (r .action)) (mapped d s) e)
