@@ -18,27 +18,27 @@ eachLine says line (suc n) i = says (line i) ∷ eachLine says line n (suc i)
 
 -- the first line of kind 3, of kind 4, of kind 5
 abbrev pub implRowsAt : Counts → ℕ
-implRowsAt c = c .impl_parameters + c .spec_parameters
+implRowsAt c = c .kind1 + c .kind2
 
 abbrev pub specRowsAt : Counts → ℕ
-specRowsAt c = implRowsAt c + c .impl_rows
+specRowsAt c = implRowsAt c + c .kind3
 
 abbrev pub invariantAt : Counts → ℕ
-invariantAt c = specRowsAt c + c .spec_rows
+invariantAt c = specRowsAt c + c .kind4
 
 abbrev pub designIn : List ℕ → List ℕ → Counts → Design
 designIn fields starts c =
     let line = lineFrom fields starts in
     record {
       impl = record {
-        parameters = eachLine parameterOf line (c .impl_parameters) 0;
-        rows = eachLine (rowOf (c .impl_parameters)) line (c .impl_rows) (implRowsAt c);
+        parameters = eachLine parameterOf line (c .kind1) 0;
+        rows = eachLine (rowOf (c .kind1)) line (c .kind3) (implRowsAt c);
       };
       spec = record {
-        parameters = eachLine parameterOf line (c .spec_parameters) (c .impl_parameters);
-        rows = eachLine (rowOf (c .spec_parameters)) line (c .spec_rows) (specRowsAt c);
+        parameters = eachLine parameterOf line (c .kind2) (c .kind1);
+        rows = eachLine (rowOf (c .kind2)) line (c .kind4) (specRowsAt c);
       };
       invariant = invariantOf (line (invariantAt c));
-      mapping = mappingOf (c .spec_parameters) (line (invariantAt c + 1));
+      mapping = mappingOf (c .kind2) (line (invariantAt c + 1));
       measure = measureOf (line (invariantAt c + 2));
     }

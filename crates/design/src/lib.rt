@@ -3,10 +3,10 @@
 
 // How many lines of kinds 1, 2, 3 and 4 a text has. Lines of kinds 5, 6 and 7 follow them, one each.
 pub struct Counts {
-    pub impl_parameters: usize,
-    pub spec_parameters: usize,
-    pub impl_rows: usize,
-    pub spec_rows: usize,
+    pub kind1: usize,
+    pub kind2: usize,
+    pub kind3: usize,
+    pub kind4: usize,
 }
 
 // A text has at most 8 + 8 + 32 + 32 + 3 lines.
