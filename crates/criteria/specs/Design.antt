@@ -84,7 +84,7 @@ abbrev pub measureAt : Design → State → ℕ
 measureAt d s = evalV (d .measure) s 0
 
 -- an implementation state in which the invariant holds
-pub record Inside (d : Design) (s : State) : Type 0 where
+pub record InvariantState (d : Design) (s : State) : Type 0 where
   pub in-size : InSize (d .impl) s
   pub invariant : Invariant d s
 
