@@ -1,2 +1,4 @@
 pub mod Line
+pub mod Lines
+pub mod Faults
 pub mod Loaded
