@@ -16,21 +16,23 @@ use Rattle.criteria.specs.Design.{Design, Process, Row, RowIs}
 use Rattle.design.specs.Lines.{kindOf, ofKind, countOf, designOf}
 
 -- the kinds of parameters and of rows
-pub data IsParameter : ℕ → Type 0 where
-  of-implementation : IsParameter 1
-  of-specification : IsParameter 2
+abbrev pub IsParameter : ℕ → Type 0
+IsParameter k = (k ≡ 1) ⊎ (k ≡ 2)
 
-pub data IsRow : ℕ → Type 0 where
-  of-implementation : IsRow 3
-  of-specification : IsRow 4
+abbrev pub IsRow : ℕ → Type 0
+IsRow k = (k ≡ 3) ⊎ (k ≡ 4)
 
 -- ---- 4
 
--- the column "lines" of the table of kinds: kind k may have n lines
-pub data Allowed : ℕ → ℕ → Type 0 where
-  parameters : {k n : ℕ} → IsParameter k → 1 ≤ n → n ≤ 8 → Allowed k n
-  rows : {k n : ℕ} → IsRow k → n ≤ 32 → Allowed k n
-  one : {k : ℕ} → 5 ≤ k → k ≤ 7 → Allowed k 1
+-- the column "lines" of the table of kinds: the fewest and the most of each kind, from 0 (which is none) to 7
+abbrev pub fewest : List ℕ
+fewest = 0 ∷ 1 ∷ 1 ∷ 0 ∷ 0 ∷ 1 ∷ 1 ∷ 1 ∷ []
+
+abbrev pub most : List ℕ
+most = 0 ∷ 8 ∷ 8 ∷ 32 ∷ 32 ∷ 1 ∷ 1 ∷ 1 ∷ []
+
+abbrev pub Allowed : ℕ → ℕ → Type 0
+Allowed k n = (getD fewest k 0 ≤ n) × (n ≤ getD most k 0)
 
 -- a line's kind is below that of the line before
 pub data Falls : List (List ℕ) → Type 0 where
@@ -43,7 +45,7 @@ pub data Fault4 (lines : List (List ℕ)) : Type 0 where
   -- "a falling kind"
   falling : Falls lines → Fault4 lines
   -- "a wrong count of lines of a kind"
-  wrong-count : {k : ℕ} → 1 ≤ k → k ≤ 7 → (Allowed k (countOf k lines) → ⊥) → Fault4 lines
+  wrong-count : {k : ℕ} → 1 ≤ k → k < 8 → (Allowed k (countOf k lines) → ⊥) → Fault4 lines
   -- "a kind 1 or 2 line without exactly three fields"
   not-three : {line : List ℕ} → List·Memᴰ line lines → IsParameter (kindOf line) → length line ≢ 3 → Fault4 lines
   -- "a row line with fewer than three"

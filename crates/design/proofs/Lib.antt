@@ -1,0 +1,3 @@
+pub mod Each
+pub mod Fault4
+pub mod Fault5
