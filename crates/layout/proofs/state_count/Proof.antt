@@ -10,5 +10,6 @@ state-count-spec =
     (tie.spec
     (λ c κs. search needs)
     (λ c κs. search needs)
+    (λ c. search needs)
     (λ c. search laws.count-fits)
     (λ c. search laws.count-unfit))
