@@ -11,7 +11,7 @@ use Rattle.foundation.specs.Reflects.{Reflects}
 use Rattle.foundation.proofs.Reflects.{by-and, by-iff, by-if, by-ltb}
 use Rattle.design.specs.Lines.{kindOf, ofKind}
 use Rattle.design.specs.Faults.{IsParameter, IsRow, sizeOf, Fault5, size, initial, span, states}
-use Rattle.design.specs.Tests.{isParameter, isRow, parameterFits, spanFits, numbersFit, boundsFit}
+use Rattle.design.specs.Tests.{isParameter, isRow, numbersFit, boundsFit}
 use Rattle.design.proofs.Each.{EachLine, by-each-line, by-leb, by-parameter, by-row}
 
 abbrev pub ParameterFits : List ℕ → Type 0

@@ -29,8 +29,11 @@ isRow k = eqb k 3 || eqb k 4
 
 -- ---- 4
 
+abbrev pub lengthFitsBy : ℕ → ℕ → Bool
+lengthFitsBy kind n = (isParameter kind ⇒ eqb n 3) && (isRow kind ⇒ leb 3 n)
+
 abbrev pub lengthFits : List ℕ → Bool
-lengthFits line = (isParameter (kindOf line) ⇒ eqb (length line) 3) && (isRow (kindOf line) ⇒ leb 3 (length line))
+lengthFits line = lengthFitsBy (kindOf line) (length line)
 
 abbrev pub countFits : List (List ℕ) → ℕ → Bool
 countFits lines k = leb (getD fewest k 0) (countOf k lines) && leb (countOf k lines) (getD most k 0)
@@ -43,14 +46,12 @@ layoutFits lines = climbs 1 lines && (countsFit lines && eachLineIs lengthFits l
 
 -- ---- 5
 
-abbrev pub parameterFits : List ℕ → Bool
-parameterFits line = leb 1 (sizeOf line) && ltb (getD line 2 0) (sizeOf line)
-
-abbrev pub spanFits : List ℕ → Bool
-spanFits line = leb 1 (getD line 2 0) && leb (getD line 2 0) 256
+-- by kind, and the two fields after it: size and initial value, or action and span
+abbrev pub numbersFitBy : ℕ → ℕ → ℕ → Bool
+numbersFitBy kind a b = (isParameter kind ⇒ leb 1 a && ltb b a) && (isRow kind ⇒ leb 1 b && leb b 256)
 
 abbrev pub numbersFit : List ℕ → Bool
-numbersFit line = (isParameter (kindOf line) ⇒ parameterFits line) && (isRow (kindOf line) ⇒ spanFits line)
+numbersFit line = numbersFitBy (kindOf line) (sizeOf line) (getD line 2 0)
 
 unfoldable pub boundsFit : List (List ℕ) → Bool
 boundsFit lines = eachLineIs numbersFit lines && leb (product (map sizeOf (ofKind 1 lines))) 65536

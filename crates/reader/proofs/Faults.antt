@@ -148,6 +148,21 @@ pub columns-lowest : (text : List ℕ) → ColumnsFault text (columnsFault text)
 unfolding columnsFault linesFault
 columns-lowest text = lowest-by text _ _ _ refl refl refl
 
+-- none is in a text of which `columnsFault` is 0
+pub record ColumnsFree (text : List ℕ) : Type 0 where
+  pub first : Fault1 text → ⊥
+  pub second : Fault2 text → ⊥
+  pub third : Fault3 text → ⊥
+
+free-by : {text : List ℕ} {k : ℕ} → ColumnsFault text k → k ≡ 0 → ColumnsFree text
+free-by (first f) e = absurd (omega arith)
+free-by (second a f) e = absurd (omega arith)
+free-by (third a b f) e = absurd (omega arith)
+free-by (free a b c) e = record { first = a; second = b; third = c }
+
+pub columns-free : (text : List ℕ) → columnsFault text ≡ 0 → ColumnsFree text
+columns-free text e = free-by (columns-lowest text) e
+
 -- ---- the bounds where 3 is absent
 
 pub most-in-line : (text fields : List ℕ) → (Fault3 text → ⊥) → List·Memᴰ fields (fieldsByLine text) → length fields ≤ 256

@@ -12,7 +12,7 @@ use lib.Dec.{eqb, ltb}
 use lib.ListN.{length, getD, take, drop, length-append, length-drop, length-take, drop-of-length-le, take-append-drop}
 use lib.Seq.{drop-length, drop-cons, take-take}
 use Rattle.reader.specs.Columns.{columnOf, columnsOf, fieldOf}
-use Rattle.reader.specs.Line.{written, Each16, none, more, fieldAt, fieldsOf}
+use Rattle.reader.specs.Line.{written, Each16, none, more, fieldAt, fieldsFrom, fieldsOf}
 use Rattle.reader.specs.Text.{before, linesOf, lastOf, isLine}
 use Rattle.reader.specs.declared.Field.{Field}
 use Rattle.reader.specs.declared.Field.the-variants.{Number, Malformed}
@@ -163,3 +163,8 @@ module _ (text : List ℕ) where
       pub last-after : lastOf 10 text ≡ lastOf 10 (drop (6 * length (fieldsOf text) + 1) text)
       last-after =
           ap (λ (t : List ℕ). lastOf 10 t) split ∙ rw (beyond-is, ends, add-one (6 * length (fieldsOf text))) (last-append (written (fieldsOf text)) 10 10 _)
+
+-- no field begins with a byte 10
+pub line-end-none : (text : List ℕ) → fieldsOf (10 ∷ text) ≡ []
+unfolding firstLine fieldsOf fieldsFrom
+line-end-none text = sym (fields-first (10 ∷ text))

@@ -13,7 +13,7 @@ use lib.ListN.{length, drop}
 use Rattle.reader.specs.Line.{written, Each16, IsLine, fieldsOf}
 use Rattle.reader.specs.Text.{before, linesOf, lastOf, fieldsByLine, textOf, Lines, none, more, Fault2, broken, unended, isLine}
 use Rattle.reader.proofs.Text.{firstLine, lines-first, past-fields, last-append}
-use Rattle.reader.proofs.Faults.{whole-fields, line-is, fields-of-line}
+use Rattle.reader.proofs.Faults.{whole-fields, is-line, line-is, fields-of-line}
 
 -- ---- a text is its lines, each with its byte 10
 
@@ -63,6 +63,23 @@ text-written text free =
 -- so a text is determined by its fields
 pub same-text : (s t : List ℕ) → (Fault2 s → ⊥) → (Fault2 t → ⊥) → fieldsByLine s ≡ fieldsByLine t → s ≡ t
 same-text s t fs ft e = sym (text-written s fs) ∙ (ap textOf e ∙ text-written t ft)
+
+-- and its lines have each one field or more
+line-fields : (line : List ℕ) (whole : Bool) → isLine line ≡ whole → ((IsLine line → ⊥) → ⊥) → Each16 (fieldsOf line) × (fieldsOf line ≢ [])
+line-fields line true e h =
+    let i = is-line line e in
+    let same : fieldsOf line ≡ i .fields = ap fieldsOf (i .whole) ∙ fields-of-line (i .fields) (i .each) in
+    rw same (i .each, i .some)
+line-fields line false e h = absurd (h (λ i. true≢false (sym (line-is line i) ∙ e)))
+
+each-fields : (lines : List (List ℕ)) → ((line : List ℕ) → List·Memᴰ line lines → (IsLine line → ⊥) → ⊥) → Lines (map fieldsOf lines)
+each-fields [] each = none
+each-fields (line ∷ lines) each =
+    let f = line-fields line _ refl (each line (List·Memᴰ·head refl)) in
+    more (f .0) (f .1) (each-fields lines (λ l m. each l (List·Memᴰ·tail m)))
+
+pub text-lines-good : (text : List ℕ) → (Fault2 text → ⊥) → Lines (fieldsByLine text)
+text-lines-good text free = each-fields (linesOf text) (λ line m h. free (broken m h))
 
 -- ---- what is written has just these lines
 

@@ -1,0 +1,14 @@
+-- What filling a desk's arrays from lines leaves in them (design/specs/Loaded has how lines are held).
+use Prim.Native.Nat.{ℕ, _≤_, _<_}
+use mathlib.Core.Path.{_≡_}
+use mathlib.Core.List.{List}
+use lib.ListN.{length}
+use lib.Seq.{sets}
+use Rattle.design.specs.Loaded.{joined, startsFrom}
+
+-- where there are not too many lines, they are held; else the number returned says so
+pub record Filled (lines : List (List ℕ)) (fields starts : List ℕ) (r : ℕ) (fields′ starts′ : List ℕ) : Type 0 where
+  pub few : length lines ≤ 83 → r ≡ length lines
+  pub fields-held : length lines ≤ 83 → fields′ ≡ sets fields 0 (joined lines)
+  pub starts-held : length lines ≤ 83 → starts′ ≡ sets starts 0 (startsFrom 0 lines)
+  pub many : 83 < length lines → r ≡ 84

@@ -1,0 +1,224 @@
+// From a text to a desk's arrays, or the lowest fault of the text. Without a heap, on the lent text: the columns, the fields into
+// the arrays, then kinds and counts, bounds, terms and actions, each ending the search. What a fault is, is in design/specs/Faults;
+// that the first one found so is the lowest anywhere in the text is in proofs/Lowest.
+use design::Counts;
+use reader::Field;
+ghost use mathlib.Core.Path.{_≡_};
+ghost use mathlib.Core.Bool.{cond};
+ghost use Prim.Native.Nat.{_+_, _≤_};
+ghost use lib.ListN.{length, getD};
+ghost use lib.Seq.{sets};
+ghost use Rattle.reader.specs.Line.{fieldsOf};
+ghost use Rattle.reader.specs.Text.{fieldsByLine, columnsFault};
+ghost use Rattle.design.specs.Lines.{countOf};
+ghost use Rattle.design.specs.Loaded.{lineAt, heldLines};
+ghost use Rattle.loader.specs.Filled.{Filled};
+ghost use Rattle.design.specs.Tests.{climbs, eachLineIs, isParameter, isRow, lengthFitsBy, lengthFits, numbersFitBy, numbersFit};
+
+const LAST_KIND: u16 = 7;
+
+const MAX_SPAN: u16 = 256;
+
+// The fields of a text's lines one after the other, and where each line starts; how many lines there are, or one more than
+// `MAX_LINES` where there are more.
+fn fill(text: &[u8], fields: &mut [u16; 4096], starts: &mut [u16; 84]) -> usize
+    requires { ⌜ columnsFault (now text) ≡ 0 ⌝ }
+    ensures { λ r. ⌜ Filled (fieldsByLine (now (text .entry))) (now (fields .entry)) (now (starts .entry)) r (now (fields .exit)) (now (starts .exit)) ⌝ }
+{
+    let mut at = 0;
+    let mut to = 0;
+    let mut lines = 0;
+    while at < text.len() {
+        if design::MAX_LINES <= lines {
+            return design::MAX_LINES + 1;
+        }
+        starts[lines] = to as u16;
+        let n = copy_fields(&text[at..], fields, to);
+        at = at + reader::COLUMNS * n + 1;
+        to += n;
+        lines += 1;
+    }
+    starts[lines] = to as u16;
+    lines
+}
+
+// The fields that a part begins with, into the array from `to` on; how many they are.
+fn copy_fields(part: &[u8], fields: &mut [u16; 4096], to: usize) -> usize
+    requires { ⌜ to + length (fieldsOf (now part)) ≤ 4096 ⌝ }
+    ensures { λ r. ⌜ r ≡ length (fieldsOf (now (part .entry))) ⌝ }
+    ensures { λ _. ⌜ now (fields .exit) ≡ sets (now (fields .entry)) to (fieldsOf (now (part .entry))) ⌝ }
+{
+    let most = part.len() / reader::COLUMNS;
+    let mut k = 0;
+    while k < most {
+        let f = reader::field_at(part, k);
+        let Field::Number(n) = f else {
+            return k;
+        };
+        fields[to + k] = n;
+        k += 1;
+    }
+    k
+}
+
+// How many fields line i has.
+fn line_length<'a>(fields: &'a [u16], starts: &'a [u16], i: usize) -> usize
+    ensures { λ r. ⌜ r ≡ length (lineAt (now (fields .entry)) (now (starts .entry)) i) ⌝ }
+{
+    if starts.len() <= i {
+        return 0;
+    }
+    let start = terms::field(starts, i) as usize;
+    let end = terms::field(starts, i + 1) as usize;
+    if end <= start {
+        return 0;
+    }
+    if fields.len() <= start {
+        return 0;
+    }
+    if end <= fields.len() {
+        end - start
+    } else {
+        fields.len() - start
+    }
+}
+
+// Field j of line i, and 0 past its end.
+fn line_field<'a>(fields: &'a [u16], starts: &'a [u16], i: usize, j: usize) -> u16
+    ensures { λ r. ⌜ r ≡ getD (lineAt (now (fields .entry)) (now (starts .entry)) i) j 0 ⌝ }
+{
+    if j < line_length(fields, starts, i) {
+        let start = terms::field(starts, i) as usize;
+        terms::field(fields, start + j)
+    } else {
+        0
+    }
+}
+
+// Whether the first n lines' kinds are known and do not fall.
+fn kinds_climb<'a>(fields: &'a [u16], starts: &'a [u16], n: usize) -> bool
+    ensures { λ r. ⌜ r ≡ climbs 1 (heldLines (now (fields .entry)) (now (starts .entry)) n) ⌝ }
+{
+    let mut lowest = 1;
+    let mut i = 0;
+    while i < n {
+        let kind = line_field(fields, starts, i, 0);
+        if kind < lowest {
+            return false;
+        }
+        if LAST_KIND < kind {
+            return false;
+        }
+        lowest = kind;
+        i += 1;
+    }
+    true
+}
+
+// How many of the first n lines are of a kind.
+fn count_kind<'a>(fields: &'a [u16], starts: &'a [u16], n: usize, kind: u16) -> usize
+    ensures { λ r. ⌜ r ≡ countOf kind (heldLines (now (fields .entry)) (now (starts .entry)) n) ⌝ }
+{
+    let mut count = 0;
+    let mut i = 0;
+    while i < n {
+        count += one_if(line_field(fields, starts, i, 0) == kind);
+        i += 1;
+    }
+    count
+}
+
+// Whether each of the first n lines has as many fields as its kind asks for.
+fn lengths_fit<'a>(fields: &'a [u16], starts: &'a [u16], n: usize) -> bool
+    ensures { λ r. ⌜ r ≡ eachLineIs lengthFits (heldLines (now (fields .entry)) (now (starts .entry)) n) ⌝ }
+{
+    let mut i = 0;
+    while i < n {
+        if length_fits(fields, starts, i) {
+            i += 1;
+        } else {
+            return false;
+        }
+    }
+    true
+}
+
+// Whether each of the first n lines has its size, initial value or span in bounds.
+fn numbers_fit<'a>(fields: &'a [u16], starts: &'a [u16], n: usize) -> bool
+    ensures { λ r. ⌜ r ≡ eachLineIs numbersFit (heldLines (now (fields .entry)) (now (starts .entry)) n) ⌝ }
+{
+    let mut i = 0;
+    while i < n {
+        if line_numbers_fit(fields, starts, i) {
+            i += 1;
+        } else {
+            return false;
+        }
+    }
+    true
+}
+
+// Whether line i has as many fields as its kind asks for.
+fn length_fits<'a>(fields: &'a [u16], starts: &'a [u16], i: usize) -> bool
+    ensures { λ r. ⌜ r ≡ lengthFits (lineAt (now (fields .entry)) (now (starts .entry)) i) ⌝ }
+{
+    length_fits_kind(
+        line_field(fields, starts, i, 0),
+        line_length(fields, starts, i),
+    )
+}
+
+// Not "a kind 1 or 2 line without exactly three fields, a row line with fewer than three".
+fn length_fits_kind(kind: u16, length: usize) -> bool
+    ensures { λ r. ⌜ r ≡ lengthFitsBy kind length ⌝ }
+{
+    if is_parameter(kind) {
+        return length == 3;
+    }
+    if is_row(kind) {
+        return 3 <= length;
+    }
+    true
+}
+
+// Whether line i has its size, initial value or span in bounds.
+fn line_numbers_fit<'a>(fields: &'a [u16], starts: &'a [u16], i: usize) -> bool
+    ensures { λ r. ⌜ r ≡ numbersFit (lineAt (now (fields .entry)) (now (starts .entry)) i) ⌝ }
+{
+    numbers_fit_kind(
+        line_field(fields, starts, i, 0),
+        line_field(fields, starts, i, 1),
+        line_field(fields, starts, i, 2),
+    )
+}
+
+// "Sizes and spans are at least 1, spans at most 256, initial values below their size."
+fn numbers_fit_kind(kind: u16, first: u16, second: u16) -> bool
+    ensures { λ r. ⌜ r ≡ numbersFitBy kind first second ⌝ }
+{
+    if is_parameter(kind) {
+        return (1 <= first) & (second < first);
+    }
+    if is_row(kind) {
+        return (1 <= second) & (second <= MAX_SPAN);
+    }
+    true
+}
+
+fn one_if(b: bool) -> usize
+    ensures { λ r. ⌜ (r ≡ cond b 1 0) × (r ≤ 1) ⌝ }
+{
+    if b { 1 } else { 0 }
+}
+
+fn is_parameter(kind: u16) -> bool
+    ensures { λ r. ⌜ r ≡ isParameter kind ⌝ }
+{
+    (kind == 1) | (kind == 2)
+}
+
+fn is_row(kind: u16) -> bool
+    ensures { λ r. ⌜ r ≡ isRow kind ⌝ }
+{
+    (kind == 3) | (kind == 4)
+}
