@@ -1,7 +1,7 @@
 -- The states in the invariant, each with its mapped state, are a branching bisimulation where the criteria hold: a visible step is
 -- answered at once (criteria 6, 8, 9), a step of the specification after a run to a focus point (criteria 7, 8, 9).
 use mathlib.Core.Path.{_≡_, refl, sym, _∙_, ap, subst}
-use Rattle.criteria.specs.Design.{Design, State, StateOf, Inside, Admitted, mapped}
+use Rattle.criteria.specs.Design.{Design, State, StateOf, InvariantState, Admitted, mapped}
 use Rattle.criteria.specs.Step.{Label, Step, Visible, FocusPoint, nextState}
 use Rattle.criteria.specs.Criteria.{Criteria, Partner}
 use Rattle.criteria.specs.Bisimilar.{Answer, Reply, BranchingBisimulation, Promised}
@@ -10,7 +10,7 @@ use Rattle.criteria.proofs.Runs.{step-inside, internal-inside, internal
 
 -- the relation: s is inside, and t is its mapped state
 pub record Related (d : Design) (s t : State) : Type 0 where
-  pub inside : Inside d s
+  pub inside : InvariantState d s
   pub is-mapped : mapped d s ≡ t
 
 -- a step of the implementation from s with the label l, to a state related to t′
@@ -19,9 +19,9 @@ pub record AtOnce (d : Design) (l : Label) (s t′ : State) : Type 0 where
   pub step : Step (d .impl) l s to
   pub related : Related d to t′
 
-module _ (d : Design) (a : Admitted d) (others : (s : State) → Inside d s → Criteria d s) where
+module _ (d : Design) (a : Admitted d) (others : (s : State) → InvariantState d s → Criteria d s) where
   -- criteria 6, 8, 9: a visible step of s is answered by the mapped state
-  answer : (s s′ : State) (l : Label) → Inside d s → Visible (d .impl) l s s′ → Answer d (Related d) l (mapped d s) s′
+  answer : (s s′ : State) (l : Label) → InvariantState d s → Visible (d .impl) l s s′ → Answer d (Related d) l (mapped d s) s′
   answer s s′ l i v =
       let st = v .step in
       let c = others s i in
@@ -46,7 +46,7 @@ module _ (d : Design) (a : Admitted d) (others : (s : State) → Inside d s → 
       }
 
   -- criteria 7, 8, 9: at a focus point a step of the mapped state is answered at once
-  reply-at : (s t′ : State) (l : Label) → Inside d s → FocusPoint d s → Step (d .spec) l (mapped d s) t′ → AtOnce d l s t′
+  reply-at : (s t′ : State) (l : Label) → InvariantState d s → FocusPoint d s → Step (d .spec) l (mapped d s) t′ → AtOnce d l s t′
   reply-at s t′ l i focus st =
       let c = others s i in
       let p = c .seventh (st .at) (st .row) (st .sum) (st .is-row) focus (st .enabled) in
@@ -70,7 +70,7 @@ module _ (d : Design) (a : Admitted d) (others : (s : State) → Inside d s → 
       }
 
   -- and elsewhere after a run to a focus point, which has the same mapped state
-  reply : (s t′ : State) (l : Label) → Inside d s → Step (d .spec) l (mapped d s) t′ → Reply d (Related d) l s (mapped d s) t′
+  reply : (s t′ : State) (l : Label) → InvariantState d s → Step (d .spec) l (mapped d s) t′ → Reply d (Related d) l s (mapped d s) t′
   reply s t′ l i st =
       let f = reaches d others s i in
       let r = along d others s (f .end) (f .length) i (f .run) in
@@ -94,7 +94,7 @@ module _ (d : Design) (a : Admitted d) (others : (s : State) → Inside d s → 
     back = λ s t t′ l r st. subst (λ u. Reply d (Related d) l s u t′) (r .is-mapped) (reply s t′ l (r .inside) (subst (λ u. Step (d .spec) l u t′) (sym (r .is-mapped)) st));
   }
 
-  pub promised : (s : State) → Inside d s → Promised d s
+  pub promised : (s : State) → InvariantState d s → Promised d s
   promised s i = record {
     bisimilar = record { relation = Related d; is-bisimulation = bisimulation; relates = record { inside = i; is-mapped = refl } };
     runs = run-kept d others s i;

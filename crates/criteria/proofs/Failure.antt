@@ -11,13 +11,6 @@ use Rattle.foundation.proofs.Lowest.{Turns}
 use Rattle.criteria.specs.Design.{Design}
 use Rattle.criteria.specs.Failure.{Failure, stage, turn, startFailure, failureAt}
 
--- a failure's turn says which failure it is
-pub failure-turns : Turns turn
-failure-turns = record { same-length = λ x y. refl; tells = tells }
-  where
-    tells : (x y : Failure) → turn x ≡ turn y → x ≡ y
-    tells x y h = λ i. record { state = getD (h i) 1 0; criterion = getD (h i) 2 0; row = getD (h i) 3 0; sum = getD (h i) 4 0 }
-
 pub after-start : (x : Failure) → x .criterion ≢ 1 → stage x ≡ 1
 after-start x n = rw (ne-eqb (x .criterion) 1 n)
 
@@ -57,3 +50,10 @@ module _ (n m : ℕ) (x y : Place) (p : x .criterion ≢ 1) (q : y .criterion �
 pub start-lowest : (d : Design) (n : ℕ) (x : Place) → x .criterion ≢ 1 → Lower (turn (failureAt n x)) (turn (startFailure d)) → ⊥
 start-lowest d n x p (inl l) = let e = after-start (failureAt n x) p in omega arith
 start-lowest d n x p (inr (s, l)) = let e = after-start (failureAt n x) p in omega arith
+
+-- a failure's turn says which failure it is
+pub failure-turns : Turns turn
+failure-turns = record { same-length = λ x y. refl; tells = tells }
+  where
+    tells : (x y : Failure) → turn x ≡ turn y → x ≡ y
+    tells x y h = λ i. record { state = getD (h i) 1 0; criterion = getD (h i) 2 0; row = getD (h i) 3 0; sum = getD (h i) 4 0 }

@@ -3,7 +3,7 @@
 use mathlib.Core.Path.{_≡_}
 use Prim.Native.Nat.{ℕ, _≤_}
 use Rattle.foundation.specs.Nth.{Nth}
-use Rattle.criteria.specs.Design.{Design, State, StateOf, InSize, Inside, mapped, measureAt, initialState}
+use Rattle.criteria.specs.Design.{Design, State, StateOf, InSize, InvariantState, mapped, measureAt, initialState}
 use Rattle.criteria.specs.Step.{Label, Step, Internal, Visible, FocusPoint, Chain, Run, statesOf, CantGoOn}
 
 -- "there is a step from t with the same label, and the two lead to related states": s′ is where the implementation's step led
@@ -49,7 +49,7 @@ pub record RunKept (d : Design) {s s′ : State} {n : ℕ} (run : Run d s n s′
   -- "has at most as many steps as the state's measure"
   pub at-most : n ≤ measureAt d s
   -- "and stays where the invariant holds and the mapped state is the same": so is each state u of the run
-  pub stays : (k : ℕ) (u : State) → Nth (statesOf run) k u → Inside d u × (mapped d u ≡ mapped d s)
+  pub stays : (k : ℕ) (u : State) → Nth (statesOf run) k u → InvariantState d u × (mapped d u ≡ mapped d s)
   -- "a run that can't go on has stopped at a focus point"
   pub stopped : CantGoOn d s′ → FocusPoint d s′
 
@@ -63,7 +63,7 @@ pub record Promised (d : Design) (s : State) : Type 1 where
 -- of a design
 pub record Demand3 (d : Design) : Type 1 where
   -- "every implementation state where its invariant holds"
-  pub each : (s : State) → Inside d s → Promised d s
+  pub each : (s : State) → InvariantState d s → Promised d s
   -- "the initial one among them", and its mapped state is the specification's initial one
-  pub initial-among : Inside d (initialState (d .impl))
+  pub initial-among : InvariantState d (initialState (d .impl))
   pub initial-mapped : mapped d (initialState (d .impl)) ≡ initialState (d .spec)

@@ -4,7 +4,7 @@
 -- and `Meets` for which states.
 use mathlib.Core.Path.{_≡_}
 use Prim.Native.Nat.{ℕ, _<_}
-use Rattle.criteria.specs.Design.{Design, Process, Row, State, RowIs, InSize, Inside, Invariant, mapped, measureAt, initialState}
+use Rattle.criteria.specs.Design.{Design, Process, Row, State, RowIs, InSize, InvariantState, Invariant, mapped, measureAt, initialState}
 use Rattle.criteria.specs.Step.{Enabled, InternalRow, VisibleRow, FocusPoint, ActionEnabled, nextState, dataNumber}
 
 -- 1. "The invariant holds in the initial state, whose mapping is the specification's initial state." (ours: the start)
@@ -19,7 +19,7 @@ Criterion2 d s = InSize (d .spec) (mapped d s)
 -- 3. "Each enabled row leads inside the kind 1 sizes to a state where the invariant holds." (ours: the invariant; 004, definition
 -- 2.5: b(d,e) and I(d) → I(g(d,e)))
 abbrev pub Criterion3 : Design → State → Row → ℕ → Type 0
-Criterion3 d s r e = Enabled r s e → Inside d (nextState r s e)
+Criterion3 d s r e = Enabled r s e → InvariantState d (nextState r s e)
 
 -- 4. "An enabled internal row keeps the mapping (source 004, criterion 2)." b(d,e) → h(d) = h(g(d,e)), for the internal action
 abbrev pub Criterion4 : Design → State → Row → ℕ → Type 0
@@ -72,4 +72,4 @@ pub record Criteria (d : Design) (s : State) : Type 0 where
 -- all nine: "the start's in the initial state, the others in every state where the invariant holds" (00, demand 2)
 pub record Meets (d : Design) : Type 0 where
   pub start : Criterion1 d
-  pub others : (s : State) → Inside d s → Criteria d s
+  pub others : (s : State) → InvariantState d s → Criteria d s

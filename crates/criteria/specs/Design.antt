@@ -84,17 +84,17 @@ abbrev pub measureAt : Design → State → ℕ
 measureAt d s = evalV (d .measure) s 0
 
 -- an implementation state in which the invariant holds
-pub record Inside (d : Design) (s : State) : Type 0 where
+pub record InvariantState (d : Design) (s : State) : Type 0 where
   pub in-size : InSize (d .impl) s
   pub invariant : Invariant d s
 
 -- ---- what a text that is not turned down keeps of its numbers: fault 5, and that a field is at most 65,535
 
--- "sizes .. are at least 1 .., initial values below their size"
+-- "Sizes and spans are at least 1, .. initial values below their size."
 abbrev pub SizesFit : Process → Type 0
 SizesFit p = EachIs (p .parameters) (λ q. (q .size < 65536) × (q .initial < q .size))
 
--- "sizes and spans are at least 1, spans at most 256"
+-- "Sizes and spans are at least 1, spans at most 256"
 abbrev pub SpansFit : Process → Type 0
 SpansFit p = EachIs (p .rows) (λ r. (1 ≤ r .span) × (r .span ≤ 256))
 

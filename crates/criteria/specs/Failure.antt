@@ -6,7 +6,7 @@ use lib.Dec.{eqb}
 use Rattle.foundation.specs.Lowest.{Lowest}
 use Rattle.foundation.specs.Trial.{Place, place}
 use Rattle.terms.specs.Tree.{pick}
-use Rattle.criteria.specs.Design.{Design, Row, State, RowIs, Inside, initialState, stateNumber}
+use Rattle.criteria.specs.Design.{Design, Row, State, RowIs, InvariantState, initialState, stateNumber}
 use Rattle.criteria.specs.Criteria.{Criterion1, Criterion2, Criterion3, Criterion4, Criterion5, Criterion6, Criterion7, Criterion8, Criterion9}
 
 -- the state by its number
@@ -48,7 +48,7 @@ failureAt n x = record { criterion = x .criterion; state = n; row = x .row; sum 
 -- x is a failure of the design: of the start, or "for each state in which the invariant holds"
 pub data Fails (d : Design) : Failure → Type 0 where
   start : (Criterion1 d → ⊥) → Fails d (startFailure d)
-  at : {s : State} {x : Place} → Inside d s → FailsAt d s x → Fails d (failureAt (stateNumber d s) x)
+  at : {s : State} {x : Place} → InvariantState d s → FailsAt d s x → Fails d (failureAt (stateNumber d s) x)
 
 -- "a failed start, or else the lowest failing state, there the lowest criterion, then row, then sum value": it fails, and nothing
 -- that comes before it fails

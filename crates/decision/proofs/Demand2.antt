@@ -1,7 +1,6 @@
 -- Demand 2 of a design: the verdict that is computed is accepted exactly if all nine criteria hold, and names x exactly if x is the
 -- lowest failure. And one verdict only is so.
-use mathlib.Core.Path.{_≡_, refl, sym, _∙_, ap, subst}
-use mathlib.Core.Logic.{_↔_}
+use mathlib.Core.Path.{_≡_, refl, sym, _∙_, ap}
 use Rattle.foundation.specs.First.{Outcome, pass, fail}
 use Rattle.foundation.proofs.Lowest.{passes-exactly, fails-exactly}
 use Rattle.criteria.specs.Design.{Design, Admitted}

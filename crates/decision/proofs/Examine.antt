@@ -17,7 +17,7 @@ use Rattle.foundation.specs.Reflects.{Reflects, so, not-so}
 use Rattle.foundation.proofs.Lowest.{passes-exactly, fails-exactly, settled-same}
 use Rattle.foundation.proofs.Trial.{place-turns, trial-settled}
 use Rattle.foundation.proofs.Reflects.{says-no, is-not}
-use Rattle.criteria.specs.Design.{Design, Row, State, RowIs, Inside, Admitted, sizes, states}
+use Rattle.criteria.specs.Design.{Design, Row, State, RowIs, InvariantState, Admitted, sizes, states}
 use Rattle.criteria.specs.Criteria.{Criterion2, Criterion3, Criterion4, Criterion5, Criterion6, Criterion7, Criterion8, Criterion9, Criteria}
 use Rattle.criteria.specs.Failure.{Failure, failureAt, FailsAt, second, third, fourth, fifth, sixth, seventh, eighth, ninth}
 use Rattle.terms.specs.Tree.{pick}
@@ -171,11 +171,11 @@ module _ (d : Design) (a : Admitted d) (s : State) where
 
 -- what it comes to
 pub data Examined (d : Design) (n : ℕ) : Outcome Failure → Type 0 where
-  met : (Inside d (stateAt d n) → Criteria d (stateAt d n)) → Examined d n pass
-  unmet : {x : Place} → Inside d (stateAt d n) → Lowest placeTurn (FailsAt d (stateAt d n)) x → Examined d n (fail (failureAt n x))
+  met : (InvariantState d (stateAt d n) → Criteria d (stateAt d n)) → Examined d n pass
+  unmet : {x : Place} → InvariantState d (stateAt d n) → Lowest placeTurn (FailsAt d (stateAt d n)) x → Examined d n (fail (failureAt n x))
 
 module _ (d : Design) (a : Admitted d) (n : ℕ) (below : n < states d) where
-  searched : Inside d (stateAt d n) → (o : Outcome Place) → firstFailing d (stateAt d n) ≡ o → Examined d n (named n o)
+  searched : InvariantState d (stateAt d n) → (o : Outcome Place) → firstFailing d (stateAt d n) ≡ o → Examined d n (named n o)
   searched i pass h = met (λ _. state-passes d a (stateAt d n) .0 h)
   searched i (fail x) h = unmet i (state-fails d a (stateAt d n) x .0 h)
 
@@ -188,12 +188,12 @@ module _ (d : Design) (a : Admitted d) (n : ℕ) (below : n < states d) where
       go false h = met (λ i. absurd (true≢false (sym (i .invariant) ∙ h)))
 
   -- a state passes exactly if criteria 2 to 9 hold there or the invariant does not
-  pub examine-passes : (examine d n ≡ pass) ↔ (Inside d (stateAt d n) → Criteria d (stateAt d n))
+  pub examine-passes : (examine d n ≡ pass) ↔ (InvariantState d (stateAt d n) → Criteria d (stateAt d n))
   examine-passes = (λ h. of (subst (Examined d n) h examined), λ c. go (examine d n) examined c)
     where
-      of : Examined d n pass → Inside d (stateAt d n) → Criteria d (stateAt d n)
+      of : Examined d n pass → InvariantState d (stateAt d n) → Criteria d (stateAt d n)
       of (met f) = f
 
-      go : (o : Outcome Failure) → Examined d n o → (Inside d (stateAt d n) → Criteria d (stateAt d n)) → o ≡ pass
+      go : (o : Outcome Failure) → Examined d n o → (InvariantState d (stateAt d n) → Criteria d (stateAt d n)) → o ≡ pass
       go pass e c = refl
       go (fail x) (unmet {x = p} i l) c = absurd (none-fails d a (stateAt d n) (c i) p (l .fails))

@@ -9,12 +9,12 @@ use Rattle.foundation.specs.Radix.{sameB}
 use Rattle.foundation.specs.Reflects.{Reflects, so, not-so, _⇒_}
 use Rattle.foundation.proofs.Reflects.{by-value, by-eqb, by-ltb, by-below, by-same, by-not, by-and, by-if, by-iff}
 use Rattle.terms.specs.Tree.{evalF}
-use Rattle.criteria.specs.Design.{Design, Process, Row, State, RowIs, OneRowEach, Admitted, Inside, sizes, initialState, mapped, measureAt}
+use Rattle.criteria.specs.Design.{Design, Process, Row, State, RowIs, OneRowEach, Admitted, InvariantState, sizes, initialState, mapped, measureAt}
 use Rattle.criteria.specs.Step.{Enabled, FocusPoint, ActionEnabled, InternalRow, nextState, dataNumber}
 use Rattle.criteria.specs.Criteria.{Criterion1, Criterion2, Criterion3, Criterion4, Criterion5, Criterion6, Criterion7, Criterion8, Criterion9, Partner}
 use Rattle.criteria.specs.Rows.{rowAt, firstInternal}
 use Rattle.criteria.proofs.Rows.{pass-focus, fail-internal}
-use Rattle.decision.specs.Tests.{enabledB, internalB, invariantB, insideB, focusB, rowOf, partner, holds1, holds2, holds3, holds4, holds5, holds6, holds7, holds8, holds9}
+use Rattle.decision.specs.Tests.{enabledB, internalB, invariantB, invariantStateB, focusB, rowOf, partner, holds1, holds2, holds3, holds4, holds5, holds6, holds7, holds8, holds9}
 use Rattle.decision.proofs.Find.{Found, Missing, find, found-some, found-partner, found-only}
 
 -- ---- the parts
@@ -22,8 +22,8 @@ use Rattle.decision.proofs.Find.{Found, Missing, find, found-some, foun
 pub by-enabled : (r : Row) (s : State) (e : ℕ) → e < r .span → Reflects (Enabled r s e) (enabledB r s e)
 by-enabled r s e u = by-iff (λ h. record { in-span = u; condition = h }) (λ on. on .condition) (by-value (enabledB r s e))
 
-pub by-inside : (d : Design) (s : State) → Reflects (Inside d s) (insideB d s)
-by-inside d s =
+pub by-invariant-state : (d : Design) (s : State) → Reflects (InvariantState d s) (invariantStateB d s)
+by-invariant-state d s =
     by-iff (λ h. record { in-size = h .0; invariant = h .1 }) (λ h. (h .in-size, h .invariant))
     (by-and (by-below (sizes (d .impl)) s) (by-value (invariantB d s)))
 
@@ -88,7 +88,7 @@ module _ (d : Design) (a : Admitted d) (s : State) (k : ℕ) (r : Row) (e : ℕ)
   internal = by-eqb (r .action) 0
 
   pub by-3 : Reflects (Criterion3 d s r e) (holds3 d s r e)
-  by-3 = by-if _ on (λ _. by-inside d (nextState r s e))
+  by-3 = by-if _ on (λ _. by-invariant-state d (nextState r s e))
 
   pub by-4 : Reflects (Criterion4 d s r e) (holds4 d s r e)
   by-4 = by-if _ on (λ _. by-if _ internal (λ _. by-same (mapped d s) (mapped d (nextState r s e))))

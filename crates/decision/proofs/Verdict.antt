@@ -3,7 +3,6 @@
 use mathlib.Core.Path.{_≡_, refl, sym, _∙_, ap, subst}
 use mathlib.Core.Logic.{_↔_}
 use mathlib.Core.Bool.{Bool}
-use mathlib.Core.List.{List}
 use Prim.Native.Nat.{ℕ, _<_, zero-le}
 use native.Mathlib.Omega.{arith}
 use Rattle.foundation.specs.First.{Outcome, pass, fail}
@@ -12,31 +11,38 @@ use Rattle.foundation.specs.Trial.{Place, placeTurn}
 use Rattle.foundation.specs.Reflects.{Reflects, so, not-so}
 use Rattle.foundation.proofs.Lowest.{lower-not-self}
 use Rattle.foundation.proofs.Radix.{number-below, values-of-number, number-of-values}
-use Rattle.foundation.proofs.Walk.{walk-all, walk-fails}
+use Rattle.foundation.proofs.Walk.{walk-all, all-walk, walk-fails}
 use Rattle.terms.specs.Tree.{pick}
-use Rattle.criteria.specs.Design.{Design, State, Inside, Admitted, sizes, states, stateNumber}
+use Rattle.criteria.specs.Design.{Design, State, InvariantState, Admitted, sizes, states, stateNumber}
 use Rattle.criteria.specs.Criteria.{Criteria, Criterion1, Meets}
 use Rattle.criteria.specs.Failure.{Failure, turn, FailsAt, startFailure, failureAt, Fails, start, at}
 use Rattle.criteria.proofs.Failure.{Earlier, by-state, by-place, earlier, start-lowest}
 use Rattle.decision.specs.Examine.{stateAt, examine}
 use Rattle.decision.specs.Verdict.{overStates, checked}
 use Rattle.decision.proofs.Tests.{by-1}
-use Rattle.decision.proofs.Examine.{Examined, met, unmet, examined, examine-passes, none-fails, all-hold, not-first}
+use Rattle.decision.proofs.Examine.{Examined, unmet, examined, examine-passes, none-fails, all-hold, not-first}
 
 module _ (d : Design) (a : Admitted d) where
   -- ---- states and their numbers
 
-  state-of-number : (s : State) → Inside d s → stateAt d (stateNumber d s) ≡ s
+  state-of-number : (s : State) → InvariantState d s → stateAt d (stateNumber d s) ≡ s
   state-of-number s i = values-of-number (sizes (d .impl)) s (i .in-size)
 
-  number-inside : (s : State) → Inside d s → stateNumber d s < states d
+  number-inside : (s : State) → InvariantState d s → stateNumber d s < states d
   number-inside s i = number-below (sizes (d .impl)) s (i .in-size)
 
   -- where the examination of its number passes, a state meets the criteria
-  passed : (s : State) → Inside d s → examine d (stateNumber d s) ≡ pass → Criteria d s
+  passed : (s : State) → InvariantState d s → examine d (stateNumber d s) ≡ pass → Criteria d s
   passed s i h =
       let e = state-of-number s i in
-      subst (Criteria d) e (examine-passes d a (stateNumber d s) (number-inside s i) .0 h (subst (Inside d) (sym e) i))
+      subst (Criteria d) e (examine-passes d a (stateNumber d s) (number-inside s i) .0 h (subst (InvariantState d) (sym e) i))
+
+  -- the walk to the end finds nothing exactly if criteria 2 to 9 hold in every state where the invariant holds
+  pub walk-accepts : (overStates d ≡ pass) ↔ ((s : State) → InvariantState d s → Criteria d s)
+  walk-accepts = (
+    λ h s i. passed s i (walk-all (examine d) (states d) 0 h (stateNumber d s) zero-le (let l = number-inside s i in omega arith)),
+    λ c. ap (λ w. w .outcome) (all-walk (examine d) (states d) 0 (λ j l u. examine-passes d a j (omega arith) .1 (c (stateAt d j)))),
+  )
 
   -- ---- no failure at all: all nine criteria hold
 
@@ -73,7 +79,7 @@ module _ (d : Design) (a : Admitted d) where
             m .none-before x k (subst (λ v. FailsAt d v x) here f)
 
     walked : (o : Outcome Failure) → overStates d ≡ o → Settled turn (Fails d) o
-    walked pass h = none (meets-exactly .0 (record { start = c; others = λ s i. passed s i (walk-all (examine d) (states d) 0 h (stateNumber d s) zero-le (let l = number-inside s i in omega arith)) }))
+    walked pass h = none (meets-exactly .0 (record { start = c; others = walk-accepts .0 h }))
     walked (fail x) h =
         let f = walk-fails (examine d) (states d) 0 x h in
         let inside : f .at < states d = omega arith in

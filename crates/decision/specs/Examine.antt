@@ -13,22 +13,11 @@ use Rattle.criteria.specs.Failure.{Failure, failureAt}
 use Rattle.criteria.specs.Rows.{rowAt}
 use Rattle.decision.specs.Tests.{invariantB, holds2, holds3, holds4, holds5, holds6, holds7, holds8, holds9}
 
--- what is tried for one criterion: rows, their sum values, and where it fails
-pub record Column : Type 0 where
-  pub rows : ℕ
-  pub sums : ℕ → ℕ
-  pub fails : ℕ → ℕ → Bool
-
-abbrev pub nothing : Column
-nothing = record { rows = 0; sums = λ _. 0; fails = λ _ _. false }
-
--- at row 0 and sum value 0
-abbrev pub once : Bool → Column
-once holds = record { rows = 1; sums = λ _. 1; fails = λ _ _. not holds }
-
--- at each row (from 1 on: row 0 has no sum value), for each sum value
-abbrev pub eachRow : List Row → (Row → ℕ → Bool) → Column
-eachRow rows holds = record { rows = suc (length rows); sums = λ k. rowAt rows k .span; fails = λ k e. not (holds (rowAt rows k) e) }
+-- what is tried for one criterion: nothing; a test at row 0 and sum value 0; a test at each row of a process, for each sum value
+pub data Column : Type 0 where
+  nothing : Column
+  once : Bool → Column
+  ofImpl ofSpec : (Row → ℕ → Bool) → Column
 
 -- the criteria by their numbers, from 0
 abbrev pub columns : Design → State → List Column
@@ -36,20 +25,46 @@ columns d s =
     nothing
     ∷ nothing
     ∷ once (holds2 d s)
-    ∷ eachRow (d .impl .rows) (holds3 d s)
-    ∷ eachRow (d .impl .rows) (holds4 d s)
-    ∷ eachRow (d .impl .rows) (holds5 d s)
-    ∷ eachRow (d .impl .rows) (holds6 d s)
-    ∷ eachRow (d .spec .rows) (holds7 d s)
-    ∷ eachRow (d .impl .rows) (holds8 d s)
-    ∷ eachRow (d .impl .rows) (holds9 d s)
+    ∷ ofImpl (holds3 d s)
+    ∷ ofImpl (holds4 d s)
+    ∷ ofImpl (holds5 d s)
+    ∷ ofImpl (holds6 d s)
+    ∷ ofSpec (holds7 d s)
+    ∷ ofImpl (holds8 d s)
+    ∷ ofImpl (holds9 d s)
     ∷ []
 
 abbrev pub column : Design → State → ℕ → Column
 column d s c = getD (columns d s) c nothing
 
+-- the numbers of its rows are below this (rows count from 1, and row 0 has no sum value)
+abbrev pub rowsIn : Design → Column → ℕ
+rowsIn d nothing = 0
+rowsIn d (once holds) = 1
+rowsIn d (ofImpl holds) = suc (length (d .impl .rows))
+rowsIn d (ofSpec holds) = suc (length (d .spec .rows))
+
+-- and the sum values of row k below this
+abbrev pub sumsIn : Design → Column → ℕ → ℕ
+sumsIn d nothing k = 0
+sumsIn d (once holds) k = 1
+sumsIn d (ofImpl holds) k = rowAt (d .impl .rows) k .span
+sumsIn d (ofSpec holds) k = rowAt (d .spec .rows) k .span
+
+-- it fails there
+abbrev pub failsIn : Design → Column → ℕ → ℕ → Bool
+failsIn d nothing k e = false
+failsIn d (once holds) k e = not holds
+failsIn d (ofImpl holds) k e = not (holds (rowAt (d .impl .rows) k) e)
+failsIn d (ofSpec holds) k e = not (holds (rowAt (d .spec .rows) k) e)
+
 abbrev pub trial : Design → State → Trial
-trial d s = record { criteria = 10; rows = λ c. column d s c .rows; sums = λ c. column d s c .sums; test = λ c. column d s c .fails }
+trial d s = record {
+  criteria = 10;
+  rows = λ c. rowsIn d (column d s c);
+  sums = λ c k. sumsIn d (column d s c) k;
+  test = λ c k e. failsIn d (column d s c) k e;
+}
 
 -- the lowest place that fails at a state
 abbrev pub firstFailing : Design → State → Outcome Place

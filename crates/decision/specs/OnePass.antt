@@ -1,35 +1,55 @@
 -- The examination of a state in one pass over the implementation's rows and one over the specification's: each row and sum value is
 -- looked at once, and the lowest failure so far is kept. It finds what `firstFailing` finds (proofs/OnePass).
-use mathlib.Core.Bool.{Bool, true, not}
-use mathlib.Core.List.{List, [], _∷_}
+use mathlib.Core.Bool.{Bool, false, not}
 use Prim.Native.Nat.{ℕ, suc}
-use lib.ListN.{length, getD}
+use lib.ListN.{length}
 use Rattle.foundation.specs.First.{Outcome, failIf}
 use Rattle.foundation.specs.Trial.{Place, place}
 use Rattle.foundation.specs.OnePass.{Sweep, overRows}
-use Rattle.criteria.specs.Design.{Design, Row, State}
+use Rattle.criteria.specs.Design.{Design, State}
 use Rattle.criteria.specs.Rows.{rowAt}
-use Rattle.decision.specs.Tests.{holds2, holds3, holds4, holds5, holds6, holds7, holds8, holds9}
+use Rattle.decision.specs.Tests.{holds2}
+use Rattle.decision.specs.Examine.{Column, nothing, once, ofImpl, ofSpec, column, failsIn}
 
-abbrev pub Test : Type 0
-Test = Row → ℕ → Bool
+-- a criterion that is tried once fails
+abbrev pub failsOnce : Design → Column → ℕ → ℕ → Bool
+failsOnce d nothing k e = false
+failsOnce d (once holds) k e = failsIn d (once holds) k e
+failsOnce d (ofImpl holds) k e = false
+failsOnce d (ofSpec holds) k e = false
 
-abbrev pub idle : Test
-idle r e = true
+-- one that is tried at the rows of the implementation
+abbrev pub failsImpl : Design → Column → ℕ → ℕ → Bool
+failsImpl d nothing k e = false
+failsImpl d (once holds) k e = false
+failsImpl d (ofImpl holds) k e = failsIn d (ofImpl holds) k e
+failsImpl d (ofSpec holds) k e = false
 
-abbrev pub sweepOf : List Row → List Test → Sweep
-sweepOf rows holds = record {
-  criteria = 10;
-  rows = suc (length rows);
-  sums = λ k. rowAt rows k .span;
-  test = λ c k e. not (getD holds c idle (rowAt rows k) e);
-}
+-- at those of the specification
+abbrev pub failsSpec : Design → Column → ℕ → ℕ → Bool
+failsSpec d nothing k e = false
+failsSpec d (once holds) k e = false
+failsSpec d (ofImpl holds) k e = false
+failsSpec d (ofSpec holds) k e = failsIn d (ofSpec holds) k e
+
+abbrev pub onceSweep : Design → State → Sweep
+onceSweep d s = record { criteria = 10; rows = 1; sums = λ _. 1; test = λ c k e. failsOnce d (column d s c) k e }
 
 abbrev pub implSweep : Design → State → Sweep
-implSweep d s = sweepOf (d .impl .rows) (idle ∷ idle ∷ idle ∷ holds3 d s ∷ holds4 d s ∷ holds5 d s ∷ holds6 d s ∷ idle ∷ holds8 d s ∷ holds9 d s ∷ [])
+implSweep d s = record {
+  criteria = 10;
+  rows = suc (length (d .impl .rows));
+  sums = λ k. rowAt (d .impl .rows) k .span;
+  test = λ c k e. failsImpl d (column d s c) k e;
+}
 
 abbrev pub specSweep : Design → State → Sweep
-specSweep d s = sweepOf (d .spec .rows) (idle ∷ idle ∷ idle ∷ idle ∷ idle ∷ idle ∷ idle ∷ holds7 d s ∷ idle ∷ idle ∷ [])
+specSweep d s = record {
+  criteria = 10;
+  rows = suc (length (d .spec .rows));
+  sums = λ k. rowAt (d .spec .rows) k .span;
+  test = λ c k e. failsSpec d (column d s c) k e;
+}
 
 abbrev pub onePass : Design → State → Outcome Place
 onePass d s =

@@ -22,8 +22,8 @@ internalB r = eqb (r .action) 0
 abbrev pub invariantB : Design → State → Bool
 invariantB d s = evalF (d .invariant) s 0
 
-abbrev pub insideB : Design → State → Bool
-insideB d s = belowB (sizes (d .impl)) s && invariantB d s
+abbrev pub invariantStateB : Design → State → Bool
+invariantStateB d s = belowB (sizes (d .impl)) s && invariantB d s
 
 abbrev pub focusB : Design → State → Bool
 focusB d s = passes (firstInternal d s)
@@ -48,7 +48,7 @@ abbrev pub holds2 : Design → State → Bool
 holds2 d s = belowB (sizes (d .spec)) (mapped d s)
 
 abbrev pub holds3 : Design → State → Row → ℕ → Bool
-holds3 d s r e = enabledB r s e ⇒ insideB d (nextState r s e)
+holds3 d s r e = enabledB r s e ⇒ invariantStateB d (nextState r s e)
 
 abbrev pub holds4 : Design → State → Row → ℕ → Bool
 holds4 d s r e = enabledB r s e ⇒ internalB r ⇒ sameB (mapped d s) (mapped d (nextState r s e))

@@ -1,7 +1,7 @@
 -- Turns are ordered: of two of the same length one is lower, or they are equal. So there is one lowest failure at most, and an
 -- outcome that is settled is the only one.
 use mathlib.Core.Path.{_≡_, refl, sym, _∙_, ap, subst}
-use mathlib.Core.Logic.{_⊎_, inl, inr, _↔_}
+use mathlib.Core.Logic.{inl, inr, _↔_}
 use mathlib.Core.List.{List, [], _∷_}
 use Prim.Native.Nat.{ℕ, _<_}
 use native.Mathlib.Omega.{arith}

@@ -5,7 +5,7 @@ use Prim.Native.Nat.{ℕ, zero, suc, _+_, _*_, _/_, _%_, _<_}
 use native.Mathlib.Omega.{arith}
 use native.Mathlib.Nat.{div-add-mod', mod-lt, div-lt-iff-lt-mul, mul-zero, mul-comm, not-suc-le-zero, mod-eq-of-lt, div-one, div-div-eq-div-mul}
 use lib.Arith.{digits-lt, digits-div, digits-mod, mod-mul}
-use Rattle.foundation.specs.Radix.{Below, product, numberOf, valuesOf, numberFrom, splitOf}
+use Rattle.foundation.specs.Radix.{Below, product, numberOf, valuesOf, RadixLaw, numberFrom, splitOf}
 
 pub number-below : (zs vs : List ℕ) → Below zs vs → numberOf zs vs < product zs
 unfolding numberOf
@@ -39,6 +39,9 @@ unfolding numberOf valuesOf
 number-of-values [] n l = omega arith
 number-of-values (z ∷ zs) n l =
     rw (number-of-values zs (n % product zs) (mod-lt n (positive n z (product zs) l))) (div-add-mod' n (product zs))
+
+pub radix-law : (zs : List ℕ) → RadixLaw zs
+radix-law zs = record { number-below = number-below zs; values-below = values-below zs; values-of-number = values-of-number zs; number-of-values = number-of-values zs }
 
 -- so the number says which values they are
 pub same-number : (zs vs ws : List ℕ) → Below zs vs → Below zs ws → numberOf zs vs ≡ numberOf zs ws → vs ≡ ws

@@ -1,9 +1,8 @@
 -- The search at a state is settled: it finds the lowest place that fails, or there is none. So it says exactly which place is the
 -- lowest, and passes exactly if no place fails, in whatever order that is asked.
-use mathlib.Core.Path.{_≡_, refl, sym, _∙_, ap, subst}
+use mathlib.Core.Path.{_≡_, refl, sym, _∙_, subst}
 use mathlib.Core.Logic.{_↔_, inl, inr}
 use mathlib.Core.Bool.{Bool, true, false, not, true≢false}
-use mathlib.Core.List.{List, [], _∷_}
 use Prim.Native.Nat.{ℕ, _<_, zero-le}
 use native.Mathlib.Omega.{arith}
 use lib.ListN.{getD}
@@ -12,13 +11,6 @@ use Rattle.foundation.specs.Lowest.{Lower, Lowest, Settled, none, lowest
 use Rattle.foundation.specs.Trial.{Place, place, placeTurn, Trial, FailsIn, firstPlace, inCriterion, firstOf}
 use Rattle.foundation.proofs.First.{failIf-pass, failIf-fail, passes-failIf, first-pass, first-fail, first-alike, passes-all, all-alike, FirstAt}
 use Rattle.foundation.proofs.Lowest.{Turns, passes-exactly, fails-exactly}
-
--- a place's turn says which place it is
-pub place-turns : Turns placeTurn
-place-turns = record { same-length = λ x y. refl; tells = tells }
-  where
-    tells : (x y : Place) → placeTurn x ≡ placeTurn y → x ≡ y
-    tells x y h = λ i. record { criterion = getD (h i) 0 0; row = getD (h i) 1 0; sum = getD (h i) 2 0 }
 
 -- ---- rows and sum values
 
@@ -115,9 +107,19 @@ module _ (t : Trial) where
       go pass h = none (no-failure h)
       go (fail x) h = lowest (lowest-failure x h)
 
+-- ---- so the search says exactly what fails
+
+-- a place's turn says which place it is
+pub place-turns : Turns placeTurn
+place-turns = record { same-length = λ x y. refl; tells = tells }
+  where
+    tells : (x y : Place) → placeTurn x ≡ placeTurn y → x ≡ y
+    tells x y h = λ i. record { criterion = getD (h i) 0 0; row = getD (h i) 1 0; sum = getD (h i) 2 0 }
+
+module _ (t : Trial) where
   -- no failure exactly if every test holds
   pub trial-passes : (firstOf t ≡ pass) ↔ ((x : Place) → FailsIn t x → ⊥)
-  trial-passes = passes-exactly placeTurn place-turns (FailsIn t) trial-settled
+  trial-passes = passes-exactly placeTurn place-turns (FailsIn t) (trial-settled t)
 
   pub trial-fails : (x : Place) → (firstOf t ≡ fail x) ↔ Lowest placeTurn (FailsIn t) x
-  trial-fails = fails-exactly placeTurn place-turns (FailsIn t) trial-settled
+  trial-fails = fails-exactly placeTurn place-turns (FailsIn t) (trial-settled t)

@@ -8,10 +8,11 @@ use Rattle.foundation.specs.Nth.{EachIs}
 use Rattle.foundation.proofs.Nth.{nth-nil, nth-cons}
 use Rattle.foundation.specs.Radix.{valuesOf, numberOf}
 use Rattle.foundation.specs.Trial.{place}
-use Rattle.foundation.specs.Walk.{Walked, walk, pieces}
+use Rattle.foundation.specs.Walk.{Walked, walk}
 use Rattle.foundation.proofs.Reflects.{says-yes}
 use Rattle.terms.specs.Tree.{evalV}
 use Rattle.criteria.specs.Design.{Design, Admitted}
+use Rattle.criteria.specs.Criteria.{Meets}
 use Rattle.criteria.specs.Failure.{Failure, failureAt}
 use Rattle.criteria.specs.Verdict.{Verdict, accepted, reportOf, Demand2}
 use Rattle.criteria.specs.Bisimilar.{Demand3}
@@ -74,7 +75,11 @@ given-accepted : (admittedB given ≡ true) × (verdictOf given ≡ accepted)
 unfolding checked examine walk firstIn valuesOf rowFrom evalV
 given-accepted = (refl, refl)
 
+given-admitted : Admitted given
+given-admitted = says-yes (by-admitted given) (given-accepted .0)
+
+pub given-meets : Meets given
+given-meets = demand2 given given-admitted .accepts .0 (given-accepted .1)
+
 pub given-demand3 : Demand3 given
-given-demand3 =
-    let a = says-yes (by-admitted given) (given-accepted .0) in
-    demand3 given a (demand2 given a .accepts .0 (given-accepted .1))
+given-demand3 = demand3 given given-admitted given-meets

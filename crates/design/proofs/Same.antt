@@ -1,0 +1,270 @@
+-- The design that a desk's arrays hold is that of the lines put there, where these have no fault 4 and no fault 6 (`design-held`).
+use Prim.Native.Nat.{ℕ, zero, suc, _+_, _-_, _≤_, _<_}
+use mathlib.Core.Path.{_≡_, refl, sym, ap, _∙_}
+use mathlib.Core.Logic.{_⊎_, inl, inr}
+use mathlib.Core.Bool.{Bool, true, false, cond}
+use mathlib.Core.List.{List, [], _∷_, _++_, map, append-assoc, List·Memᴰ, List·Memᴰ·head, List·Memᴰ·tail, List·Memᴰ·not-nil}
+use native.Mathlib.Omega.{arith}
+use borrow.Author.Tests.{eqb-true}
+use lib.Dec.{eqb}
+use lib.ListN.{length, getD, take, drop, length-append, List·getD-append}
+use lib.Seq.{take-append-seam, drop-append-seam, getD-append-add}
+use Rattle.reader.specs.Text.{countAll}
+use Rattle.criteria.specs.Design.{Design}
+use Rattle.design.specs.Line.{parameterOf, rowOf, invariantOf, mappingOf, measureOf}
+use Rattle.design.specs.Lines.{kindOf, ofKind, theLine, countOf, countsOf, designOf}
+use Rattle.design.specs.Faults.{IsParameter, IsRow, value, formula, Terms, nValues, LineTerms, of-implementation, of-specification, invariant, mapping, measure}
+use Rattle.design.specs.Loaded.{lineFrom, eachLine, fieldsHeld, startsHeld, designIn}
+use Rattle.design.proofs.Each.{EachLine, each-cons}
+use Rattle.design.proofs.Fault4.{Layout, in-order}
+use Rattle.design.proofs.Loaded.{each-same, each-map, line-then, later-fields}
+use Rattle.design.proofs.Terms.{parameter-same, row-same, invariant-same, mapping-same, measure-same}
+
+-- line j is one of the lines
+pub nth-among : (lines : List (List ℕ)) (j : ℕ) → j < length lines → List·Memᴰ (getD lines j []) lines
+nth-among [] j h = absurd (omega arith)
+nth-among (line ∷ lines) zero h = List·Memᴰ·head refl
+nth-among (line ∷ lines) (suc j) h = List·Memᴰ·tail (nth-among lines j (omega arith))
+
+-- ---- the lines of a kind are lines, and of that kind
+
+of-kind : (k : ℕ) (lines : List (List ℕ)) → EachLine (λ line. (kindOf line ≡ k) × List·Memᴰ line lines) (ofKind k lines)
+unfolding ofKind
+of-kind k [] = λ line m. absurd (List·Memᴰ·not-nil m)
+of-kind k (l ∷ lines) = go (eqb (kindOf l) k) refl (of-kind k lines)
+  where
+    go : (is : Bool) → eqb (kindOf l) k ≡ is → EachLine (λ line. (kindOf line ≡ k) × List·Memᴰ line lines) (ofKind k lines)
+        → EachLine (λ line. (kindOf line ≡ k) × List·Memᴰ line (l ∷ lines)) (cond is (l ∷ ofKind k lines) (ofKind k lines))
+    go true e ih =
+        each-cons (λ line. (kindOf line ≡ k) × List·Memᴰ line (l ∷ lines)) (eqb-true (kindOf l) k e, List·Memᴰ·head refl)
+        (λ line m. (ih line m .0, List·Memᴰ·tail (ih line m .1)))
+    go false e ih = λ line m. (ih line m .0, List·Memᴰ·tail (ih line m .1))
+
+-- ---- lines b that stand after lines a
+
+module _ (lines a b c : List (List ℕ)) (split : lines ≡ a ++ (b ++ c)) where
+  line-in : (i : ℕ) → i < length b → getD lines (length a + i) [] ≡ getD b i []
+  line-in i h = rw (split, getD-append-add a (b ++ c) i []) (List·getD-append b c [] i h)
+
+  inside-lines : length a + length b ≤ length lines
+  inside-lines = rw (split, length-append a (b ++ c), length-append b c) (omega arith)
+
+  part-of : take (length b) (drop (length a) lines) ≡ b
+  part-of = rw (split, drop-append-seam a (b ++ c)) (take-append-seam b c)
+
+-- ---- the design
+
+module _ (lines : List (List ℕ)) (few : length lines ≤ 83) (fit : countAll lines ≤ 4096) where
+  abbrev fields : List ℕ
+  fields = fieldsHeld lines
+
+  abbrev starts : List ℕ
+  starts = startsHeld lines
+
+  -- what lines b say, where it is the same with more behind them
+  block : {A : Type 0} (says : List ℕ → A) (a b c : List (List ℕ)) → lines ≡ a ++ (b ++ c)
+      → ((line : List ℕ) → List·Memᴰ line b → (more : List ℕ) → says (line ++ more) ≡ says line)
+      → eachLine says (lineFrom fields starts) (length b) (length a) ≡ map says b
+  block says a b c split same =
+      each-same says says (lineFrom fields starts) (λ j. getD lines j []) (length b) (length a) here
+      ∙ (each-map says lines (length b) (length a) (inside-lines lines a b c split) ∙ ap (map says) (part-of lines a b c split))
+    where
+      here : (j : ℕ) → length a ≤ j → j < length a + length b → says (lineFrom fields starts j) ≡ says (getD lines j [])
+      here j l u =
+          let h = inside-lines lines a b c split in
+          let i : ℕ = j - length a in
+          let at : length a + i ≡ j = omega arith in
+          let is : getD lines j [] ≡ getD b i [] = ap (λ k. getD lines k []) (sym at) ∙ line-in lines a b c split i (omega arith) in
+          rw (line-then lines few fit j (omega arith), is) (same (getD b i []) (nth-among b i (omega arith)) (later-fields lines j))
+
+  -- what the one line b says
+  single : {A : Type 0} (says : List ℕ → A) (a b c : List (List ℕ)) → lines ≡ a ++ (b ++ c) → length b ≡ 1
+      → ((line : List ℕ) → List·Memᴰ line b → (more : List ℕ) → says (line ++ more) ≡ says line)
+      → says (lineFrom fields starts (length a)) ≡ says (getD b 0 [])
+  single says a b c split one same =
+      let h = inside-lines lines a b c split in
+      let at : length a + 0 ≡ length a = omega arith in
+      let is : getD lines (length a) [] ≡ getD b 0 [] = ap (λ k. getD lines k []) (sym at) ∙ line-in lines a b c split 0 (omega arith) in
+      rw (line-then lines few fit (length a) (omega arith), is) (same (getD b 0 []) (nth-among b 0 (omega arith)) (later-fields lines (length a)))
+
+-- a line of kind 3 to 7 is made of its terms
+abbrev pub Made : List (List ℕ) → Type 0
+Made lines = EachLine (λ line. 3 ≤ kindOf line → LineTerms (countOf 1 lines) (countOf 2 lines) line (kindOf line)) lines
+
+-- what the terms of a line are, by its kind
+row-terms : {n m k : ℕ} {line : List ℕ} → LineTerms n m line k → k ≡ 3 → Terms n true (formula ∷ value ∷ nValues n) (drop 3 line)
+row-terms (of-implementation t) e = t
+row-terms (of-specification t) e = absurd (omega arith)
+row-terms (invariant t) e = absurd (omega arith)
+row-terms (mapping t) e = absurd (omega arith)
+row-terms (measure t) e = absurd (omega arith)
+
+spec-terms : {n m k : ℕ} {line : List ℕ} → LineTerms n m line k → k ≡ 4 → Terms m true (formula ∷ value ∷ nValues m) (drop 3 line)
+spec-terms (of-implementation t) e = absurd (omega arith)
+spec-terms (of-specification t) e = t
+spec-terms (invariant t) e = absurd (omega arith)
+spec-terms (mapping t) e = absurd (omega arith)
+spec-terms (measure t) e = absurd (omega arith)
+
+invariant-terms : {n m k : ℕ} {line : List ℕ} → LineTerms n m line k → k ≡ 5 → Terms n false (formula ∷ []) (drop 1 line)
+invariant-terms (of-implementation t) e = absurd (omega arith)
+invariant-terms (of-specification t) e = absurd (omega arith)
+invariant-terms (invariant t) e = t
+invariant-terms (mapping t) e = absurd (omega arith)
+invariant-terms (measure t) e = absurd (omega arith)
+
+mapping-terms : {n m k : ℕ} {line : List ℕ} → LineTerms n m line k → k ≡ 6 → Terms n false (nValues m) (drop 1 line)
+mapping-terms (of-implementation t) e = absurd (omega arith)
+mapping-terms (of-specification t) e = absurd (omega arith)
+mapping-terms (invariant t) e = absurd (omega arith)
+mapping-terms (mapping t) e = t
+mapping-terms (measure t) e = absurd (omega arith)
+
+measure-terms : {n m k : ℕ} {line : List ℕ} → LineTerms n m line k → k ≡ 7 → Terms n false (value ∷ []) (drop 1 line)
+measure-terms (of-implementation t) e = absurd (omega arith)
+measure-terms (of-specification t) e = absurd (omega arith)
+measure-terms (invariant t) e = absurd (omega arith)
+measure-terms (mapping t) e = absurd (omega arith)
+measure-terms (measure t) e = t
+
+module _ (lines : List (List ℕ)) (few : length lines ≤ 83) (fit : countAll lines ≤ 4096) (lay : Layout lines) where
+  -- the lines of each kind, and those before them
+  abbrev k : ℕ → List (List ℕ)
+  k i = ofKind i lines
+
+  abbrev before3 : List (List ℕ)
+  before3 = k 1 ++ k 2
+
+  abbrev before4 : List (List ℕ)
+  before4 = before3 ++ k 3
+
+  abbrev before5 : List (List ℕ)
+  before5 = before4 ++ k 4
+
+  abbrev before6 : List (List ℕ)
+  before6 = before5 ++ k 5
+
+  abbrev before7 : List (List ℕ)
+  before7 = before6 ++ k 6
+
+  split2 : lines ≡ k 1 ++ (k 2 ++ (k 3 ++ (k 4 ++ (k 5 ++ (k 6 ++ (k 7 ++ []))))))
+  split2 = sym (in-order (lay .kinds))
+
+  split3 : lines ≡ before3 ++ (k 3 ++ (k 4 ++ (k 5 ++ (k 6 ++ (k 7 ++ [])))))
+  split3 = split2 ∙ sym (append-assoc (k 1) (k 2) _)
+
+  split4 : lines ≡ before4 ++ (k 4 ++ (k 5 ++ (k 6 ++ (k 7 ++ []))))
+  split4 = split3 ∙ sym (append-assoc before3 (k 3) _)
+
+  split5 : lines ≡ before5 ++ (k 5 ++ (k 6 ++ (k 7 ++ [])))
+  split5 = split4 ∙ sym (append-assoc before4 (k 4) _)
+
+  split6 : lines ≡ before6 ++ (k 6 ++ (k 7 ++ []))
+  split6 = split5 ∙ sym (append-assoc before5 (k 5) _)
+
+  split7 : lines ≡ before7 ++ (k 7 ++ [])
+  split7 = split6 ∙ sym (append-assoc before6 (k 6) _)
+
+  -- of a line of kind i: it is a line, its fields are counted, it is made of its terms
+  terms-of : Made lines → (i : ℕ) (line : List ℕ) → 3 ≤ i → List·Memᴰ line (k i) → LineTerms (countOf 1 lines) (countOf 2 lines) line (kindOf line)
+  terms-of made i line h m = let o = of-kind i lines line m in made line (o .1) (rw (o .0) h)
+
+  kind-of : (i : ℕ) (line : List ℕ) → List·Memᴰ line (k i) → kindOf line ≡ i
+  kind-of i line m = of-kind i lines line m .0
+
+  -- its kind is not 0, so it has a field
+  some-field : (i : ℕ) (line : List ℕ) → 1 ≤ i → List·Memᴰ line (k i) → 1 ≤ length line
+  some-field i [] h m = let e = kind-of i [] m in absurd (omega arith)
+  some-field i (b ∷ line) h m = omega arith
+
+  parameters-same : (i : ℕ) → IsParameter i → (line : List ℕ) → List·Memᴰ line (k i) → (more : List ℕ) → parameterOf (line ++ more) ≡ parameterOf line
+  parameters-same i p line m more =
+      let o = of-kind i lines line m in
+      parameter-same line more (lay .lengths line (o .1) .0 (rw (o .0) p))
+
+  long-row : (i : ℕ) → IsRow i → (line : List ℕ) → List·Memᴰ line (k i) → 3 ≤ length line
+  long-row i r line m = let o = of-kind i lines line m in lay .lengths line (o .1) .1 (rw (o .0) r)
+
+  exactly-one : (n : ℕ) → (1 ≤ n) × (n ≤ 1) → n ≡ 1
+  exactly-one n h = let a = h .0 in let b = h .1 in omega arith
+
+  one5 : length (k 5) ≡ 1
+  one5 = exactly-one (length (k 5)) (lay .counts 5 (omega arith) (omega arith))
+
+  one6 : length (k 6) ≡ 1
+  one6 = exactly-one (length (k 6)) (lay .counts 6 (omega arith) (omega arith))
+
+  one7 : length (k 7) ≡ 1
+  one7 = exactly-one (length (k 7)) (lay .counts 7 (omega arith) (omega arith))
+
+  -- where the lines of a kind start
+  at3 : length before3 ≡ length (k 1) + length (k 2)
+  at3 = length-append (k 1) (k 2)
+
+  at4 : length before4 ≡ length (k 1) + length (k 2) + length (k 3)
+  at4 = length-append before3 (k 3) ∙ ap (λ n. n + length (k 3)) at3
+
+  at5 : length before5 ≡ length (k 1) + length (k 2) + length (k 3) + length (k 4)
+  at5 = length-append before4 (k 4) ∙ ap (λ n. n + length (k 4)) at4
+
+  at6 : length before6 ≡ length (k 1) + length (k 2) + length (k 3) + length (k 4) + 1
+  at6 = length-append before5 (k 5) ∙ rw (at5, one5)
+
+  at7 : length before7 ≡ length (k 1) + length (k 2) + length (k 3) + length (k 4) + 2
+  at7 = length-append before6 (k 6) ∙ rw (at6, one6) (omega arith)
+
+  abbrev line : ℕ → List ℕ
+  line i = lineFrom (fieldsHeld lines) (startsHeld lines) i
+
+  abbrev n : ℕ
+  n = countOf 1 lines
+
+  abbrev m : ℕ
+  m = countOf 2 lines
+
+  pub parameters1 : eachLine parameterOf line n 0 ≡ map parameterOf (k 1)
+  parameters1 = block lines few fit parameterOf [] (k 1) _ split2 (parameters-same 1 (inl refl))
+
+  parameters2 : eachLine parameterOf line m n ≡ map parameterOf (k 2)
+  parameters2 = block lines few fit parameterOf (k 1) (k 2) _ split2 (parameters-same 2 (inr refl))
+
+  rows3 : Made lines → eachLine (rowOf n) line (length (k 3)) (n + m) ≡ map (rowOf n) (k 3)
+  rows3 made =
+      ap (λ at. eachLine (rowOf n) line (length (k 3)) at) (sym at3)
+      ∙ block lines few fit (rowOf n) before3 (k 3) _ split3
+      (λ l h. row-same n l (long-row 3 (inl refl) l h) (row-terms (terms-of made 3 l (omega arith) h) (kind-of 3 l h)))
+
+  rows4 : Made lines → eachLine (rowOf m) line (length (k 4)) (n + m + length (k 3)) ≡ map (rowOf m) (k 4)
+  rows4 made =
+      ap (λ at. eachLine (rowOf m) line (length (k 4)) at) (sym at4)
+      ∙ block lines few fit (rowOf m) before4 (k 4) _ split4
+      (λ l h. row-same m l (long-row 4 (inr refl) l h) (spec-terms (terms-of made 4 l (omega arith) h) (kind-of 4 l h)))
+
+  line5 : Made lines → invariantOf (line (n + m + length (k 3) + length (k 4))) ≡ invariantOf (theLine 5 lines)
+  line5 made =
+      ap (λ at. invariantOf (line at)) (sym at5)
+      ∙ single lines few fit invariantOf before5 (k 5) _ split5 one5
+      (λ l h. invariant-same n l (some-field 5 l (omega arith) h) (invariant-terms (terms-of made 5 l (omega arith) h) (kind-of 5 l h)))
+
+  line6 : Made lines → mappingOf m (line (n + m + length (k 3) + length (k 4) + 1)) ≡ mappingOf m (theLine 6 lines)
+  line6 made =
+      ap (λ at. mappingOf m (line at)) (sym at6)
+      ∙ single lines few fit (mappingOf m) before6 (k 6) _ split6 one6
+      (λ l h. mapping-same n l (some-field 6 l (omega arith) h) m (mapping-terms (terms-of made 6 l (omega arith) h) (kind-of 6 l h)))
+
+  line7 : Made lines → measureOf (line (n + m + length (k 3) + length (k 4) + 2)) ≡ measureOf (theLine 7 lines)
+  line7 made =
+      ap (λ at. measureOf (line at)) (sym at7)
+      ∙ single lines few fit measureOf before7 (k 7) _ split7 one7
+      (λ l h. measure-same n l (some-field 7 l (omega arith) h) (measure-terms (terms-of made 7 l (omega arith) h) (kind-of 7 l h)))
+
+  -- the design that the arrays hold is that of the lines
+  pub design-held : Made lines → designIn (fieldsHeld lines) (startsHeld lines) (countsOf lines) ≡ designOf lines
+  unfolding designOf
+  design-held made i = record {
+    impl = record { parameters = parameters1 i; rows = rows3 made i };
+    spec = record { parameters = parameters2 i; rows = rows4 made i };
+    invariant = line5 made i;
+    mapping = line6 made i;
+    measure = line7 made i;
+  }

@@ -1,0 +1,148 @@
+-- The faults of a text (01, "Turned down by the input", 1 to 7), a definition for each; which is the lowest; and what a design text
+-- is. Faults 1 to 3 are of the text's columns (crate reader); 4 to 7 are of the lines' fields and of the design that they say. Each
+-- is a statement on its own: no order of looking for them is in here.
+use Prim.Native.Nat.{ℕ, zero, suc, _<_, _≤_}
+use mathlib.Core.Path.{_≡_}
+use mathlib.Core.Logic.{_≢_, _⊎_}
+use mathlib.Core.Bool.{Bool, true, false}
+use mathlib.Core.List.{List, [], _∷_, _++_, map, List·Memᴰ}
+use lib.ListN.{length, getD, drop}
+use Rattle.foundation.specs.Radix.{product}
+use Rattle.terms.specs.Tree.{Value, Formula, num, okV, okF}
+use Rattle.terms.specs.Depth.{depthV, depthF}
+use Rattle.terms.specs.Print.{printV, printF}
+use Rattle.reader.specs.Text.{fieldsByLine, Fault1, Fault2, Fault3}
+use Rattle.criteria.specs.Design.{Design, Process, Row, RowIs}
+use Rattle.design.specs.Lines.{kindOf, ofKind, countOf, designOf}
+
+-- the kinds of parameters and of rows
+abbrev pub IsParameter : ℕ → Type 0
+IsParameter k = (k ≡ 1) ⊎ (k ≡ 2)
+
+abbrev pub IsRow : ℕ → Type 0
+IsRow k = (k ≡ 3) ⊎ (k ≡ 4)
+
+-- ---- 4
+
+-- the column "lines" of the table of kinds: the fewest and the most of each kind, from 0 (which is none) to 7
+abbrev pub fewest : List ℕ
+fewest = 0 ∷ 1 ∷ 1 ∷ 0 ∷ 0 ∷ 1 ∷ 1 ∷ 1 ∷ []
+
+abbrev pub most : List ℕ
+most = 0 ∷ 8 ∷ 8 ∷ 32 ∷ 32 ∷ 1 ∷ 1 ∷ 1 ∷ []
+
+abbrev pub Allowed : ℕ → ℕ → Type 0
+Allowed k n = (getD fewest k 0 ≤ n) × (n ≤ getD most k 0)
+
+-- a line's kind is below that of the line before
+pub data Falls : List (List ℕ) → Type 0 where
+  here : {a b : List ℕ} {lines : List (List ℕ)} → kindOf b < kindOf a → Falls (a ∷ b ∷ lines)
+  later : {a : List ℕ} {lines : List (List ℕ)} → Falls lines → Falls (a ∷ lines)
+
+pub data Fault4 (lines : List (List ℕ)) : Type 0 where
+  -- "An unknown kind"
+  unknown : {line : List ℕ} → List·Memᴰ line lines → (kindOf line ≡ 0) ⊎ (7 < kindOf line) → Fault4 lines
+  -- "a falling kind"
+  falling : Falls lines → Fault4 lines
+  -- "a wrong count of lines of a kind"
+  wrong-count : {k : ℕ} → 1 ≤ k → k < 8 → (Allowed k (countOf k lines) → ⊥) → Fault4 lines
+  -- "a kind 1 or 2 line without exactly three fields"
+  not-three : {line : List ℕ} → List·Memᴰ line lines → IsParameter (kindOf line) → length line ≢ 3 → Fault4 lines
+  -- "a row line with fewer than three"
+  too-few : {line : List ℕ} → List·Memᴰ line lines → IsRow (kindOf line) → length line < 3 → Fault4 lines
+
+-- ---- 5. "A size, initial value, span or product of sizes out of bounds."
+
+abbrev pub sizeOf : List ℕ → ℕ
+sizeOf line = getD line 1 0
+
+pub data Fault5 (lines : List (List ℕ)) : Type 0 where
+  -- "Sizes and spans are at least 1"
+  size : {line : List ℕ} → List·Memᴰ line lines → IsParameter (kindOf line) → sizeOf line ≡ 0 → Fault5 lines
+  -- "initial values below their size"
+  initial : {line : List ℕ} → List·Memᴰ line lines → IsParameter (kindOf line) → sizeOf line ≤ getD line 2 0 → Fault5 lines
+  -- "spans at most 256"
+  span : {line : List ℕ} → List·Memᴰ line lines → IsRow (kindOf line) → (getD line 2 0 ≡ 0) ⊎ (256 < getD line 2 0) → Fault5 lines
+  -- "The product of the kind 1 sizes is at most 65,536"
+  states : 65536 < product (map sizeOf (ofKind 1 lines)) → Fault5 lines
+
+-- ---- 6. "A term with a wrong mark, a parameter that doesn't exist, a sum value outside a row, depth over 32, or a line that ends
+-- early or late." So a line is as it should be if it is its terms, one after the other, and nothing else.
+
+-- what a term is asked to be
+pub data Sort : Type 0 where
+  value formula : Sort
+
+-- fields are the terms of these sorts, of n parameters, in a row or not
+pub data Terms (n : ℕ) (row : Bool) : List Sort → List ℕ → Type 0 where
+  none : Terms n row [] []
+  then-value : {sorts : List Sort} {fields : List ℕ} (v : Value) → okV v n row ≡ true → depthV v ≤ 32 → Terms n row sorts fields
+      → Terms n row (value ∷ sorts) (printV v ++ fields)
+  then-formula : {sorts : List Sort} {fields : List ℕ} (f : Formula) → okF f n row ≡ true → depthF f ≤ 32 → Terms n row sorts fields
+      → Terms n row (formula ∷ sorts) (printF f ++ fields)
+
+-- n values
+abbrev pub nValues : ℕ → List Sort
+nValues zero = []
+nValues (suc n) = value ∷ nValues n
+
+-- what stands on a line after its numbers, where n lines are of kind 1 and m of kind 2
+pub data LineTerms (n m : ℕ) (line : List ℕ) : ℕ → Type 0 where
+  -- rows: "condition, data, one next value for each kind 1 line", or "the same with kind 2 lines"
+  of-implementation : Terms n true (formula ∷ value ∷ nValues n) (drop 3 line) → LineTerms n m line 3
+  of-specification : Terms m true (formula ∷ value ∷ nValues m) (drop 3 line) → LineTerms n m line 4
+  -- "parameter i .. of the row's process (the implementation's in kinds 5 to 7)"
+  invariant : Terms n false (formula ∷ []) (drop 1 line) → LineTerms n m line 5
+  mapping : Terms n false (nValues m) (drop 1 line) → LineTerms n m line 6
+  measure : Terms n false (value ∷ []) (drop 1 line) → LineTerms n m line 7
+
+-- a line of kind 3 to 7 that is not so
+pub data Fault6 (lines : List (List ℕ)) : Type 0 where
+  wrong-terms : {line : List ℕ} → List·Memᴰ line lines → 3 ≤ kindOf line
+      → (LineTerms (countOf 1 lines) (countOf 2 lines) line (kindOf line) → ⊥) → Fault6 lines
+
+-- ---- 7
+
+-- two rows of a process, of different numbers
+pub record TwoRows (p : Process) (r q : Row) : Type 0 where
+  pub number-r : ℕ
+  pub number-q : ℕ
+  pub is-r : RowIs (p .rows) number-r r
+  pub is-q : RowIs (p .rows) number-q q
+  pub apart : number-r ≢ number-q
+
+pub data Fault7 (d : Design) : Type 0 where
+  -- "A visible action in two rows of one process"
+  twice-impl : {r q : Row} → TwoRows (d .impl) r q → r .action ≢ 0 → r .action ≡ q .action → Fault7 d
+  twice-spec : {r q : Row} → TwoRows (d .spec) r q → r .action ≢ 0 → r .action ≡ q .action → Fault7 d
+  -- "action 0 in a kind 4 line"
+  internal-spec : {k : ℕ} {q : Row} → RowIs (d .spec .rows) k q → q .action ≡ 0 → Fault7 d
+  -- "action 0 with data other than `0 0`"
+  internal-data : {k : ℕ} {r : Row} → RowIs (d .impl .rows) k r → r .action ≡ 0 → r .carries ≢ num 0 → Fault7 d
+  -- "one action with different spans in the two processes"
+  spans-differ : {k j : ℕ} {r q : Row} → RowIs (d .impl .rows) k r → RowIs (d .spec .rows) j q → r .action ≡ q .action
+      → r .span ≢ q .span → Fault7 d
+
+-- ---- the faults of a text, and the lowest
+
+abbrev pub linesIn : List ℕ → List (List ℕ)
+linesIn text = fieldsByLine text
+
+-- fault number k is in the text
+pub data Fault (text : List ℕ) : ℕ → Type 0 where
+  first : Fault1 text → Fault text 1
+  second : Fault2 text → Fault text 2
+  third : Fault3 text → Fault text 3
+  fourth : Fault4 (linesIn text) → Fault text 4
+  fifth : Fault5 (linesIn text) → Fault text 5
+  sixth : Fault6 (linesIn text) → Fault text 6
+  seventh : Fault7 (designOf (linesIn text)) → Fault text 7
+
+-- "The lowest of 1 to 7 whose fault is anywhere in the text is given"
+pub record LowestFault (text : List ℕ) (k : ℕ) : Type 0 where
+  pub is : Fault text k
+  pub none-lower : (j : ℕ) → j < k → Fault text j → ⊥
+
+-- a design text has none of them; its design is `designOf (linesIn text)`
+abbrev pub DesignText : List ℕ → Type 0
+DesignText text = (k : ℕ) → Fault text k → ⊥

@@ -1,0 +1,5 @@
+pub mod Line
+pub mod Lines
+pub mod Faults
+pub mod Tests
+pub mod Loaded

@@ -1,0 +1,17 @@
+// What a text's lines say: the design, by its lines' fields and by a desk's arrays, and the faults 4 to 7. Definitions and laws;
+// the code that finds the faults and fills the arrays is in the crate loader.
+
+// How many lines of kinds 1, 2, 3 and 4 a text has. Lines of kinds 5, 6 and 7 follow them, one each.
+pub struct Counts {
+    pub kind1: usize,
+    pub kind2: usize,
+    pub kind3: usize,
+    pub kind4: usize,
+}
+
+// A text has at most 8 + 8 + 32 + 32 + 3 lines.
+pub const MAX_PARAMETERS: usize = 8;
+
+pub const MAX_ROWS: usize = 32;
+
+pub const MAX_LINES: usize = 83;

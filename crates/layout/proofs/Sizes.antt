@@ -1,0 +1,158 @@
+-- Laws of specs/Sizes: what fitting counts say, and the turns of the loops that multiply sizes and count up the initial state's number.
+-- A number that is cut off stays cut off whatever it is multiplied by, and by 0 it is 0 in either case: so cutting off at every turn
+-- is cutting off at the end.
+use mathlib.Core.Path.{_≡_, refl, sym, _∙_, ap}
+use mathlib.Core.Bool.{Bool, true, false, _&&_}
+use mathlib.Core.List.{List, [], _∷_}
+use Prim.Native.Nat.{ℕ, zero, suc, _+_, _-_, _*_, _≤_, _<_, min}
+use native.Mathlib.Numerals.{add-one}
+use native.Mathlib.Nat.{mul-zero, mul-assoc, le-mul-of-pos-right}
+use native.Mathlib.Decide.{decLt}
+use native.Mathlib.Omega.{arith}
+use borrow.Author.Tests.{leb-true}
+use lib.Dec.{leb}
+use lib.ListN.{getD}
+use Rattle.foundation.specs.Radix.{product, numberOf, numberFrom}
+use Rattle.terms.proofs.And.{and-left, and-right}
+use Rattle.criteria.specs.Design.{Parameter}
+use Rattle.design.specs.Loaded.{lineFrom, eachLine}
+use Rattle.design.specs.declared.Counts.{Counts}
+use Rattle.layout.specs.Sizes.{countsFit, Fit, parametersFrom, sizesOf, initialsOf, productUpTo, stateCountIn, numberUpTo, initialNumberIn}
+
+pub fit : (c : Counts) (b : Bool) → b ≡ countsFit c → b ≡ true → Fit c
+fit c b said so =
+    let k1 : Bool = leb (c .kind1) 8 in
+    let k2 : Bool = leb (c .kind2) 8 in
+    let k3 : Bool = leb (c .kind3) 32 in
+    let k4 : Bool = leb (c .kind4) 32 in
+    let a : k1 && (k2 && (k3 && k4)) ≡ true = sym said ∙ so in
+    let r = and-right k1 (k2 && (k3 && k4)) a in
+    let q = and-right k2 (k3 && k4) r in
+    record {
+      kind1 = leb-true (c .kind1) 8 (and-left k1 (k2 && (k3 && k4)) a);
+      kind2 = leb-true (c .kind2) 8 (and-left k2 (k3 && k4) r);
+      kind3 = leb-true (c .kind3) 32 (and-left k3 k4 q);
+      kind4 = leb-true (c .kind4) 32 (and-right k3 k4 q);
+    }
+
+-- what n - i lines from line i on say, one line at a time
+pub each-turn : {A : Type 0} (says : List ℕ → A) (line : ℕ → List ℕ) (n i : ℕ) → i < n
+    → eachLine says line (n - i) i ≡ says (line i) ∷ eachLine says line (n - (i + 1)) (i + 1)
+unfolding eachLine
+each-turn says line n i l = let e : n - i ≡ suc (n - (i + 1)) = omega arith in rw (e, add-one i)
+
+pub each-none : {A : Type 0} (says : List ℕ → A) (line : ℕ → List ℕ) (n i : ℕ) → n ≤ i → eachLine says line (n - i) i ≡ []
+unfolding eachLine
+each-none says line n i l = let e : n - i ≡ 0 = omega arith in rw e
+
+-- ---- cutting off
+
+cut-times : (a b c : ℕ) → min (min a c * b) c ≡ min (a * b) c
+cut-times a zero c = rw (mul-zero (min a c), mul-zero a)
+cut-times a (suc b) c = go (decLt c a)
+  where
+    go : Dec (c < a) → min (min a c * suc b) c ≡ min (a * suc b) c
+    go (no h) = let e : min a c ≡ a = omega arith in rw e
+    go (yes h) =
+        let e : min a c ≡ c = omega arith in
+        let p : c ≤ c * suc b = le-mul-of-pos-right c (omega arith) in
+        let q : a ≤ a * suc b = le-mul-of-pos-right a (omega arith) in
+        rw e (omega arith)
+
+cut-plus : (a x c : ℕ) → min (min a c + x) c ≡ min (a + x) c
+cut-plus a x c = omega arith
+
+-- the number of a list of initial values, cut off before or after
+module _ (c : ℕ) where
+  cut-once : (a z x : ℕ) → min (min a c * z + x) c ≡ min (a * z + x) c
+  cut-once a z x = sym (cut-plus (min a c * z) x c) ∙ ap (λ m. min (m + x) c) (cut-times a z c) ∙ cut-plus (a * z) x c
+
+  cut-from : (ps : List Parameter) (a : ℕ) → min (numberFrom (min a c) (sizesOf ps) (initialsOf ps)) c ≡ min (numberFrom a (sizesOf ps) (initialsOf ps)) c
+  unfolding numberFrom
+  cut-from [] a = omega arith
+  cut-from (p ∷ ps) a =
+      sym (cut-from ps (min a c * p .size + p .initial))
+      ∙ ap (λ m. min (numberFrom m (sizesOf ps) (initialsOf ps)) c) (cut-once a (p .size) (p .initial))
+      ∙ cut-from ps (a * p .size + p .initial)
+
+-- a number counted up from the first value on
+counted : (ps : List Parameter) (a : ℕ) → numberFrom a (sizesOf ps) (initialsOf ps) ≡ a * product (sizesOf ps) + numberOf (sizesOf ps) (initialsOf ps)
+unfolding numberFrom numberOf
+counted [] a = omega arith
+counted (p ∷ ps) a = counted ps (a * p .size + p .initial) ∙ omega arith
+
+-- ---- the turns
+
+module _ (f s : List ℕ) (n i : ℕ) where
+  -- what is left of the product, and of the number, from line i on
+  unfoldable pub productLeft : ℕ → ℕ
+  productLeft p = min (p * product (sizesOf (parametersFrom f s (n - i) i))) 65537
+
+  unfoldable pub numberLeft : ℕ → ℕ
+  numberLeft v = min (numberFrom v (sizesOf (parametersFrom f s (n - i) i)) (initialsOf (parametersFrom f s (n - i) i))) 65535
+
+pub product-starts : (f s : List ℕ) (n : ℕ) → productLeft f s n 0 1 ≡ productUpTo f s n
+unfolding productLeft productUpTo
+product-starts f s n = let e : n - 0 ≡ n = omega arith in rw e (omega arith)
+
+pub product-turns : (f s : List ℕ) (n i p z q : ℕ) → i < n → z ≡ getD (lineFrom f s i) 1 0 → q ≡ min (p * z + 0) 65537
+    → productLeft f s n i p ≡ productUpTo f s n → productLeft f s n (i + 1) q ≡ productUpTo f s n
+unfolding productLeft
+product-turns f s n i p z q l ez eq inv = step ∙ inv
+  where
+    rest : ℕ
+    rest = product (sizesOf (parametersFrom f s (n - (i + 1)) (i + 1)))
+
+    step : productLeft f s n (i + 1) q ≡ productLeft f s n i p
+    step = let e : p * z + 0 ≡ p * z = omega arith in rw (each-turn _ (lineFrom f s) n i l, eq, e, ← ez) (cut-times (p * z) rest 65537 ∙ ap (λ m. min m 65537) (mul-assoc p z rest))
+
+pub product-ends : (f s : List ℕ) (n i p : ℕ) → n ≤ i → p ≤ 65537 → productLeft f s n i p ≡ productUpTo f s n → p ≡ productUpTo f s n
+unfolding productLeft
+product-ends f s n i p l small inv = end ∙ inv
+  where
+    end : p ≡ productLeft f s n i p
+    end = rw (each-none _ (lineFrom f s) n i l) (omega arith)
+
+pub number-starts : (f s : List ℕ) (n : ℕ) → numberLeft f s n 0 0 ≡ numberUpTo f s n
+unfolding numberLeft numberUpTo
+number-starts f s n =
+    let e : n - 0 ≡ n = omega arith in
+    rw e (ap (λ m. min m 65535) (counted (parametersFrom f s n 0) 0 ∙ omega arith))
+
+pub number-turns : (f s : List ℕ) (n i v z x w : ℕ) → w ≡ min (v * z + x) 65535 → i < n → z ≡ getD (lineFrom f s i) 1 0
+    → x ≡ getD (lineFrom f s i) 2 0 → numberLeft f s n i v ≡ numberUpTo f s n → numberLeft f s n (i + 1) w ≡ numberUpTo f s n
+unfolding numberFrom numberLeft
+number-turns f s n i v z x w ew l ez ex inv = step ∙ inv
+  where
+    step : numberLeft f s n (i + 1) w ≡ numberLeft f s n i v
+    step = rw (each-turn _ (lineFrom f s) n i l, ew, ← ez, ← ex) (cut-from 65535 (parametersFrom f s (n - (i + 1)) (i + 1)) (v * z + x))
+
+pub number-ends : (f s : List ℕ) (n i v : ℕ) → n ≤ i → v ≤ 65535 → numberLeft f s n i v ≡ numberUpTo f s n → v ≡ numberUpTo f s n
+unfolding numberFrom numberLeft
+number-ends f s n i v l small inv = end ∙ inv
+  where
+    end : v ≡ numberLeft f s n i v
+    end = rw (each-none _ (lineFrom f s) n i l) (omega arith)
+
+-- ---- where the counts fit, and where not
+
+module _ (f s : List ℕ) (c : Counts) (b : Bool) (said : b ≡ countsFit c) where
+  pub count-fits : (r : ℕ) → b ≡ true → r ≡ productUpTo f s (c .kind1) → r ≡ stateCountIn f s c
+  unfolding productUpTo stateCountIn
+  count-fits r so e = rw (← said, so) e
+
+  pub count-unfit : b ≡ false → 0 ≡ stateCountIn f s c
+  unfolding stateCountIn
+  count-unfit no-fit = rw (← said, no-fit)
+
+  pub number-fits : (r : ℕ) → b ≡ true → r ≡ numberUpTo f s (c .kind1) → r ≡ initialNumberIn f s c
+  unfolding numberUpTo initialNumberIn
+  number-fits r so e = rw (← said, so) e
+
+  pub number-unfit : b ≡ false → 0 ≡ initialNumberIn f s c
+  unfolding initialNumberIn
+  number-unfit no-fit = rw (← said, no-fit)
+
+pub number-small : (f s : List ℕ) (n r : ℕ) → r ≡ numberUpTo f s n → r ≤ 65535
+unfolding numberUpTo
+number-small f s n r e = omega arith

@@ -1,0 +1,51 @@
+-- Which counts of lines fit, how many states the design in a desk's arrays has, and which number its initial state has, each for every
+-- arrays and counts. The design itself is in design/specs/Loaded; that a loaded design has at most 65,536 states, and that its
+-- initial state is one of them, is no matter here: where it is so, nothing is cut off.
+use mathlib.Core.Bool.{Bool, _&&_}
+use mathlib.Core.List.{List, []}
+use Prim.Native.Nat.{ℕ, _≤_, min}
+use lib.Dec.{leb}
+use Rattle.foundation.specs.Radix.{product, numberOf}
+use Rattle.terms.specs.Tree.{pick}
+use Rattle.criteria.specs.Design.{Parameter, Process, sizes, initialState, states, stateNumber}
+use Rattle.design.specs.Line.{parameterOf}
+use Rattle.design.specs.Loaded.{lineFrom, eachLine, designIn}
+use Rattle.design.specs.declared.Counts.{Counts}
+
+-- "1 to 8" lines of kinds 1 and 2, "0 to 32" of kinds 3 and 4: there are no more
+abbrev pub countsFit : Counts → Bool
+countsFit c = leb (c .kind1) 8 && (leb (c .kind2) 8 && (leb (c .kind3) 32 && leb (c .kind4) 32))
+
+-- as facts
+pub record Fit (c : Counts) : Type 0 where
+  pub kind1 : c .kind1 ≤ 8
+  pub kind2 : c .kind2 ≤ 8
+  pub kind3 : c .kind3 ≤ 32
+  pub kind4 : c .kind4 ≤ 32
+
+-- what the lines from line i on say of n parameters
+abbrev pub parametersFrom : List ℕ → List ℕ → ℕ → ℕ → List Parameter
+parametersFrom fields starts n i = eachLine parameterOf (lineFrom fields starts) n i
+
+abbrev pub sizesOf : List Parameter → List ℕ
+sizesOf ps = sizes (record { parameters = ps; rows = [] })
+
+abbrev pub initialsOf : List Parameter → List ℕ
+initialsOf ps = initialState (record { parameters = ps; rows = [] })
+
+-- the product of the first n sizes, and the number of the first n initial values, cut off
+unfoldable pub productUpTo : List ℕ → List ℕ → ℕ → ℕ
+productUpTo fields starts n = min (product (sizesOf (parametersFrom fields starts n 0))) 65537
+
+unfoldable pub numberUpTo : List ℕ → List ℕ → ℕ → ℕ
+numberUpTo fields starts n = let ps = parametersFrom fields starts n 0 in min (numberOf (sizesOf ps) (initialsOf ps)) 65535
+
+-- how many states, 65,537 standing for all that are too many
+unfoldable pub stateCountIn : List ℕ → List ℕ → Counts → ℕ
+stateCountIn fields starts c = pick (countsFit c) (min (states (designIn fields starts c)) 65537) 0
+
+-- the number of the initial state
+unfoldable pub initialNumberIn : List ℕ → List ℕ → Counts → ℕ
+initialNumberIn fields starts c =
+    let d = designIn fields starts c in
+    pick (countsFit c) (min (stateNumber d (initialState (d .impl))) 65535) 0
