@@ -1,0 +1,33 @@
+-- The proof of `run_lines`: it is safe and ends, since each line takes the place on.
+use borrow.Author.Needs.{needs}
+use Prim.Native.Nat.{_-_}
+use lib.ListN.{length}
+use Rattle.test_terms.proofs.run_lines.Statement.{statement}
+use Rattle.test_terms.proofs.run_lines.Tie as tie
+use Rattle.test_terms.proofs.run_lines.Reads as reads
+use Rattle.test_terms.proofs.run_lines.Lts as lts
+use Rattle.test_terms.proofs.line_end.Reads as line-end-reads
+use Rattle.test_terms.proofs.run_case.Reads as run-case-reads
+
+abbrev Inv-loop : tie.InvT-loop
+Inv-loop text at₀ at = Unit {0}
+
+abbrev μ-loop : tie.MeasureT-loop
+μ-loop text at₀ at = length text - at
+
+pub run-lines-spec : {M : Type 1} → statement M
+run-lines-spec =
+    tie.close
+    (tie.spec
+    Inv-loop
+    μ-loop
+    (λ c. search needs)
+    (λ c κs. search needs)
+    (λ c. search needs)
+    (λ c. search needs)
+    (λ c. search needs)
+    (λ c κs. search needs)
+    (λ c. search needs)
+    (λ c. search needs)
+    (λ c. search needs)
+    (λ c. search needs))
