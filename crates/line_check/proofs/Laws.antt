@@ -116,14 +116,6 @@ module _ (n m kind : ℕ) (line : List ℕ) where
   abbrev whole : Bool
   whole = lineFits n m (fieldsOf line) kind
 
-  pub no-terms : kind < 3 → true ≡ whole
-  unfolding lineFits
-  no-terms h = rw (lt-ltb kind 3 h)
-
-  pub no-kind : 3 ≤ kind → kind ≢ 3 → kind ≢ 4 → kind ≢ 5 → kind ≢ 6 → kind ≢ 7 → false ≡ whole
-  unfolding lineFits
-  no-kind h h3 h4 h5 h6 h7 = rw (le-ltb kind 3 h, ne-eqb kind 3 h3, ne-eqb kind 4 h4, ne-eqb kind 5 h5, ne-eqb kind 6 h6, ne-eqb kind 7 h7)
-
   module _ (r : Bool) where
     pub impl-row : kind ≡ 3 → r ≡ rowFits n (fieldsOf line) → r ≡ whole
     unfolding lineFits

@@ -7,14 +7,14 @@
 use Prim.Native.Nat.{ℕ, suc, _<_, _≤_}
 use mathlib.Core.Path.{_≡_, refl, sym, ap, _∙_, subst}
 use mathlib.Core.Logic.{_≢_}
-use mathlib.Core.Bool.{Bool, true, false, true≢false, _&&_}
+use mathlib.Core.Bool.{Bool, true, false, true≢false, false≢true, _&&_}
 use mathlib.Core.List.{List, [], _∷_, _++_, List·Memᴰ}
 use native.Mathlib.Omega.{arith}
 use borrow.Author.Tests.{lt-ltb, le-ltb, ne-eqb}
 use lib.ListN.{length, drop}
 use lib.Seq.{drop-append-seam}
 use Rattle.foundation.specs.Reflects.{Reflects, so, not-so}
-use Rattle.foundation.proofs.Reflects.{by-iff, by-and, by-value, says-yes, says-no}
+use Rattle.foundation.proofs.Reflects.{by-eqb, by-ltb, by-iff, by-and, by-value, says-yes, says-no, is-so}
 use Rattle.terms.specs.Tree.{Value, Formula, okV, okF}
 use Rattle.terms.specs.Read.{Read, Reader, leaf, readV, readF}
 use Rattle.terms.specs.Depth.{depthV, depthF}
@@ -114,34 +114,60 @@ module _ (n : ℕ) (row : Bool) where
 
 -- ---- a line, by its kind
 
-module _ (n m : ℕ) (line : List ℕ) where
-  -- what `LineTerms` says, by the kind
-  record By (kind : ℕ) : Type 0 where
-    third : kind ≡ 3 → Terms n true (faults.formula ∷ faults.value ∷ nValues n) (drop 3 line)
-    fourth : kind ≡ 4 → Terms m true (faults.formula ∷ faults.value ∷ nValues m) (drop 3 line)
-    fifth : kind ≡ 5 → Terms n false (faults.formula ∷ []) (drop 1 line)
-    sixth : kind ≡ 6 → Terms n false (nValues m) (drop 1 line)
-    seventh : kind ≡ 7 → Terms n false (faults.value ∷ []) (drop 1 line)
-    a-kind : kind ≤ 7
+-- by cases on what a test says
+either : {P Q : Type 0} {b : Bool} → Reflects P b → (P → Q) → ((P → ⊥) → Q) → Q
+either (so p) f g = f p
+either (not-so n) f g = g n
 
-  by : {kind : ℕ} → LineTerms n m line kind → By kind
-  by (faults.of-implementation h) = record {
-    third = λ _. h; fourth = λ e. absurd (omega arith); fifth = λ e. absurd (omega arith);
-    sixth = λ e. absurd (omega arith); seventh = λ e. absurd (omega arith); a-kind = omega arith;
-  }
-  by (faults.of-specification h) = record {
-    third = λ e. absurd (omega arith); fourth = λ _. h; fifth = λ e. absurd (omega arith);
-    sixth = λ e. absurd (omega arith); seventh = λ e. absurd (omega arith); a-kind = omega arith;
-  }
-  by (faults.invariant h) = record {
-    third = λ e. absurd (omega arith); fourth = λ e. absurd (omega arith); fifth = λ _. h;
-    sixth = λ e. absurd (omega arith); seventh = λ e. absurd (omega arith); a-kind = omega arith;
-  }
-  by (faults.mapping h) = record {
-    third = λ e. absurd (omega arith); fourth = λ e. absurd (omega arith); fifth = λ e. absurd (omega arith);
-    sixth = λ _. h; seventh = λ e. absurd (omega arith); a-kind = omega arith;
-  }
-  by (faults.measure h) = record {
-    third = λ e. absurd (omega arith); fourth = λ e. absurd (omega arith); fifth = λ e. absurd (omega arith);
-    sixth = λ e. absurd (omega arith); seventh = λ _. h; a-kind = omega arith;
-  }
+module _ (n m : ℕ) (line : List ℕ) where
+  module _ (kind : ℕ) where
+    pub no-terms : kind < 3 → true ≡ lineFits n m line kind
+    unfolding lineFits
+    no-terms h = rw (lt-ltb kind 3 h)
+
+    pub no-kind : 3 ≤ kind → kind ≢ 3 → kind ≢ 4 → kind ≢ 5 → kind ≢ 6 → kind ≢ 7 → false ≡ lineFits n m line kind
+    unfolding lineFits
+    no-kind h h3 h4 h5 h6 h7 =
+        rw (le-ltb kind 3 h, ne-eqb kind 3 h3, ne-eqb kind 4 h4, ne-eqb kind 5 h5, ne-eqb kind 6 h6, ne-eqb kind 7 h7)
+
+  fits : {kind : ℕ} → LineTerms n m line kind → lineFits n m line kind ≡ true
+  unfolding lineFits
+  fits (faults.of-implementation h) = is-so (by-terms n true _ _) h
+  fits (faults.of-specification h) = is-so (by-terms m true _ _) h
+  fits (faults.invariant h) = is-so (by-terms n false _ _) h
+  fits (faults.mapping h) = is-so (by-terms n false _ _) h
+  fits (faults.measure h) = is-so (by-terms n false _ _) h
+
+  has-terms : (kind : ℕ) → 3 ≤ kind → lineFits n m line kind ≡ true → LineTerms n m line kind
+  unfolding lineFits
+  has-terms kind h e =
+      either (by-eqb kind 3) (λ k. rw k (faults.of-implementation (says-yes (by-terms n true _ _) (rw k at e))))
+      (λ h3. either (by-eqb kind 4) (λ k. rw k (faults.of-specification (says-yes (by-terms m true _ _) (rw k at e))))
+      (λ h4. either (by-eqb kind 5) (λ k. rw k (faults.invariant (says-yes (by-terms n false _ _) (rw k at e))))
+      (λ h5. either (by-eqb kind 6) (λ k. rw k (faults.mapping (says-yes (by-terms n false _ _) (rw k at e))))
+      (λ h6. either (by-eqb kind 7) (λ k. rw k (faults.measure (says-yes (by-terms n false _ _) (rw k at e))))
+      (λ h7. absurd (false≢true (no-kind kind h h3 h4 h5 h6 h7 ∙ e)))))))
+
+  pub by-kind : (kind : ℕ) → 3 ≤ kind → Reflects (LineTerms n m line kind) (lineFits n m line kind)
+  by-kind kind h = by-iff (has-terms kind h) (λ t. fits t) (by-value (lineFits n m line kind))
+
+  pub by-line : (kind : ℕ) → Reflects (3 ≤ kind → LineTerms n m line kind) (lineFits n m line kind)
+  by-line kind =
+      by-iff (λ e h. has-terms kind h e) (λ t. either (by-ltb kind 3) (λ h. sym (no-terms kind h)) (λ h. fits (t (omega arith)))) (by-value (lineFits n m line kind))
+
+-- ---- a text
+
+module _ (lines : List (List ℕ)) where
+  abbrev Fits : List ℕ → Type 0
+  Fits line = lineFits (countOf 1 lines) (countOf 2 lines) line (kindOf line) ≡ true
+
+  -- where the test says yes for each line, fault 6 is not in the text
+  pub no-fault6 : ((line : List ℕ) → List·Memᴰ line lines → Fits line) → Fault6 lines → ⊥
+  no-fault6 each (faults.wrong-terms {line = line} at h wrong) = wrong (has-terms _ _ line (kindOf line) h (each line at))
+
+  -- where it says no for one, it is
+  pub fault6-at : {line : List ℕ} → List·Memᴰ line lines → lineFits (countOf 1 lines) (countOf 2 lines) line (kindOf line) ≡ false → Fault6 lines
+  fault6-at {line} at e =
+      either (by-ltb (kindOf line) 3)
+      (λ h. absurd (true≢false (no-terms _ _ line (kindOf line) h ∙ e)))
+      (λ h. let k : 3 ≤ kindOf line = omega arith in faults.wrong-terms at k (says-no (by-kind _ _ line (kindOf line) k) e))

@@ -74,7 +74,7 @@ fn ended(part: &[u8]) -> bool
     let Field::Number(_) = first else {
         return true;
     };
-    false
+    false // a field is left: the line ends late
 }
 
 // What is left of a part after its first field; a part with no field as it is.

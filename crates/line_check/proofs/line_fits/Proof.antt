@@ -1,6 +1,7 @@
 -- `line_check::line_fits`: each kind has its law.
 use borrow.Author.Needs.{needs}
 use Rattle.line_check.proofs.Laws as laws
+use Rattle.line_check.proofs.LineFits as fits
 use Rattle.line_check.proofs.line_fits.Statement.{statement}
 use Rattle.line_check.proofs.line_fits.Tie as tie
 
@@ -8,7 +9,7 @@ pub line-fits-spec : {M : Type 1} → statement M
 line-fits-spec =
     tie.close
     (tie.spec
-    (λ c. search laws.no-terms)
+    (λ c. search fits.no-terms)
     (λ c κs. search needs)
     (λ c κs. search needs)
     (λ c κs. search needs)
@@ -22,4 +23,4 @@ line-fits-spec =
     (λ c. search laws.invariant)
     (λ c. search laws.mapping)
     (λ c. search laws.measure)
-    (λ c. search laws.no-kind))
+    (λ c. search fits.no-kind))
