@@ -1,0 +1,173 @@
+-- The test of a line (specs/LineFits) says whether fault 6 is in it:
+--   by-terms   fields are terms of these sorts and nothing else (`Terms`) exactly if the test says so: what is read was printed, and
+--              what is printed is read back;
+--   by-kind    the same by the line's kind (`LineTerms`), for every kind from 3 on;
+--   by-line    and for every kind, where a line of a kind below 3 has nothing to keep;
+--   no-fault6, fault6-at   so fault 6 is in a text exactly if the test says no for one of its lines.
+use Prim.Native.Nat.{ℕ, suc, _<_, _≤_}
+use mathlib.Core.Path.{_≡_, refl, sym, ap, _∙_, subst}
+use mathlib.Core.Logic.{_≢_}
+use mathlib.Core.Bool.{Bool, true, false, true≢false, false≢true, _&&_}
+use mathlib.Core.List.{List, [], _∷_, _++_, List·Memᴰ}
+use native.Mathlib.Omega.{arith}
+use borrow.Author.Tests.{lt-ltb, le-ltb, ne-eqb}
+use lib.ListN.{length, drop}
+use lib.Seq.{drop-append-seam}
+use Rattle.foundation.specs.Reflects.{Reflects, so, not-so}
+use Rattle.foundation.proofs.Reflects.{by-eqb, by-ltb, by-iff, by-and, by-value, says-yes, says-no, is-so}
+use Rattle.terms.specs.Tree.{Value, Formula, okV, okF}
+use Rattle.terms.specs.Read.{Read, Reader, leaf, readV, readF}
+use Rattle.terms.specs.Depth.{depthV, depthF}
+use Rattle.terms.specs.Print.{printV, printF}
+use Rattle.terms.proofs.Printing.{Printed, print-read-v, print-read-f, read-print-v, read-print-f}
+use Rattle.design.specs.Lines.{kindOf, countOf}
+use Rattle.design.specs.Faults as faults
+use Rattle.design.specs.Faults.{Sort, Terms, nValues, LineTerms, Fault6}
+use Rattle.line_check.specs.LineFits.{nothing, termsFit, rowFits, lastFits, lineFits}
+
+-- ---- terms one after the other
+
+-- fields that begin with a term, as `Terms` says it of a value or of a formula
+record First {A : Type 0} (print : A → List ℕ) (ok : A → Bool) (depth : A → ℕ) (after : List ℕ → Type 0) (fields : List ℕ) : Type 0 where
+  term : A
+  rest : List ℕ
+  well-formed : ok term ≡ true
+  within : depth term ≤ 32
+  printed : fields ≡ print term ++ rest
+  later : after rest
+
+-- it does exactly if what the reading p gives is well formed, and what is left after it is so
+module _ {A : Type 0} (print : A → List ℕ) (ok : A → Bool) (depth : A → ℕ) (after : List ℕ → Type 0) (p : Reader A) (fields : List ℕ)
+    (taken : ok ((p fields) .tree) ≡ true → Printed print depth 32 (p fields) fields)
+    (back : (t : A) → ok t ≡ true → depth t ≤ 32 → (l : List ℕ) → p (print t ++ l) ≡ leaf t (length (print t))) where
+  abbrev left : List ℕ
+  left = drop ((p fields) .used) fields
+
+  begins : ok ((p fields) .tree) ≡ true → after left → First print ok depth after fields
+  begins good h = record {
+    term = (p fields) .tree;
+    rest = left;
+    well-formed = good;
+    within = (taken good) .within;
+    printed = (taken good) .split;
+    later = h;
+  }
+
+  module _ (h : First print ok depth after fields) where
+    read : p fields ≡ leaf (h .term) (length (print (h .term)))
+    read = ap p (h .printed) ∙ back (h .term) (h .well-formed) (h .within) (h .rest)
+
+    first-ok : ok ((p fields) .tree) ≡ true
+    first-ok = rw read (h .well-formed)
+
+    first-later : after left
+    first-later =
+        let e : drop (length (print (h .term))) fields ≡ h .rest =
+        ap (λ (l : List ℕ). drop (length (print (h .term))) l) (h .printed) ∙ drop-append-seam (print (h .term)) (h .rest)
+        in
+        rw (read, e) (h .later)
+
+  by-first : (b : Bool) → Reflects (after left) b → Reflects (First print ok depth after fields) (ok ((p fields) .tree) && b)
+  by-first b r = by-iff (λ h. begins (h .0) (h .1)) (λ h. (first-ok h, first-later h)) (by-and (by-value (ok ((p fields) .tree))) r)
+
+module _ (n : ℕ) (row : Bool) where
+  abbrev v-ok : Value → Bool
+  v-ok t = okV t n row
+
+  abbrev f-ok : Formula → Bool
+  f-ok t = okF t n row
+
+  -- what `Terms` says, by the first sort
+  abbrev Said : List Sort → List ℕ → Type 0
+  Said [] fields = fields ≡ []
+  Said (faults.value ∷ sorts) fields = First printV v-ok depthV (Terms n row sorts) fields
+  Said (faults.formula ∷ sorts) fields = First printF f-ok depthF (Terms n row sorts) fields
+
+  said : {sorts : List Sort} {fields : List ℕ} → Terms n row sorts fields → Said sorts fields
+  said faults.none = refl
+  said (faults.then-value {fields = l} v ok d h) = record { term = v; rest = l; well-formed = ok; within = d; printed = refl; later = h }
+  said (faults.then-formula {fields = l} f ok d h) = record { term = f; rest = l; well-formed = ok; within = d; printed = refl; later = h }
+
+  says : (sorts : List Sort) (fields : List ℕ) → Said sorts fields → Terms n row sorts fields
+  says [] fields h = rw h faults.none
+  says (faults.value ∷ sorts) fields h = rw (h .printed) (faults.then-value (h .term) (h .well-formed) (h .within) (h .later))
+  says (faults.formula ∷ sorts) fields h = rw (h .printed) (faults.then-formula (h .term) (h .well-formed) (h .within) (h .later))
+
+  by-nothing : (fields : List ℕ) → Reflects (fields ≡ []) (nothing fields)
+  by-nothing [] = so refl
+  by-nothing (x ∷ fields) = not-so (λ e. let z : _≡_ {A = ℕ} 0 1 = cc in omega arith)
+
+  by-said : (sorts : List Sort) (fields : List ℕ) → Reflects (Said sorts fields) (termsFit n row sorts fields)
+  unfolding termsFit
+  by-said [] fields = by-nothing fields
+  by-said (faults.value ∷ sorts) fields =
+      by-first printV v-ok depthV (Terms n row sorts) (readV 32) fields
+      (read-print-v n row 32 fields) (λ t ok d l. print-read-v n row t 32 ok d l)
+      _ (by-iff (says sorts _) (λ h. said h) (by-said sorts _))
+  by-said (faults.formula ∷ sorts) fields =
+      by-first printF f-ok depthF (Terms n row sorts) (readF 32) fields
+      (read-print-f n row 32 fields) (λ t ok d l. print-read-f n row t 32 ok d l)
+      _ (by-iff (says sorts _) (λ h. said h) (by-said sorts _))
+
+  pub by-terms : (sorts : List Sort) (fields : List ℕ) → Reflects (Terms n row sorts fields) (termsFit n row sorts fields)
+  by-terms sorts fields = by-iff (says sorts fields) (λ h. said h) (by-said sorts fields)
+
+-- ---- a line, by its kind
+
+-- by cases on what a test says
+either : {P Q : Type 0} {b : Bool} → Reflects P b → (P → Q) → ((P → ⊥) → Q) → Q
+either (so p) f g = f p
+either (not-so n) f g = g n
+
+module _ (n m : ℕ) (line : List ℕ) where
+  module _ (kind : ℕ) where
+    pub no-terms : kind < 3 → true ≡ lineFits n m line kind
+    unfolding lineFits
+    no-terms h = rw (lt-ltb kind 3 h)
+
+    pub no-kind : 3 ≤ kind → kind ≢ 3 → kind ≢ 4 → kind ≢ 5 → kind ≢ 6 → kind ≢ 7 → false ≡ lineFits n m line kind
+    unfolding lineFits
+    no-kind h h3 h4 h5 h6 h7 =
+        rw (le-ltb kind 3 h, ne-eqb kind 3 h3, ne-eqb kind 4 h4, ne-eqb kind 5 h5, ne-eqb kind 6 h6, ne-eqb kind 7 h7)
+
+  fits : {kind : ℕ} → LineTerms n m line kind → lineFits n m line kind ≡ true
+  unfolding lineFits
+  fits (faults.of-implementation h) = is-so (by-terms n true _ _) h
+  fits (faults.of-specification h) = is-so (by-terms m true _ _) h
+  fits (faults.invariant h) = is-so (by-terms n false _ _) h
+  fits (faults.mapping h) = is-so (by-terms n false _ _) h
+  fits (faults.measure h) = is-so (by-terms n false _ _) h
+
+  has-terms : (kind : ℕ) → 3 ≤ kind → lineFits n m line kind ≡ true → LineTerms n m line kind
+  unfolding lineFits
+  has-terms kind h e =
+      either (by-eqb kind 3) (λ k. rw k (faults.of-implementation (says-yes (by-terms n true _ _) (rw k at e))))
+      (λ h3. either (by-eqb kind 4) (λ k. rw k (faults.of-specification (says-yes (by-terms m true _ _) (rw k at e))))
+      (λ h4. either (by-eqb kind 5) (λ k. rw k (faults.invariant (says-yes (by-terms n false _ _) (rw k at e))))
+      (λ h5. either (by-eqb kind 6) (λ k. rw k (faults.mapping (says-yes (by-terms n false _ _) (rw k at e))))
+      (λ h6. either (by-eqb kind 7) (λ k. rw k (faults.measure (says-yes (by-terms n false _ _) (rw k at e))))
+      (λ h7. absurd (false≢true (no-kind kind h h3 h4 h5 h6 h7 ∙ e)))))))
+
+  pub by-kind : (kind : ℕ) → 3 ≤ kind → Reflects (LineTerms n m line kind) (lineFits n m line kind)
+  by-kind kind h = by-iff (has-terms kind h) (λ t. fits t) (by-value (lineFits n m line kind))
+
+  pub by-line : (kind : ℕ) → Reflects (3 ≤ kind → LineTerms n m line kind) (lineFits n m line kind)
+  by-line kind =
+      by-iff (λ e h. has-terms kind h e) (λ t. either (by-ltb kind 3) (λ h. sym (no-terms kind h)) (λ h. fits (t (omega arith)))) (by-value (lineFits n m line kind))
+
+-- ---- a text
+
+module _ (lines : List (List ℕ)) where
+  abbrev Fits : List ℕ → Type 0
+  Fits line = lineFits (countOf 1 lines) (countOf 2 lines) line (kindOf line) ≡ true
+
+  -- where the test says yes for each line, fault 6 is not in the text
+  pub no-fault6 : ((line : List ℕ) → List·Memᴰ line lines → Fits line) → Fault6 lines → ⊥
+  no-fault6 each (faults.wrong-terms {line = line} at h wrong) = wrong (has-terms _ _ line (kindOf line) h (each line at))
+
+  -- where it says no for one, it is
+  pub fault6-at : {line : List ℕ} → List·Memᴰ line lines → lineFits (countOf 1 lines) (countOf 2 lines) line (kindOf line) ≡ false → Fault6 lines
+  fault6-at {line} at e =
+      either (by-ltb (kindOf line) 3)
+      (λ h. absurd (true≢false (no-terms _ _ line (kindOf line) h ∙ e)))
+      (λ h. let k : 3 ≤ kindOf line = omega arith in faults.wrong-terms at k (says-no (by-kind _ _ line (kindOf line) k) e))
