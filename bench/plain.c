@@ -1,3 +1,4 @@
+// What plain.h says. Marks, places and the struct that comes back are the evaluator's.
 #include "plain.h"
 
 typedef struct { uint16_t value; size_t next; } valued;

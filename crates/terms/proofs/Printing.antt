@@ -110,7 +110,7 @@ number-of-f m =
 -- What is printed is read back.
 
 -- the fields xs are read as a, whatever follows them
-abbrev ReadsAs : {A : Type 0} → Reader A → List ℕ → A → Type 0
+abbrev pub ReadsAs : {A : Type 0} → Reader A → List ℕ → A → Type 0
 ReadsAs p xs a = (l : List ℕ) → p (xs ++ l) ≡ leaf a (length xs)
 
 one-reads : {A B : Type 0} (f : A → B) (p : Reader A) (xs : List ℕ) (a : A) → ReadsAs p xs a
@@ -186,7 +186,7 @@ module _ (n : ℕ) (row : Bool) where
 -- What is read was printed so: the fields that a reading took.
 
 -- the first u fields of l are xs
-pub record Begins (xs : List ℕ) (u : ℕ) (l : List ℕ) : Type 0 where
+record Begins (xs : List ℕ) (u : ℕ) (l : List ℕ) : Type 0 where
   pub first : take u l ≡ xs
   pub inside : u ≤ length l
 

@@ -19,8 +19,9 @@ use Rattle.terms.specs.declared.Join.the-variants.{And, Or}
 -- `noValue` and `noFormula` are no terms of 01. They stand where nothing could be read: a wrong mark, fields that end too early,
 -- or a term that is too deep. They are not well formed, so a loaded design holds none.
 mutual
-  -- "`0 n` the number n; `1 i` parameter i, counted from 0; `2` the sum value; `3 v v` sum and `4 v v` difference; `5 v v` remainder;
-  -- `6 f v v` the first value if the formula holds, else the second."
+  -- "`0 n` the number n; `1 i` parameter i, counted from 0, of the row's process (the implementation's in kinds 5 to 7); `2` the sum value,
+  -- only in rows; `3 v v` sum and `4 v v` difference, both modulo 65,536; `5 v v` remainder, by zero the dividend itself; `6 f v v` the
+  -- first value if the formula holds, else the second."
   pub data Value : Type 0 where
     num par : ℕ → Value
     sumValue : Value
@@ -75,8 +76,9 @@ unfoldable mutual
   evalF (join o f g) ps s = joinOf o (evalF f ps s) (evalF g ps s)
   evalF noFormula ps s = false
 
--- Well formed with n parameters, in a row or not: no "wrong mark", no "parameter that doesn't exist", no "sum value outside a row"
--- (fault 6). The depth is not asked here: a reading is never deeper than its bound (Read).
+-- Well formed where the row's process, or the implementation in kinds 5 to 7, has n parameters, in a row or not: no "wrong mark", no
+-- "parameter that doesn't exist", no "sum value outside a row" (fault 6). The depth is not asked here: a reading is never deeper
+-- than its bound (proofs/Depth).
 unfoldable mutual
   pub okV : Value → ℕ → Bool → Bool
   okV (num k) n row = true
