@@ -14,6 +14,10 @@ use lib.Seq.{getD-take, getD-drop}
 use mir.Syntax.{w64}
 use mir.Val.{Fits}
 use Rattle.foundation.specs.Reflects.{_⇒_}
+use Rattle.reader.specs.Line.{fieldAt, fieldsOf}
+use Rattle.reader.specs.declared.Field.{Field}
+use Rattle.reader.specs.declared.Field.the-variants.{Number, Malformed}
+use Rattle.reader.proofs.Line.{first-field, no-field}
 use Rattle.design.specs.Lines.{kindOf, ofKind, countOf}
 use Rattle.design.specs.Loaded.{lineFrom, lineAt, eachLine, heldLines}
 use Rattle.design.specs.Tests.{climbs, eachLineIs, isParameter, isRow, lengthFitsBy, lengthFits, numbersFitBy, numbersFit}
@@ -155,3 +159,12 @@ length-of line kind long ek el r er = er ∙ rw (ek, el)
 
 pub numbers-of : (line : List ℕ) (kind a b : ℕ) → kind ≡ getD line 0 0 → a ≡ getD line 1 0 → b ≡ getD line 2 0 → (r : Bool) → r ≡ numbersFitBy kind a b → r ≡ numbersFit line
 numbers-of line kind a b ek ea eb r er = er ∙ rw (ek, ea, eb)
+
+-- ---- the kind of a line by its bytes
+
+module _ (line : List ℕ) (f : Field) (ef : f ≡ fieldAt line 0) where
+  pub kind-none : f ≡ Malformed → 0 ≡ kindOf (fieldsOf line)
+  kind-none e = rw (no-field line (sym ef ∙ e))
+
+  pub kind-first : (n : ℕ) → f ≡ Number n → n ≡ kindOf (fieldsOf line)
+  kind-first n e = rw (first-field line n (sym ef ∙ e))

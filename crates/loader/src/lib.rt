@@ -10,14 +10,51 @@ ghost use lib.ListN.{length, getD};
 ghost use lib.Seq.{sets};
 ghost use Rattle.reader.specs.Line.{fieldsOf};
 ghost use Rattle.reader.specs.Text.{fieldsByLine, columnsFault};
-ghost use Rattle.design.specs.Lines.{countOf};
+ghost use Rattle.design.specs.Lines.{kindOf, countOf};
 ghost use Rattle.design.specs.Loaded.{lineAt, heldLines};
 ghost use Rattle.loader.specs.Filled.{Filled};
+ghost use Rattle.loader.specs.Load.{lineTest};
 ghost use Rattle.design.specs.Tests.{climbs, eachLineIs, isParameter, isRow, lengthFitsBy, lengthFits, numbersFitBy, numbersFit};
 
 const LAST_KIND: u16 = 7;
 
 const MAX_SPAN: u16 = 256;
+
+// Whether each line is the terms of its kind, where n lines are of kind 1 and m of kind 2.
+fn terms_fit(text: &[u8], n: u16, m: u16) -> bool
+    requires { ⌜ columnsFault (now text) ≡ 0 ⌝ }
+    ensures { λ r. ⌜ r ≡ eachLineIs (lineTest n m) (fieldsByLine (now (text .entry))) ⌝ }
+{
+    let mut at = 0;
+    while at < text.len() {
+        let count = reader::count(&text[at..]);
+        let end = at + reader::COLUMNS * count;
+        if line_terms_fit(&text[at..end], n, m) {
+            at = end + 1;
+        } else {
+            return false;
+        }
+    }
+    true
+}
+
+// Whether a line is the terms of its kind.
+fn line_terms_fit(line: &[u8], n: u16, m: u16) -> bool
+    ensures { λ r. ⌜ r ≡ lineTest n m (fieldsOf (now (line .entry))) ⌝ }
+{
+    line_check::line_fits(line, kind_of(line), n, m)
+}
+
+// A line's first field; 0 where it has none.
+fn kind_of(line: &[u8]) -> u16
+    ensures { λ r. ⌜ r ≡ kindOf (fieldsOf (now (line .entry))) ⌝ }
+{
+    let first = reader::field_at(line, 0);
+    let Field::Number(kind) = first else {
+        return 0;
+    };
+    kind
+}
 
 // The fields of a text's lines one after the other, and where each line starts; how many lines there are, or one more than
 // `MAX_LINES` where there are more.
