@@ -2,9 +2,9 @@
 -- the loops are in Lines.
 use mathlib.Core.Path.{_≡_, refl, sym, ap, _∙_}
 use mathlib.Core.Logic.{_≢_}
-use mathlib.Core.Bool.{Bool, true, false, not, _&&_}
+use mathlib.Core.Bool.{Bool, true, false, not}
 use mathlib.Core.List.{List, [], _∷_}
-use Prim.Native.Nat.{ℕ, zero, suc, _+_, _-_, _<_, _≤_}
+use Prim.Native.Nat.{ℕ, _+_, _<_, _≤_}
 use native.Mathlib.Omega.{arith}
 use native.Mathlib.Numerals.{add-one}
 use borrow.Author.Tests.{lt-ltb, le-ltb, ltb-false, eq-eqb, ne-eqb}
@@ -13,7 +13,7 @@ use mir.Syntax.{w64}
 use mir.Val.{Fits}
 use lib.ListN.{length, getD, drop, drop-of-length-le}
 use lib.Seq.{getD-drop, drop-cons, drop-drop}
-use Rattle.terms.specs.Tree.{Value, Formula, evalF, pick}
+use Rattle.terms.specs.Tree.{Value, Formula, pick}
 use Rattle.terms.specs.Mark.{valueMark}
 use Rattle.terms.specs.Read.{Reader, readV, readF, valueBy}
 use Rattle.terms.proofs.And.{and-left, and-right}
@@ -27,7 +27,7 @@ use Rattle.design.specs.declared.Counts.{Counts}
 use Rattle.design.specs.Loaded.{lineFrom}
 use Rattle.action_check.specs.ActionsFit.{fewLines, actionsFitIn}
 use Rattle.action_check.specs.Lines as lines
-use Rattle.action_check.proofs.Lines.{says-no, says-yes, rows-fit}
+use Rattle.action_check.proofs.Lines.{was-no, was-yes, rows-fit}
 
 -- ---- the counts
 
@@ -58,12 +58,12 @@ record Few (c : Counts) : Type 0 where
   four : c .kind4 ≤ 32
 
 at-most : (m n : ℕ) → not (ltb m n) ≡ true → n ≤ m
-at-most m n e = let l = ltb-false m n (says-no (ltb m n) e) in omega arith
+at-most m n e = let l = ltb-false m n (was-no (ltb m n) e) in omega arith
 
 module _ (c : Counts) (b : Bool) (eb : b ≡ fewLines c) (nb : not b ≡ false) where
   all-few : Few c
   all-few =
-      let h : fewLines c ≡ true = sym eb ∙ says-yes b nb in
+      let h : fewLines c ≡ true = sym eb ∙ was-yes b nb in
       let h2 = and-right (not (ltb 8 (c .kind1))) _ h in
       let h3 = and-right (not (ltb 8 (c .kind2))) _ h2 in
       record {
@@ -197,27 +197,27 @@ module _ (fields starts : List ℕ) (from middle end : ℕ) where
 
   module _ (a : Bool) (ea : a ≡ lines.between (lines.alone fields starts middle) from middle) where
     pub twice-impl : not a ≡ true → false ≡ whole
-    twice-impl n = rw (← ea, says-no a n)
+    twice-impl n = rw (← ea, was-no a n)
 
     module _ (na : not a ≡ false) (b : Bool) (eb : b ≡ lines.between (lines.alone fields starts end) middle end) where
       pub twice-spec : not b ≡ true → false ≡ whole
-      twice-spec n = rw (← ea, says-yes a na, ← eb, says-no b n)
+      twice-spec n = rw (← ea, was-yes a na, ← eb, was-no b n)
 
       module _ (nb : not b ≡ false) (c : Bool) (ec : c ≡ lines.between (lines.differs fields starts 0) middle end) where
         pub internal-spec : not c ≡ true → false ≡ whole
-        internal-spec n = rw (← ea, says-yes a na, ← eb, says-yes b nb, ← ec, says-no c n)
+        internal-spec n = rw (← ea, was-yes a na, ← eb, was-yes b nb, ← ec, was-no c n)
 
         module _ (nc : not c ≡ false) (d : Bool) (ed : d ≡ lines.between (lines.bare fields starts) from middle) where
           pub internal-data : not d ≡ true → false ≡ whole
-          internal-data n = rw (← ea, says-yes a na, ← eb, says-yes b nb, ← ec, says-yes c nc, ← ed, says-no d n)
+          internal-data n = rw (← ea, was-yes a na, ← eb, was-yes b nb, ← ec, was-yes c nc, ← ed, was-no d n)
 
           pub spans : not d ≡ false → (e : Bool) → e ≡ lines.between (lines.agrees fields starts middle end) from middle → e ≡ whole
-          spans n e ee = rw (← ea, says-yes a na, ← eb, says-yes b nb, ← ec, says-yes c nc, ← ed, says-yes d n) ee
+          spans n e ee = rw (← ea, was-yes a na, ← eb, was-yes b nb, ← ec, was-yes c nc, ← ed, was-yes d n) ee
 
 module _ (fields starts : List ℕ) (c : Counts) (b : Bool) (eb : b ≡ fewLines c) where
   pub too-many : not b ≡ true → false ≡ actionsFitIn fields starts c
-  too-many n = rw (← eb, says-no b n)
+  too-many n = rw (← eb, was-no b n)
 
   pub as-rows : not b ≡ false → (r : Bool) → r ≡ lines.rowsFit fields starts (c .kind1 + c .kind2) (c .kind1 + c .kind2 + c .kind3) (c .kind1 + c .kind2 + c .kind3 + c .kind4)
       → r ≡ actionsFitIn fields starts c
-  as-rows n r er = rw (← eb, says-yes b n) (er ∙ rows-fit fields starts c)
+  as-rows n r er = rw (← eb, was-yes b n) (er ∙ rows-fit fields starts c)

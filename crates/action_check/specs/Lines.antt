@@ -1,24 +1,19 @@
 -- The rows of a desk's arrays by the numbers of their lines: what the functions here look at, line by line. That it is what the rows
 -- of the design say is in proofs/Lines.
-use mathlib.Core.Bool.{Bool, true, not, _&&_}
+use mathlib.Core.Bool.{Bool, not, _&&_}
 use mathlib.Core.List.{List}
-use Prim.Native.Nat.{ℕ, zero, suc, _-_}
+use Prim.Native.Nat.{ℕ, suc, _-_}
 use lib.Dec.{eqb}
 use lib.ListN.{getD, drop}
+use Rattle.foundation.specs.First.{allIn}
 use Rattle.foundation.specs.Reflects.{_⇒_}
-use Rattle.criteria.specs.Design.{Row}
 use Rattle.decision.specs.Admitted.{isZero}
 use Rattle.design.specs.Line.{valueIn, rowOf}
 use Rattle.design.specs.Loaded.{lineFrom}
 
--- the test says yes of n numbers from i on
-unfoldable pub eachFrom : (ℕ → Bool) → ℕ → ℕ → Bool
-eachFrom t zero i = true
-eachFrom t (suc n) i = t i && eachFrom t n (suc i)
-
--- of each number from i on that is below the end
+-- the test says yes of each number from i on that is below the end
 abbrev pub between : (ℕ → Bool) → ℕ → ℕ → Bool
-between t i end = eachFrom t (end - i) i
+between t i end = allIn t (end - i) i
 
 -- the value at a place of the fields is `0 0`: "action 0 with data other than `0 0`" speaks of the two fields
 abbrev pub zeroAt : List ℕ → ℕ → Bool

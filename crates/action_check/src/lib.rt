@@ -4,9 +4,7 @@
 // specs/ActionsFit; that it is the absence of fault 7, in proofs/ActionsFit.
 use design::Counts;
 ghost use mathlib.Core.Path.{_≡_};
-ghost use mathlib.Core.Bool.{not};
 ghost use Prim.Native.Nat.{_<_};
-ghost use lib.Dec.{eqb};
 ghost use lib.ListN.{getD};
 ghost use Rattle.design.specs.Loaded.{lineFrom};
 ghost use Rattle.action_check.specs.ActionsFit.{fewLines, actionsFitIn};

@@ -1,5 +1,4 @@
 -- `action_check::few_lines`: each count is tested.
-use borrow.Author.Needs.{needs}
 use Rattle.action_check.proofs.Laws as laws
 use Rattle.action_check.proofs.few_lines.Statement.{statement}
 use Rattle.action_check.proofs.few_lines.Tie as tie
