@@ -4,8 +4,8 @@
 --   by-kind    the same by the line's kind (`LineTerms`), for every kind from 3 on;
 --   by-line    and for every kind, where a line of a kind below 3 has nothing to keep;
 --   no-fault6, fault6-at   so fault 6 is in a text exactly if the test says no for one of its lines.
-use Prim.Native.Nat.{ℕ, suc, _<_, _≤_}
-use mathlib.Core.Path.{_≡_, refl, sym, ap, _∙_, subst}
+use Prim.Native.Nat.{ℕ, _<_, _≤_}
+use mathlib.Core.Path.{_≡_, refl, sym, ap, _∙_}
 use mathlib.Core.Logic.{_≢_}
 use mathlib.Core.Bool.{Bool, true, false, true≢false, false≢true, _&&_}
 use mathlib.Core.List.{List, [], _∷_, _++_, List·Memᴰ}
@@ -16,14 +16,14 @@ use lib.Seq.{drop-append-seam}
 use Rattle.foundation.specs.Reflects.{Reflects, so, not-so}
 use Rattle.foundation.proofs.Reflects.{by-eqb, by-ltb, by-iff, by-and, by-value, says-yes, says-no, is-so}
 use Rattle.terms.specs.Tree.{Value, Formula, okV, okF}
-use Rattle.terms.specs.Read.{Read, Reader, leaf, readV, readF}
+use Rattle.terms.specs.Read.{Reader, leaf, readV, readF}
 use Rattle.terms.specs.Depth.{depthV, depthF}
 use Rattle.terms.specs.Print.{printV, printF}
 use Rattle.terms.proofs.Printing.{Printed, print-read-v, print-read-f, read-print-v, read-print-f}
 use Rattle.design.specs.Lines.{kindOf, countOf}
 use Rattle.design.specs.Faults as faults
-use Rattle.design.specs.Faults.{Sort, Terms, nValues, LineTerms, Fault6}
-use Rattle.line_check.specs.LineFits.{nothing, termsFit, rowFits, lastFits, lineFits}
+use Rattle.design.specs.Faults.{Sort, Terms, LineTerms, Fault6}
+use Rattle.line_check.specs.LineFits.{nothing, termsFit, lineFits}
 
 -- ---- terms one after the other
 

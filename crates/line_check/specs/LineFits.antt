@@ -1,7 +1,7 @@
 -- Fault 6 as a test, on a line's fields: whether they are the terms that the line's kind asks for, one after the other, and nothing
 -- else. What it tests is `Terms` and `LineTerms` in the crate design, specs/Faults; that it does is in proofs/LineFits. How terms are
 -- checked on a line's bytes is in the crate term_check.
-use Prim.Native.Nat.{ℕ, suc}
+use Prim.Native.Nat.{ℕ}
 use mathlib.Core.Bool.{Bool, true, false, cond, _&&_}
 use mathlib.Core.List.{List, [], _∷_}
 use lib.Dec.{eqb, ltb}

@@ -1,6 +1,6 @@
 -- `line_check::values_fit`: the values passed were well formed, and what is left is to be the others.
 use Prim.Native.Nat.{_-_, _≤_}
-use mathlib.Core.Path.{_≡_, refl}
+use mathlib.Core.Path.{_≡_}
 use native.Mathlib.Omega.{arith}
 use borrow.Author.Needs.{needs}
 use Rattle.reader.specs.Line.{fieldsOf}

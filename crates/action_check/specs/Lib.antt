@@ -1,0 +1,2 @@
+pub mod ActionsFit
+pub mod Lines
