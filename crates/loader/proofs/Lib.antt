@@ -1,3 +1,5 @@
 pub mod Lines
 pub mod Places
 pub mod Filling
+pub mod Table
+pub mod Loading

@@ -7,7 +7,7 @@ use mathlib.Core.Bool.{Bool, true, false, cond, not, _&&_, _||_, and-true}
 use mathlib.Core.List.{List, [], _∷_}
 use native.Mathlib.Omega.{arith}
 use native.Mathlib.Numerals.{add-one}
-use borrow.Author.Tests.{eq-eqb, ne-eqb, eqb-true, lt-ltb, le-leb, lt-leb}
+use borrow.Author.Tests.{eqb-true, le-leb, lt-leb, not-true, not-false}
 use lib.Dec.{eqb, leb}
 use lib.ListN.{length, getD, take, drop, length-take, length-drop, List·getD-eq-default}
 use lib.Seq.{getD-take, getD-drop}
@@ -18,9 +18,9 @@ use Rattle.reader.specs.Line.{fieldAt, fieldsOf}
 use Rattle.reader.specs.declared.Field.{Field}
 use Rattle.reader.specs.declared.Field.the-variants.{Number, Malformed}
 use Rattle.reader.proofs.Line.{first-field, no-field}
-use Rattle.design.specs.Lines.{kindOf, ofKind, countOf}
+use Rattle.design.specs.Lines.{kindOf, ofKind, countOf, countsOf}
 use Rattle.design.specs.Loaded.{lineFrom, lineAt, eachLine, heldLines}
-use Rattle.design.specs.Tests.{climbs, eachLineIs, isParameter, isRow, lengthFitsBy, lengthFits, numbersFitBy, numbersFit}
+use Rattle.design.specs.Tests.{climbs, countsFit, layoutFits, eachLineIs, isParameter, isRow, lengthFitsBy, lengthFits, numbersFitBy, numbersFit}
 
 -- ---- one line
 
@@ -137,6 +137,10 @@ module _ (fields starts : List ℕ) (n kind i count : ℕ) (inv : count + countO
   unfolding ofKind
   count-end h = let v = rw (no-lines fields starts n i h) at inv in omega arith
 
+pub counts-all : (lines : List (List ℕ)) (a b c d : ℕ) → a ≡ countOf 1 lines → b ≡ countOf 2 lines → c ≡ countOf 3 lines → d ≡ countOf 4 lines
+    → record { kind1 = a; kind2 = b; kind3 = c; kind4 = d } ≡ countsOf lines
+counts-all lines a b c d ea eb ec ed = rw (ea, eb, ec, ed)
+
 -- ---- each line passes a test
 
 module _ (test : List ℕ → Bool) (fields starts : List ℕ) (n i : ℕ) (inv : eachLineIs test (linesFrom fields starts n i) ≡ eachLineIs test (heldLines fields starts n)) where
@@ -168,3 +172,19 @@ module _ (line : List ℕ) (f : Field) (ef : f ≡ fieldAt line 0) where
 
   pub kind-first : (n : ℕ) → f ≡ Number n → n ≡ kindOf (fieldsOf line)
   kind-first n e = rw (first-field line n (sym ef ∙ e))
+
+-- ---- the three parts of fault 4
+
+module _ (lines : List (List ℕ)) (a : Bool) (ea : a ≡ climbs 1 lines) where
+  pub layout-kinds : not a ≡ true → false ≡ layoutFits lines
+  unfolding layoutFits
+  layout-kinds h = rw (← ea, not-true a h)
+
+  module _ (ha : not a ≡ false) (b : Bool) (eb : b ≡ countsFit lines) where
+    pub layout-counts : not b ≡ true → false ≡ layoutFits lines
+    unfolding layoutFits
+    layout-counts h = rw (← ea, not-false a ha, ← eb, not-true b h)
+
+    pub layout-lengths : not b ≡ false → (c : Bool) → c ≡ eachLineIs lengthFits lines → c ≡ layoutFits lines
+    unfolding layoutFits
+    layout-lengths h c ec = rw (← ea, not-false a ha, ← eb, not-false b h) ec

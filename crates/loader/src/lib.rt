@@ -4,21 +4,158 @@
 use design::Counts;
 use reader::Field;
 ghost use mathlib.Core.Path.{_≡_};
-ghost use mathlib.Core.Bool.{cond};
+ghost use mathlib.Core.Bool.{cond, _&&_};
+ghost use lib.Dec.{leb};
 ghost use Prim.Native.Nat.{_+_, _≤_};
 ghost use lib.ListN.{length, getD};
 ghost use lib.Seq.{sets};
 ghost use Rattle.reader.specs.Line.{fieldsOf};
 ghost use Rattle.reader.specs.Text.{fieldsByLine, columnsFault};
-ghost use Rattle.design.specs.Lines.{kindOf, countOf};
+ghost use Rattle.design.specs.Lines.{kindOf, countOf, countsOf};
 ghost use Rattle.design.specs.Loaded.{lineAt, heldLines};
 ghost use Rattle.loader.specs.Filled.{Filled};
-ghost use Rattle.loader.specs.Load.{lineTest};
-ghost use Rattle.design.specs.Tests.{climbs, eachLineIs, isParameter, isRow, lengthFitsBy, lengthFits, numbersFitBy, numbersFit};
+ghost use Rattle.loader.specs.Load.{lineTest, tableFault, loadedOf, refusedBy, Holds};
+ghost use Rattle.design.specs.Tests.{climbs, countsFit, layoutFits, eachLineIs, isParameter, isRow, lengthFitsBy, lengthFits, numbersFitBy, numbersFit};
+
+// A text's fault, or 0; then the arrays hold the text's lines.
+pub struct Loaded {
+    pub fault: u16,
+    pub fields: [u16; 4096],
+    pub starts: [u16; 84],
+    pub counts: Counts,
+}
 
 const LAST_KIND: u16 = 7;
 
 const MAX_SPAN: u16 = 256;
+
+const MAX_STATES: usize = 65536;
+
+// The lowest fault of a text, or the arrays that hold it.
+pub fn load(text: &[u8]) -> Loaded
+    ensures { λ r. ⌜ r ≡ loadedOf (now (text .entry)) ⌝ }
+{
+    let fault = reader::columns_fault(text);
+    if fault != 0 {
+        return refused(fault);
+    }
+    let mut fields = [0u16; 4096];
+    let mut starts = [0u16; 84];
+    let lines = fill(text, &mut fields, &mut starts);
+    if design::MAX_LINES < lines {
+        return refused(4);
+    }
+    let counts = counts_of(&fields, &starts, lines);
+    let fault = table_fault(text, &fields, &starts, lines, counts);
+    if fault != 0 {
+        return refused(fault);
+    }
+    Loaded {
+        fault: 0,
+        fields,
+        starts,
+        counts,
+    }
+}
+
+// Nothing is loaded.
+fn refused(fault: u16) -> Loaded
+    ensures { λ r. ⌜ r ≡ refusedBy fault ⌝ }
+{
+    Loaded {
+        fault,
+        fields: [0u16; 4096],
+        starts: [0u16; 84],
+        counts: Counts {
+            kind1: 0,
+            kind2: 0,
+            kind3: 0,
+            kind4: 0,
+        },
+    }
+}
+
+// The lowest of the faults 4 to 7, or 0.
+fn table_fault<'a>(
+    text: &'a [u8],
+    fields: &'a [u16; 4096],
+    starts: &'a [u16; 84],
+    lines: usize,
+    counts: Counts,
+) -> u16
+    requires { ⌜ Holds (now text) (now fields) (now starts) lines counts ⌝ }
+    ensures { λ r. ⌜ r ≡ tableFault (fieldsByLine (now (text .entry))) ⌝ }
+{
+    if !layout_fits(fields, starts, lines) {
+        return 4;
+    }
+    if !numbers_fit(fields, starts, lines) {
+        return 5;
+    }
+    if MAX_STATES < layout::state_count(fields, starts, counts) {
+        return 5;
+    }
+    if !terms_fit(text, counts.kind1 as u16, counts.kind2 as u16) {
+        return 6;
+    }
+    if !action_check::actions_fit(fields, starts, counts) {
+        return 7;
+    }
+    0
+}
+
+// Whether the first n lines have known kinds that do not fall, as many of each as there may be, and the fields that they need.
+fn layout_fits<'a>(fields: &'a [u16], starts: &'a [u16], n: usize) -> bool
+    ensures { λ r. ⌜ r ≡ layoutFits (heldLines (now (fields .entry)) (now (starts .entry)) n) ⌝ }
+{
+    if !kinds_climb(fields, starts, n) {
+        return false;
+    }
+    if !counts_fit(fields, starts, n) {
+        return false;
+    }
+    lengths_fit(fields, starts, n)
+}
+
+// Whether the first n lines have as many of each kind as there may be.
+fn counts_fit<'a>(fields: &'a [u16], starts: &'a [u16], n: usize) -> bool
+    ensures { λ r. ⌜ r ≡ countsFit (heldLines (now (fields .entry)) (now (starts .entry)) n) ⌝ }
+{
+    count_fits(fields, starts, n, 1, 1, design::MAX_PARAMETERS)
+        & (count_fits(fields, starts, n, 2, 1, design::MAX_PARAMETERS)
+            & (count_fits(fields, starts, n, 3, 0, design::MAX_ROWS)
+                & (count_fits(fields, starts, n, 4, 0, design::MAX_ROWS)
+                    & (count_fits(fields, starts, n, 5, 1, 1)
+                        & (count_fits(fields, starts, n, 6, 1, 1)
+                            & count_fits(fields, starts, n, 7, 1, 1))))))
+}
+
+// Whether there are no fewer and no more lines of a kind.
+fn count_fits<'a>(
+    fields: &'a [u16],
+    starts: &'a [u16],
+    n: usize,
+    kind: u16,
+    fewest: usize,
+    most: usize,
+) -> bool
+    ensures { λ r. ⌜ r ≡ leb fewest (countOf kind (heldLines (now (fields .entry)) (now (starts .entry)) n)) && leb (countOf kind (heldLines (now (fields .entry)) (now (starts .entry)) n)) most ⌝ }
+{
+    let count = count_kind(fields, starts, n, kind);
+    (fewest <= count) & (count <= most)
+}
+
+// How many of the first n lines are of kinds 1 to 4.
+fn counts_of<'a>(fields: &'a [u16; 4096], starts: &'a [u16; 84], n: usize) -> Counts
+    ensures { λ r. ⌜ r ≡ countsOf (heldLines (now (fields .entry)) (now (starts .entry)) n) ⌝ }
+{
+    Counts {
+        kind1: count_kind(fields, starts, n, 1),
+        kind2: count_kind(fields, starts, n, 2),
+        kind3: count_kind(fields, starts, n, 3),
+        kind4: count_kind(fields, starts, n, 4),
+    }
+}
 
 // Whether each line is the terms of its kind, where n lines are of kind 1 and m of kind 2.
 fn terms_fit(text: &[u8], n: u16, m: u16) -> bool
