@@ -3,19 +3,19 @@
 use Prim.Native.Nat.{ℕ, zero, suc, _+_, _≤_, _<_}
 use mathlib.Core.Path.{_≡_, refl, sym, ap, _∙_}
 use mathlib.Core.Logic.{_≢_, _⊎_, inl, inr}
-use mathlib.Core.Bool.{Bool, true, false, cond, _&&_, _||_}
+use mathlib.Core.Bool.{Bool, true, false, cond, _&&_, true≢false}
 use mathlib.Core.List.{List, [], _∷_, _++_, List·Memᴰ, List·Memᴰ·head, List·Memᴰ·tail, List·Memᴰ·not-nil}
 use native.Mathlib.Omega.{arith}
-use borrow.Author.Tests.{ne-eqb, eqb-true, eqb-false}
-use lib.Dec.{eqb}
+use borrow.Author.Tests.{ne-eqb, eqb-true, eqb-false, leb-false}
+use lib.Dec.{eqb, leb}
 use lib.ListN.{length, getD}
 use Rattle.foundation.specs.Reflects.{Reflects, so, not-so, _⇒_}
 use Rattle.foundation.proofs.Reflects.{by-and, by-or, by-iff, by-if, by-eqb, says-yes, is-so}
 use Rattle.foundation.proofs.First.{by-all}
 use Rattle.design.specs.Lines.{kindOf, ofKind, countOf}
 use Rattle.design.specs.Faults.{IsParameter, IsRow, fewest, most, Allowed, Falls, here, later, Fault4, unknown, falling, wrong-count, not-three, too-few}
-use Rattle.design.specs.Tests.{climbs, eachLineIs, isParameter, isRow, lengthFits, countFits, layoutFits}
-use Rattle.design.proofs.Each.{EachLine, each-cons, by-each-line, AllIn, by-leb, by-parameter, by-row}
+use Rattle.design.specs.Tests.{climbs, eachLineIs, isParameter, isRow, lengthFits, countFits, countsFit, layoutFits}
+use Rattle.design.proofs.Each.{EachLine, each-cons, by-each-line, SomeLine, some-line, SomeNumber, some-number, one-of, not-if, AllIn, by-leb, by-parameter, by-row}
 
 -- ---- kinds that climb
 
@@ -113,6 +113,72 @@ layout-of lines f =
         go : {b : Bool} → Reflects (n ≡ 3) b → n ≡ 3
         go (so p) = p
         go (not-so p) = absurd (g p)
+
+-- ---- and where the test says no, the fault is there
+
+-- a kind that is below that of the line before, or above 7
+pub data Misplaced (lines : List (List ℕ)) : Type 0 where
+  falls : Falls lines → Misplaced lines
+  above : {line : List ℕ} → List·Memᴰ line lines → 7 < kindOf line → Misplaced lines
+
+misplaced-later : {a : List ℕ} {lines : List (List ℕ)} → Misplaced lines → Misplaced (a ∷ lines)
+misplaced-later (falls f) = falls (later f)
+misplaced-later (above m h) = above (List·Memᴰ·tail m) h
+
+after : (a : List ℕ) (lines : List (List ℕ)) → climbs (kindOf a) lines ≡ false → Misplaced (a ∷ lines)
+unfolding climbs
+after a [] h = absurd (true≢false h)
+after a (b ∷ lines) h = go (leb (kindOf a) (kindOf b)) (leb (kindOf b) 7) refl refl h (after b lines)
+  where
+    go : (x y : Bool) → leb (kindOf a) (kindOf b) ≡ x → leb (kindOf b) 7 ≡ y → (x && (y && climbs (kindOf b) lines)) ≡ false
+        → (climbs (kindOf b) lines ≡ false → Misplaced (b ∷ lines)) → Misplaced (a ∷ b ∷ lines)
+    go false y ex ey h ih = falls (here (leb-false (kindOf a) (kindOf b) ex))
+    go true false ex ey h ih = above (List·Memᴰ·tail (List·Memᴰ·head refl)) (leb-false (kindOf b) 7 ey)
+    go true true ex ey h ih = misplaced-later (ih h)
+
+misplaced-fault : {lines : List (List ℕ)} → Misplaced lines → Fault4 lines
+misplaced-fault (falls f) = falling f
+misplaced-fault (above m h) = unknown m (inr h)
+
+kinds-fault : (lines : List (List ℕ)) → climbs 1 lines ≡ false → Fault4 lines
+unfolding climbs
+kinds-fault [] h = absurd (true≢false h)
+kinds-fault (a ∷ lines) h = go (leb 1 (kindOf a)) (leb (kindOf a) 7) refl refl h
+  where
+    go : (x y : Bool) → leb 1 (kindOf a) ≡ x → leb (kindOf a) 7 ≡ y → (x && (y && climbs (kindOf a) lines)) ≡ false → Fault4 (a ∷ lines)
+    go false y ex ey h = let l = leb-false 1 (kindOf a) ex in unknown (List·Memᴰ·head refl) (inl (omega arith))
+    go true false ex ey h = unknown (List·Memᴰ·head refl) (inr (leb-false (kindOf a) 7 ey))
+    go true true ex ey h = misplaced-fault (after a lines h)
+
+counts-fault : (lines : List (List ℕ)) → SomeNumber (countFits lines) 7 1 → Fault4 lines
+counts-fault lines s =
+    wrong-count (s .from) (s .below)
+    (λ a. true≢false (sym (is-so (by-and (by-leb (getD fewest (s .number) 0) (countOf (s .number) lines)) (by-leb (countOf (s .number) lines) (getD most (s .number) 0))) a) ∙ s .fails))
+
+length-fault : (lines : List (List ℕ)) → SomeLine lengthFits lines → Fault4 lines
+length-fault lines s = go (one-of (isParameter kind ⇒ eqb n 3) (isRow kind ⇒ leb 3 n) (s .fails))
+  where
+    kind : ℕ
+    kind = kindOf (s .line)
+
+    n : ℕ
+    n = length (s .line)
+
+    go : ((isParameter kind ⇒ eqb n 3) ≡ false) ⊎ ((isRow kind ⇒ leb 3 n) ≡ false) → Fault4 lines
+    go (inl e) = let p = not-if (isParameter kind) (eqb n 3) e in not-three (s .among) (says-yes (by-parameter kind) (p .0)) (eqb-false n 3 (p .1))
+    go (inr e) = let p = not-if (isRow kind) (leb 3 n) e in too-few (s .among) (says-yes (by-row kind) (p .0)) (leb-false 3 n (p .1))
+
+pub has-fault4 : (lines : List (List ℕ)) → layoutFits lines ≡ false → Fault4 lines
+unfolding layoutFits
+has-fault4 lines h = go (one-of (climbs 1 lines) (countsFit lines && eachLineIs lengthFits lines) h)
+  where
+    rest : (countsFit lines ≡ false) ⊎ (eachLineIs lengthFits lines ≡ false) → Fault4 lines
+    rest (inl e) = counts-fault lines (some-number (countFits lines) 7 1 e)
+    rest (inr e) = length-fault lines (some-line lengthFits lines e)
+
+    go : (climbs 1 lines ≡ false) ⊎ ((countsFit lines && eachLineIs lengthFits lines) ≡ false) → Fault4 lines
+    go (inl e) = kinds-fault lines e
+    go (inr e) = rest (one-of (countsFit lines) (eachLineIs lengthFits lines) e)
 
 -- ---- the lines of each kind stand together, in the order of kinds
 
