@@ -3,3 +3,4 @@ pub mod Places
 pub mod Filling
 pub mod Table
 pub mod Loading
+pub mod Lowest
