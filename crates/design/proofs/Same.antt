@@ -28,7 +28,7 @@ nth-among (line ∷ lines) (suc j) h = List·Memᴰ·tail (nth-among lines j (om
 
 -- ---- the lines of a kind are lines, and of that kind
 
-of-kind : (k : ℕ) (lines : List (List ℕ)) → EachLine (λ line. (kindOf line ≡ k) × List·Memᴰ line lines) (ofKind k lines)
+pub of-kind : (k : ℕ) (lines : List (List ℕ)) → EachLine (λ line. (kindOf line ≡ k) × List·Memᴰ line lines) (ofKind k lines)
 unfolding ofKind
 of-kind k [] = λ line m. absurd (List·Memᴰ·not-nil m)
 of-kind k (l ∷ lines) = go (eqb (kindOf l) k) refl (of-kind k lines)

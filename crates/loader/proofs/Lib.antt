@@ -4,3 +4,4 @@ pub mod Filling
 pub mod Table
 pub mod Loading
 pub mod Lowest
+pub mod Admitted

@@ -49,7 +49,7 @@ allows lines l =
     }
 
 -- the sizes of parameters are those of their lines
-sizes-same : (lines : List (List ℕ)) → map (λ (q : Parameter). q .size) (map parameterOf lines) ≡ map sizeOf lines
+pub sizes-same : (lines : List (List ℕ)) → map (λ (q : Parameter). q .size) (map parameterOf lines) ≡ map sizeOf lines
 sizes-same [] = refl
 sizes-same (line ∷ lines) = rw (sizes-same lines)
 
