@@ -120,10 +120,10 @@ fn is_alone<'a>(
     ensures { λ r. ⌜ r ≡ lines.alone (now (fields .entry)) (now (starts .entry)) end i ⌝ }
 {
     let action = number(fields, starts, i, ACTION);
-    if action == INTERNAL {
-        return true;
+    if action != INTERNAL {
+        return all_differ(fields, starts, action, i + 1, end);
     }
-    all_differ(fields, starts, action, i + 1, end)
+    true
 }
 
 // Whether none of the rows from one line on, up to the end, has this action.
