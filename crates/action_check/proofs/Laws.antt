@@ -211,13 +211,8 @@ module _ (fields starts : List ℕ) (from middle end : ℕ) where
           pub internal-data : not d ≡ true → false ≡ whole
           internal-data n = rw (← ea, was-yes a na, ← eb, was-yes b nb, ← ec, was-yes c nc, ← ed, was-no d n)
 
-  pub spans : (e : Bool) → e ≡ lines.between (lines.agrees fields starts middle end) from middle
-      → (a : Bool) → a ≡ lines.between (lines.alone fields starts middle) from middle → not a ≡ false
-      → (b : Bool) → b ≡ lines.between (lines.alone fields starts end) middle end → not b ≡ false
-      → (c : Bool) → c ≡ lines.between (lines.differs fields starts 0) middle end → not c ≡ false
-      → (d : Bool) → d ≡ lines.between (lines.bare fields starts) from middle → not d ≡ false → e ≡ whole
-  spans e ee a ea na b eb nb c ec nc d ed nd =
-      rw (← ea, was-yes a na, ← eb, was-yes b nb, ← ec, was-yes c nc, ← ed, was-yes d nd) ee
+          pub spans : not d ≡ false → (e : Bool) → e ≡ lines.between (lines.agrees fields starts middle end) from middle → e ≡ whole
+          spans n e ee = rw (← ea, was-yes a na, ← eb, was-yes b nb, ← ec, was-yes c nc, ← ed, was-yes d n) ee
 
 module _ (fields starts : List ℕ) (c : Counts) (b : Bool) (eb : b ≡ fewLines c) where
   pub too-many : not b ≡ true → false ≡ actionsFitIn fields starts c

@@ -10,8 +10,8 @@ ghost use Rattle.design.specs.Loaded.{lineFrom};
 ghost use Rattle.action_check.specs.ActionsFit.{fewLines, actionsFitIn};
 ghost use Rattle.action_check.specs.Lines as lines;
 
-// A line's start is kept for each line, and one for the end.
-pub const STARTS: usize = 84;
+// The start of each line is kept, and one more for the end.
+pub const STARTS: usize = design::MAX_LINES + 1;
 
 // "Action 0 is the internal step."
 const INTERNAL: u16 = 0;
