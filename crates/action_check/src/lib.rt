@@ -10,8 +10,8 @@ ghost use Rattle.design.specs.Loaded.{lineFrom};
 ghost use Rattle.action_check.specs.ActionsFit.{fewLines, actionsFitIn};
 ghost use Rattle.action_check.specs.Lines as lines;
 
-// A line's start is kept for each line, and one for the end.
-pub const STARTS: usize = 84;
+// The start of each line is kept, and one more for the end.
+pub const STARTS: usize = design::MAX_LINES + 1;
 
 // "Action 0 is the internal step."
 const INTERNAL: u16 = 0;
@@ -120,10 +120,10 @@ fn is_alone<'a>(
     ensures { λ r. ⌜ r ≡ lines.alone (now (fields .entry)) (now (starts .entry)) end i ⌝ }
 {
     let action = number(fields, starts, i, ACTION);
-    if action == INTERNAL {
-        return true;
+    if action != INTERNAL {
+        return all_differ(fields, starts, action, i + 1, end);
     }
-    all_differ(fields, starts, action, i + 1, end)
+    true
 }
 
 // Whether none of the rows from one line on, up to the end, has this action.

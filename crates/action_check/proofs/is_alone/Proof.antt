@@ -9,7 +9,7 @@ is-alone-spec =
     tie.close
     (tie.spec
     (λ c κs. search needs)
-    (λ c. search laws.alone-internal)
     (λ c. search needs)
     (λ c κs. search needs)
-    (λ c. search laws.alone-visible))
+    (λ c. search laws.alone-visible)
+    (λ c. search laws.alone-internal))
