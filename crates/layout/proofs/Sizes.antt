@@ -35,15 +35,24 @@ fit c b said so =
       kind4 = leb-true (c .kind4) 32 (and-right k3 k4 q);
     }
 
--- what n - i lines from line i on say, one line at a time
+-- what n - i lines from line b + i on say, one line at a time
+pub each-on : {A : Type 0} (says : List ℕ → A) (line : ℕ → List ℕ) (b n i : ℕ) → i < n
+    → eachLine says line (n - i) (b + i) ≡ says (line (b + i)) ∷ eachLine says line (n - (i + 1)) (b + (i + 1))
+unfolding eachLine
+each-on says line b n i l =
+    let e : n - i ≡ suc (n - (i + 1)) = omega arith in
+    let k : suc (b + i) ≡ b + (i + 1) = omega arith in
+    rw (e, k)
+
+-- from line i on
 pub each-turn : {A : Type 0} (says : List ℕ → A) (line : ℕ → List ℕ) (n i : ℕ) → i < n
     → eachLine says line (n - i) i ≡ says (line i) ∷ eachLine says line (n - (i + 1)) (i + 1)
 unfolding eachLine
 each-turn says line n i l = let e : n - i ≡ suc (n - (i + 1)) = omega arith in rw (e, add-one i)
 
-pub each-none : {A : Type 0} (says : List ℕ → A) (line : ℕ → List ℕ) (n i : ℕ) → n ≤ i → eachLine says line (n - i) i ≡ []
+pub each-none : {A : Type 0} (says : List ℕ → A) (line : ℕ → List ℕ) (b n i : ℕ) → n ≤ i → eachLine says line (n - i) b ≡ []
 unfolding eachLine
-each-none says line n i l = let e : n - i ≡ 0 = omega arith in rw e
+each-none says line b n i l = let e : n - i ≡ 0 = omega arith in rw e
 
 -- ---- cutting off
 
@@ -111,7 +120,7 @@ unfolding productLeft
 product-ends f s n i p l small inv = end ∙ inv
   where
     end : p ≡ productLeft f s n i p
-    end = rw (each-none _ (lineFrom f s) n i l) (omega arith)
+    end = rw (each-none _ (lineFrom f s) i n i l) (omega arith)
 
 pub number-starts : (f s : List ℕ) (n : ℕ) → numberLeft f s n 0 0 ≡ numberUpTo f s n
 unfolding numberLeft numberUpTo
@@ -132,7 +141,7 @@ unfolding numberFrom numberLeft
 number-ends f s n i v l small inv = end ∙ inv
   where
     end : v ≡ numberLeft f s n i v
-    end = rw (each-none _ (lineFrom f s) n i l) (omega arith)
+    end = rw (each-none _ (lineFrom f s) i n i l) (omega arith)
 
 -- ---- where the counts fit, and where not
 

@@ -1,0 +1,195 @@
+-- What the functions of the code return, and the turns of their loops, as the definitions of specs/Arrays say it: what is left gives
+-- the whole. That these are the state, the steps and the tests of a design is in proofs/States.
+use mathlib.Core.Path.{_≡_, refl, sym, _∙_, ap}
+use mathlib.Core.Bool.{Bool, true, false, _&&_}
+use mathlib.Core.List.{List, [], _∷_}
+use Prim.Native.Nat.{ℕ, zero, suc, _+_, _-_, _≤_, _<_, _%_, _/_}
+use native.Mathlib.Numerals.{add-one}
+use native.Mathlib.Omega.{arith}
+use borrow.Author.Tests.{lt-ltb, le-ltb, eq-eqb, ne-eqb}
+use lib.ListN.{getD, drop, set, replicate}
+use lib.Seq.{sets, set-comm}
+use Rattle.foundation.specs.Radix.{belowB, sameB, splitOf}
+use Rattle.terms.specs.Read.{readV, readF}
+use Rattle.terms.proofs.Read.{place}
+use Rattle.criteria.specs.Design.{Parameter}
+use Rattle.eval.specs.Answer.{answerV, answerF}
+use Rattle.eval.specs.declared.Valued.{Valued}
+use Rattle.eval.specs.declared.Held.{Held}
+use Rattle.design.specs.Line.{parameterOf, rowOf, valuesIn}
+use Rattle.design.specs.Loaded.{lineFrom, eachLine, invariantAt}
+use Rattle.design.specs.declared.Counts.{Counts}
+use Rattle.layout.specs.Sizes.{parametersFrom, sizesOf}
+use Rattle.layout.proofs.Sizes.{each-on, each-turn, each-none}
+use Rattle.examine.specs.Arrays.{padded, front, valuesAt, stepOf, stateIn, belowIn, sameIn, invariantIn, insideIn, mappedIn, measureIn}
+use Rattle.examine.specs.declared.Step.{Step}
+
+-- ---- the values of terms, one after the other
+
+module _ (f v : List ℕ) (e at n : ℕ) where
+  abbrev all : List ℕ
+  all = padded (valuesAt f at n v e)
+
+  -- the values from the i-th on, stored in w
+  unfoldable pub valuesLeft : List ℕ → ℕ → ℕ → List ℕ
+  valuesLeft w p i = sets w i (valuesAt f p (n - i) v e)
+
+  pub values-start : valuesLeft (replicate 8 0) at 0 ≡ all
+  unfolding valuesLeft padded
+  values-start = let k : n - 0 ≡ n = omega arith in rw k
+
+  pub values-turn : (w : List ℕ) (p i : ℕ) (x : Valued) → i < n → x ≡ answerV p v e (readV 32 (drop p f)) → valuesLeft w p i ≡ all
+      → valuesLeft (set w i (x .value)) (x .next) (i + 1) ≡ all
+  unfolding valuesLeft valuesAt valuesIn
+  values-turn w p i x l said inv = go ∙ inv
+    where
+      go : valuesLeft (set w i (x .value)) (x .next) (i + 1) ≡ valuesLeft w p i
+      go =
+          let k : n - i ≡ suc (n - (i + 1)) = omega arith in
+          rw (k, said, add-one i, place f p _ refl)
+
+  pub values-end : (w : List ℕ) (p i : ℕ) → n ≤ i → valuesLeft w p i ≡ all → w ≡ all
+  unfolding valuesLeft valuesAt valuesIn
+  values-end w p i l inv = go ∙ inv
+    where
+      go : w ≡ valuesLeft w p i
+      go = let k : n - i ≡ 0 = omega arith in rw k
+
+-- ---- the state with a number, from the last value on
+
+-- a store before a run of stores may as well come first
+set-first : (l : List ℕ) (i : ℕ) (vs : List ℕ) (j x : ℕ) → j < i → set (sets l i vs) j x ≡ sets (set l j x) i vs
+set-first l i [] j x h = refl
+set-first l i (a ∷ vs) j x h =
+    set-first (set l i a) (suc i) vs j x (omega arith) ∙ ap (λ m. sets m (suc i) vs) (set-comm l i j a x (omega arith))
+
+module _ (f s : List ℕ) (n k : ℕ) where
+  unfoldable pub lastValues : ℕ → List ℕ
+  lastValues i = sets (replicate 8 0) i (splitOf (sizesOf (parametersFrom f s (n - i) i)) k .values)
+
+  unfoldable pub leftOver : ℕ → ℕ
+  leftOver i = splitOf (sizesOf (parametersFrom f s (n - i) i)) k .left
+
+  pub state-start : (i : ℕ) → i ≡ n → (replicate 8 0 ≡ lastValues i) × (k ≡ leftOver i)
+  unfolding lastValues leftOver splitOf
+  state-start i h =
+      let none : [] ≡ parametersFrom f s (n - i) i = sym (each-none parameterOf (lineFrom f s) i n i (omega arith)) in
+      (ap (λ ps. sets (replicate 8 0) i (splitOf (sizesOf ps) k .values)) none, ap (λ ps. splitOf (sizesOf ps) k .left) none)
+
+  state-turn : (w : List ℕ) (m i j z x y : ℕ) → j ≡ i - 1 → 0 < i → i ≤ n → z ≡ getD (lineFrom f s j) 1 0 → x ≡ m % z → y ≡ m / z
+      → w ≡ lastValues i → m ≡ leftOver i → (set w j x ≡ lastValues j) × (y ≡ leftOver j)
+  unfolding lastValues leftOver splitOf
+  state-turn w m i j z x y ej p l ez ex ey ew em =
+      let u : j + 1 ≡ i = omega arith in
+      let v : i ≡ suc j = omega arith in
+      let one : parametersFrom f s (n - j) j ≡ parameterOf (lineFrom f s j) ∷ parametersFrom f s (n - i) i =
+      each-turn parameterOf (lineFrom f s) n j (omega arith) ∙ ap (λ (q : ℕ). parameterOf (lineFrom f s j) ∷ parametersFrom f s (n - q) q) u in
+      let vs : List ℕ = splitOf (sizesOf (parametersFrom f s (n - i) i)) k .values in
+      let ex′ : x ≡ leftOver i % getD (lineFrom f s j) 1 0 = rw (ex, ez, em) in
+      let ey′ : y ≡ leftOver i / getD (lineFrom f s j) 1 0 = rw (ey, ez, em) in (
+        ap (λ o. set o j x) ew
+            ∙ set-first (replicate 8 0) i vs j x (omega arith)
+            ∙ (λ h. sets (set (replicate 8 0) j (ex′ h)) (v h) vs)
+            ∙ ap (λ ps. sets (replicate 8 0) j (splitOf (sizesOf ps) k .values)) (sym one),
+        ey′ ∙ ap (λ ps. splitOf (sizesOf ps) k .left) (sym one),
+      )
+
+  pub state-turn-values : (w : List ℕ) (m i z x : ℕ) → 0 < i → i ≤ n → x ≡ m % z → z ≡ getD (lineFrom f s (i - 1)) 1 0
+      → w ≡ lastValues i → m ≡ leftOver i → set w (i - 1) x ≡ lastValues (i - 1)
+  state-turn-values w m i z x p l ex ez ew em = state-turn w m i (i - 1) z x (m / z) refl p l ez ex refl ew em .0
+
+  pub state-turn-left : (w : List ℕ) (m i z y : ℕ) → 0 < i → i ≤ n → y ≡ m / z → z ≡ getD (lineFrom f s (i - 1)) 1 0
+      → w ≡ lastValues i → m ≡ leftOver i → y ≡ leftOver (i - 1)
+  state-turn-left w m i z y p l ey ez ew em = state-turn w m i (i - 1) z (m % z) y refl p l ez refl ey ew em .1
+
+  pub state-end : (w : List ℕ) (i : ℕ) → i ≤ 0 → w ≡ lastValues i → w ≡ stateIn f s n k
+  unfolding lastValues stateIn padded
+  state-end w i l ew = let z : i ≡ 0 = omega arith in let m : n - 0 ≡ n = omega arith in ew ∙ rw (z, m)
+
+-- ---- values below their sizes, and the same values
+
+module _ (f s v : List ℕ) (b n i : ℕ) where
+  unfoldable pub belowLeft : Bool
+  belowLeft = belowB (sizesOf (parametersFrom f s (n - i) (b + i))) (front (n - i) i v)
+
+  belows : (z : ℕ) → i < n → z ≡ getD (lineFrom f s (b + i)) 1 0
+      → belowLeft ≡ belowB (z ∷ sizesOf (parametersFrom f s (n - (i + 1)) (b + (i + 1)))) (getD v i 0 ∷ front (n - (i + 1)) (i + 1) v)
+  unfolding belowLeft front
+  belows z l ez =
+      let k : n - i ≡ suc (n - (i + 1)) = omega arith in
+      rw (each-on parameterOf (lineFrom f s) b n i l, ez, add-one i, k, add-one i)
+
+  pub below-fails : (z : ℕ) → i < n → z ≡ getD (lineFrom f s (b + i)) 1 0 → z ≤ getD v i 0 → belowLeft ≡ belowIn f s b n v → false ≡ belowIn f s b n v
+  below-fails z l ez h inv = sym (belows z l ez ∙ rw (le-ltb (getD v i 0) z h)) ∙ inv
+
+pub below-start : (f s v : List ℕ) (b n : ℕ) → belowLeft f s v b n 0 ≡ belowIn f s b n v
+unfolding belowLeft belowIn
+below-start f s v b n = let k : n - 0 ≡ n = omega arith in let m : b + 0 ≡ b = omega arith in rw (k, m)
+
+pub below-turn : (f s v : List ℕ) (b n i z : ℕ) → i < n → z ≡ getD (lineFrom f s (b + i)) 1 0 → getD v i 0 < z → belowLeft f s v b n i ≡ belowIn f s b n v
+    → belowLeft f s v b n (i + 1) ≡ belowIn f s b n v
+unfolding belowLeft
+below-turn f s v b n i z l ez h inv = sym (belows f s v b n i z l ez ∙ rw (lt-ltb (getD v i 0) z h)) ∙ inv
+
+pub below-end : (f s v : List ℕ) (b n i : ℕ) → n ≤ i → belowLeft f s v b n i ≡ belowIn f s b n v → true ≡ belowIn f s b n v
+unfolding belowLeft front
+below-end f s v b n i l inv = go ∙ inv
+  where
+    go : true ≡ belowLeft f s v b n i
+    go = let k : n - i ≡ 0 = omega arith in rw (each-none parameterOf (lineFrom f s) (b + i) n i l, k)
+
+module _ (v w : List ℕ) (n i : ℕ) where
+  unfoldable pub sameLeft : Bool
+  sameLeft = sameB (front (n - i) i v) (front (n - i) i w)
+
+  sames : i < n → sameLeft ≡ sameB (getD v i 0 ∷ front (n - (i + 1)) (i + 1) v) (getD w i 0 ∷ front (n - (i + 1)) (i + 1) w)
+  unfolding sameLeft front
+  sames l = let k : n - i ≡ suc (n - (i + 1)) = omega arith in rw (k, add-one i)
+
+  pub same-fails : i < n → (getD v i 0 ≡ getD w i 0 → ⊥) → sameLeft ≡ sameIn n v w → false ≡ sameIn n v w
+  same-fails l h inv = sym (sames l ∙ rw (ne-eqb (getD v i 0) (getD w i 0) h)) ∙ inv
+
+pub same-start : (v w : List ℕ) (n : ℕ) → sameLeft v w n 0 ≡ sameIn n v w
+unfolding sameLeft sameIn
+same-start v w n = let k : n - 0 ≡ n = omega arith in rw k
+
+pub same-turn : (v w : List ℕ) (n i : ℕ) → i < n → getD v i 0 ≡ getD w i 0 → sameLeft v w n i ≡ sameIn n v w → sameLeft v w n (i + 1) ≡ sameIn n v w
+unfolding sameLeft
+same-turn v w n i l h inv = sym (sames v w n i l ∙ rw (eq-eqb (getD v i 0) (getD w i 0) h)) ∙ inv
+
+pub same-end : (v w : List ℕ) (n i : ℕ) → n ≤ i → sameLeft v w n i ≡ sameIn n v w → true ≡ sameIn n v w
+unfolding sameLeft front
+same-end v w n i l inv = go ∙ inv
+  where
+    go : true ≡ sameLeft v w n i
+    go = let k : n - i ≡ 0 = omega arith in rw k
+
+-- ---- a row's step; invariant, mapping, measure
+
+pub step-is : (f v : List ℕ) (line n e : ℕ) (h : Held) (x : Valued) (w : List ℕ) → h ≡ answerF (line + 3) v e (readF 32 (drop (line + 3) f))
+    → x ≡ answerV (h .next) v e (readV 32 (drop (h .next) f)) → w ≡ padded (valuesAt f (x .next) n v e)
+    → record { enabled = h .holds; carries = x .value; next = w } ≡ stepOf (rowOf n (drop line f)) v e
+unfolding stepOf valuesAt
+step-is f v line n e h x w eh ex ew = rw (place f line 3 refl, ew, ex, eh, place f (line + 3) _ refl, place f (line + 3 + _) _ refl)
+
+module _ (f s v : List ℕ) (c : Counts) (i line : ℕ) (there : i ≡ invariantAt c) where
+  pub invariant-is : (h : Held) → line ≡ getD s i 0 → h ≡ answerF (line + 1) v 0 (readF 32 (drop (line + 1) f)) → h .holds ≡ invariantIn f s c v
+  unfolding invariantIn
+  invariant-is h el eh = rw (← there, ← el, place f line 1 refl, eh)
+
+  pub mapped-is : (w : List ℕ) → line ≡ getD s (i + 1) 0 → w ≡ padded (valuesAt f (line + 1) (c .kind2) v 0) → w ≡ mappedIn f s c v
+  unfolding mappedIn valuesAt
+  mapped-is w el ew = rw (← there, ← el, place f line 1 refl, ew)
+
+  pub measure-is : (x : Valued) → line ≡ getD s (i + 2) 0 → x ≡ answerV (line + 1) v 0 (readV 32 (drop (line + 1) f)) → x .value ≡ measureIn f s c v
+  unfolding measureIn
+  measure-is x el ex = rw (← there, ← el, place f line 1 refl, ex)
+
+module _ (f s v : List ℕ) (c : Counts) (b : Bool) (said : b ≡ belowIn f s 0 (c .kind1) v) where
+  pub inside-so : (r : Bool) → b ≡ true → r ≡ invariantIn f s c v → r ≡ insideIn f s c v
+  unfolding insideIn
+  inside-so r h er = rw (← said, h) er
+
+  pub inside-not : b ≡ false → false ≡ insideIn f s c v
+  unfolding insideIn
+  inside-not h = rw (← said, h)

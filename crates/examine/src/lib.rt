@@ -1,0 +1,209 @@
+// One state examined: its values, the steps that its rows give, criteria 2 to 9 there, and the lowest that fails.
+//
+// A state, of either process, is an array of eight values of which those past the last parameter are 0. What the criteria are is in
+// the crates criteria and decision; what each function here computes from the desk's arrays is in specs/Arrays.
+use design::Counts;
+ghost use mathlib.Core.Path.{_≡_};
+ghost use Prim.Native.Nat.{_≤_, _<_, _%_, _/_};
+ghost use lib.ListN.{drop};
+ghost use Rattle.design.specs.Line.{rowOf};
+ghost use Rattle.design.specs.Loaded.{invariantAt};
+ghost use Rattle.layout.specs.Sizes.{Fit};
+ghost use Rattle.examine.specs.Arrays.{padded, valuesAt, stepOf, stateIn, belowIn, sameIn, invariantIn, insideIn, mappedIn, measureIn};
+
+// What a row does at a state for a sum value: whether it is enabled, the data number, and the state that it leads to.
+pub struct Step {
+    pub enabled: bool,
+    pub carries: u16,
+    pub next: [u16; terms::MAX_PARAMETERS],
+}
+
+// ---- values
+
+// The values of n terms that stand one after the other from a place on.
+fn values(
+    fields: &[u16; terms::MAX_FIELDS],
+    at: usize,
+    n: usize,
+    v: &[u16; terms::MAX_PARAMETERS],
+    sum: u16,
+) -> [u16; terms::MAX_PARAMETERS]
+    requires { ⌜ n ≤ 8 ⌝ }
+    ensures { λ r. ⌜ r ≡ padded (valuesAt (now (fields .entry)) at n (now (v .entry)) sum) ⌝ }
+{
+    let mut out = [0u16; terms::MAX_PARAMETERS];
+    let mut place = at;
+    let mut i = 0;
+    while i < n {
+        let x = eval::value(fields, place, v, sum, terms::MAX_DEPTH);
+        out[i] = x.value;
+        place = x.next;
+        i += 1;
+    }
+    out
+}
+
+// Remainder and quotient; by 0 the dividend and 0.
+fn remainder(x: u16, y: u16) -> u16
+    ensures { λ r. ⌜ r ≡ x % y ⌝ }
+{
+    if y == 0 { x } else { x % y }
+}
+
+fn quotient(x: u16, y: u16) -> u16
+    ensures { λ r. ⌜ r ≡ x / y ⌝ }
+{
+    if y == 0 { 0 } else { x / y }
+}
+
+// The state that has a number: each value is the remainder by its size of what is left, from the last of n parameters on.
+fn state<'a>(
+    fields: &'a [u16; terms::MAX_FIELDS],
+    starts: &'a [u16; 84],
+    n: usize,
+    number: u16,
+) -> [u16; terms::MAX_PARAMETERS]
+    requires { ⌜ n ≤ 8 ⌝ }
+    ensures { λ r. ⌜ r ≡ stateIn (now (fields .entry)) (now (starts .entry)) n number ⌝ }
+{
+    let mut out = [0u16; terms::MAX_PARAMETERS];
+    let mut left = number;
+    let mut i = n;
+    while 0 < i {
+        i -= 1;
+        let z = layout::size(fields, starts, i);
+        out[i] = remainder(left, z);
+        left = quotient(left, z);
+    }
+    out
+}
+
+// Whether each of the first n values is below its size, the sizes standing from line `first` on.
+fn below<'a>(
+    fields: &'a [u16; terms::MAX_FIELDS],
+    starts: &'a [u16; 84],
+    first: usize,
+    n: usize,
+    v: &[u16; terms::MAX_PARAMETERS],
+) -> bool
+    requires { ⌜ first ≤ 8 ⌝ }
+    requires { ⌜ n ≤ 8 ⌝ }
+    ensures { λ r. ⌜ r ≡ belowIn (now (fields .entry)) (now (starts .entry)) first n (now (v .entry)) ⌝ }
+{
+    let mut i = 0;
+    while i < n {
+        let z = layout::size(fields, starts, first + i);
+        if z <= v[i] {
+            return false;
+        }
+        i += 1;
+    }
+    true
+}
+
+// Whether the first n values are the same.
+fn same(n: usize, v: &[u16; terms::MAX_PARAMETERS], w: &[u16; terms::MAX_PARAMETERS]) -> bool
+    requires { ⌜ n ≤ 8 ⌝ }
+    ensures { λ r. ⌜ r ≡ sameIn n (now (v .entry)) (now (w .entry)) ⌝ }
+{
+    let mut i = 0;
+    while i < n {
+        if v[i] != w[i] {
+            return false;
+        }
+        i += 1;
+    }
+    true
+}
+
+// ---- the kinds of lines at a state
+
+// What the row in the line that starts at a place does, in a process of n parameters.
+fn step_by(
+    fields: &[u16; terms::MAX_FIELDS],
+    line: u16,
+    n: usize,
+    v: &[u16; terms::MAX_PARAMETERS],
+    sum: u16,
+) -> Step
+    requires { ⌜ n ≤ 8 ⌝ }
+    ensures { λ r. ⌜ r ≡ stepOf (rowOf n (drop line (now (fields .entry)))) (now (v .entry)) sum ⌝ }
+{
+    let condition = eval::formula(fields, line as usize + 3, v, sum, terms::MAX_DEPTH);
+    let data = eval::value(fields, condition.next, v, sum, terms::MAX_DEPTH);
+    let next = values(fields, data.next, n, v, sum);
+    Step {
+        enabled: condition.holds,
+        carries: data.value,
+        next: next,
+    }
+}
+
+// The line of the invariant; those of the mapping and the measure follow it.
+fn invariant_line(counts: Counts) -> usize
+    requires { ⌜ Fit counts ⌝ }
+    ensures { λ r. ⌜ r ≡ invariantAt counts ⌝ }
+{
+    counts.kind1 + counts.kind2 + counts.kind3 + counts.kind4
+}
+
+// Whether the invariant holds.
+fn invariant<'a>(
+    fields: &'a [u16; terms::MAX_FIELDS],
+    starts: &'a [u16; 84],
+    counts: Counts,
+    v: &[u16; terms::MAX_PARAMETERS],
+) -> bool
+    requires { ⌜ Fit counts ⌝ }
+    ensures { λ r. ⌜ r ≡ invariantIn (now (fields .entry)) (now (starts .entry)) counts (now (v .entry)) ⌝ }
+{
+    let line = layout::line(starts, invariant_line(counts));
+    let f = eval::formula(fields, line as usize + 1, v, 0, terms::MAX_DEPTH);
+    f.holds
+}
+
+// Whether the values are those of a state of the implementation in which the invariant holds.
+fn inside<'a>(
+    fields: &'a [u16; terms::MAX_FIELDS],
+    starts: &'a [u16; 84],
+    counts: Counts,
+    v: &[u16; terms::MAX_PARAMETERS],
+) -> bool
+    requires { ⌜ Fit counts ⌝ }
+    ensures { λ r. ⌜ r ≡ insideIn (now (fields .entry)) (now (starts .entry)) counts (now (v .entry)) ⌝ }
+{
+    if below(fields, starts, 0, counts.kind1, v) {
+        invariant(fields, starts, counts, v)
+    } else {
+        false
+    }
+}
+
+// The mapped state.
+fn mapped<'a>(
+    fields: &'a [u16; terms::MAX_FIELDS],
+    starts: &'a [u16; 84],
+    counts: Counts,
+    v: &[u16; terms::MAX_PARAMETERS],
+) -> [u16; terms::MAX_PARAMETERS]
+    requires { ⌜ Fit counts ⌝ }
+    ensures { λ r. ⌜ r ≡ mappedIn (now (fields .entry)) (now (starts .entry)) counts (now (v .entry)) ⌝ }
+{
+    let line = layout::line(starts, invariant_line(counts) + 1);
+    values(fields, line as usize + 1, counts.kind2, v, 0)
+}
+
+// The measure.
+fn measure<'a>(
+    fields: &'a [u16; terms::MAX_FIELDS],
+    starts: &'a [u16; 84],
+    counts: Counts,
+    v: &[u16; terms::MAX_PARAMETERS],
+) -> u16
+    requires { ⌜ Fit counts ⌝ }
+    ensures { λ r. ⌜ r ≡ measureIn (now (fields .entry)) (now (starts .entry)) counts (now (v .entry)) ⌝ }
+{
+    let line = layout::line(starts, invariant_line(counts) + 2);
+    let m = eval::value(fields, line as usize + 1, v, 0, terms::MAX_DEPTH);
+    m.value
+}
