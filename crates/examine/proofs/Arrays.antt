@@ -7,12 +7,16 @@ use Prim.Native.Nat.{ℕ, zero, suc, _+_, _-_, _≤_, _<_, _%_, _/_}
 use native.Mathlib.Numerals.{add-one}
 use native.Mathlib.Omega.{arith}
 use borrow.Author.Tests.{lt-ltb, le-ltb, eq-eqb, ne-eqb}
-use lib.ListN.{getD, drop, set, replicate}
+use lib.Dec.{eqb}
+use lib.ListN.{length, getD, drop, set, replicate, List·getD-eq-default}
 use lib.Seq.{sets, set-comm}
 use Rattle.foundation.specs.Radix.{belowB, sameB, splitOf}
+use Rattle.terms.specs.Tree.{pick, evalV, evalF}
 use Rattle.terms.specs.Read.{readV, readF}
 use Rattle.terms.proofs.Read.{place}
-use Rattle.criteria.specs.Design.{Parameter}
+use Rattle.criteria.specs.Design.{Parameter, Row}
+use Rattle.criteria.specs.Rows.{noRow, rowAt}
+use Rattle.decision.specs.Tests.{rowFrom}
 use Rattle.eval.specs.Answer.{answerV, answerF}
 use Rattle.eval.specs.declared.Valued.{Valued}
 use Rattle.eval.specs.declared.Held.{Held}
@@ -21,7 +25,7 @@ use Rattle.design.specs.Loaded.{lineFrom, eachLine, invariantAt}
 use Rattle.design.specs.declared.Counts.{Counts}
 use Rattle.layout.specs.Sizes.{parametersFrom, sizesOf}
 use Rattle.layout.proofs.Sizes.{each-on, each-turn, each-none}
-use Rattle.examine.specs.Arrays.{padded, front, valuesAt, stepOf, stateIn, belowIn, sameIn, invariantIn, insideIn, mappedIn, measureIn}
+use Rattle.examine.specs.Arrays.{padded, front, valuesAt, stepOf, noStep, rowsFrom, rowStep, rowSpan, rowWith, stateIn, belowIn, sameIn, invariantIn, insideIn, mappedIn, measureIn}
 use Rattle.examine.specs.declared.Step.{Step}
 
 -- ---- the values of terms, one after the other
@@ -164,13 +168,96 @@ same-end v w n i l inv = go ∙ inv
     go : true ≡ sameLeft v w n i
     go = let k : n - i ≡ 0 = omega arith in rw k
 
--- ---- a row's step; invariant, mapping, measure
+-- ---- a row's step
 
-pub step-is : (f v : List ℕ) (line n e : ℕ) (h : Held) (x : Valued) (w : List ℕ) → h ≡ answerF (line + 3) v e (readF 32 (drop (line + 3) f))
+pub step-is : (f v : List ℕ) (line n e a : ℕ) (h : Held) (x : Valued) (w : List ℕ) → a ≡ getD (drop line f) 1 0 → h ≡ answerF (line + 3) v e (readF 32 (drop (line + 3) f))
     → x ≡ answerV (h .next) v e (readV 32 (drop (h .next) f)) → w ≡ padded (valuesAt f (x .next) n v e)
-    → record { enabled = h .holds; carries = x .value; next = w } ≡ stepOf (rowOf n (drop line f)) v e
+    → record { action = a; enabled = h .holds; carries = x .value; next = w } ≡ stepOf (rowOf n (drop line f)) v e
 unfolding stepOf valuesAt
-step-is f v line n e h x w eh ex ew = rw (place f line 3 refl, ew, ex, eh, place f (line + 3) _ refl, place f (line + 3 + _) _ refl)
+step-is f v line n e a h x w ea eh ex ew = rw (ea, place f line 3 refl, ew, ex, eh, place f (line + 3) _ refl, place f (line + 3 + _) _ refl)
+
+-- ---- rows by their numbers
+
+each-length : {A : Type 0} (says : List ℕ → A) (line : ℕ → List ℕ) (n i : ℕ) → length (eachLine says line n i) ≡ n
+unfolding eachLine
+each-length says line zero i = refl
+each-length says line (suc n) i = ap suc (each-length says line n (suc i))
+
+each-get : {A : Type 0} (says : List ℕ → A) (line : ℕ → List ℕ) (n i j : ℕ) (x : A) → j < n → getD (eachLine says line n i) j x ≡ says (line (i + j))
+unfolding eachLine
+each-get says line zero i j x l = absurd (omega arith)
+each-get says line (suc n) i zero x l = let e : i + 0 ≡ i = omega arith in rw e
+each-get says line (suc n) i (suc j) x l = let e : suc i + j ≡ i + suc j = omega arith in each-get says line n (suc i) j x (omega arith) ∙ rw e
+
+module _ (f s : List ℕ) (i n m : ℕ) where
+  pub row-there : (k : ℕ) → (k ≡ 0 → ⊥) → k ≤ n → rowAt (rowsFrom f s i n m) k ≡ rowOf m (lineFrom f s (i + k - 1))
+  row-there zero p l = absurd (p refl)
+  row-there (suc k) p l = let e : i + k ≡ i + suc k - 1 = omega arith in each-get (rowOf m) (lineFrom f s) n i k noRow (omega arith) ∙ rw e
+
+  pub row-past : (k : ℕ) → n < k → rowAt (rowsFrom f s i n m) k ≡ noRow
+  row-past zero l = absurd (omega arith)
+  row-past (suc k) l = List·getD-eq-default (rowsFrom f s i n m) noRow (rw (each-length (rowOf m) (lineFrom f s) n i) (omega arith))
+
+no-step : (v : List ℕ) (e : ℕ) → noStep ≡ stepOf noRow v e
+unfolding stepOf padded evalV
+no-step v e = refl
+
+module _ (f s v : List ℕ) (i n m k e : ℕ) where
+  pub step-none : (r : Step) → k ≡ 0 → r ≡ noStep → r ≡ rowStep f s i n m k v e
+  unfolding rowStep
+  step-none r z er = er ∙ rw z (no-step v e)
+
+  pub step-past : (r : Step) → n < k → r ≡ noStep → r ≡ rowStep f s i n m k v e
+  unfolding rowStep
+  step-past r l er = er ∙ rw (row-past f s i n m k l) (no-step v e)
+
+  pub step-there : (r : Step) (line : ℕ) → (k ≡ 0 → ⊥) → k ≤ n → line ≡ getD s (i + k - 1) 0 → r ≡ stepOf (rowOf m (drop line f)) v e → r ≡ rowStep f s i n m k v e
+  unfolding rowStep
+  step-there r line p l el er = er ∙ rw (row-there f s i n m k p l, el)
+
+module _ (f s : List ℕ) (i n k : ℕ) where
+  pub span-none : k ≡ 0 → 0 ≡ rowSpan f s i n k
+  unfolding rowSpan
+  span-none z = rw z
+
+  pub span-past : n < k → 0 ≡ rowSpan f s i n k
+  unfolding rowSpan
+  span-past l = ap (λ (r : Row). r .span) (sym (row-past f s i n 0 k l))
+
+  pub span-there : (r line : ℕ) → (k ≡ 0 → ⊥) → k ≤ n → line ≡ getD s (i + k - 1) 0 → r ≡ getD (drop line f) 2 0 → r ≡ rowSpan f s i n k
+  unfolding rowSpan
+  span-there r line p l el er = er ∙ ap (λ (x : ℕ). getD (drop x f) 2 0) el ∙ ap (λ (q : Row). q .span) (sym (row-there f s i n 0 k p l))
+
+-- the search for the row of an action
+module _ (f s : List ℕ) (b n a i : ℕ) where
+  unfoldable pub withLeft : ℕ
+  withLeft = rowFrom (eachLine (rowOf 0) (lineFrom f s) (n - i) (b + i)) a (i + 1)
+
+  withs : (x : ℕ) (line : ℕ) → i < n → line ≡ getD s (b + i) 0 → x ≡ getD (drop line f) 1 0
+      → withLeft ≡ pick (eqb x a) (i + 1) (rowFrom (eachLine (rowOf 0) (lineFrom f s) (n - (i + 1)) (b + (i + 1))) a (i + 1 + 1))
+  unfolding withLeft rowFrom
+  withs x line l el ex = rw (each-on (rowOf 0) (lineFrom f s) b n i l, ex, el, add-one (i + 1))
+
+  pub with-found : (x line : ℕ) → i < n → line ≡ getD s (b + i) 0 → x ≡ getD (drop line f) 1 0 → x ≡ a → withLeft ≡ rowWith f s b n a → i + 1 ≡ rowWith f s b n a
+  with-found x line l el ex h inv = sym (withs x line l el ex ∙ rw (eq-eqb x a h)) ∙ inv
+
+pub with-start : (f s : List ℕ) (b n a : ℕ) → withLeft f s b n a 0 ≡ rowWith f s b n a
+unfolding withLeft rowWith
+with-start f s b n a = let e : n - 0 ≡ n = omega arith in let k : b + 0 ≡ b = omega arith in rw (e, k)
+
+pub with-turn : (f s : List ℕ) (b n a i x line : ℕ) → i < n → line ≡ getD s (b + i) 0 → x ≡ getD (drop line f) 1 0 → (x ≡ a → ⊥)
+    → withLeft f s b n a i ≡ rowWith f s b n a → withLeft f s b n a (i + 1) ≡ rowWith f s b n a
+unfolding withLeft
+with-turn f s b n a i x line l el ex h inv = sym (withs f s b n a i x line l el ex ∙ rw (ne-eqb x a h)) ∙ inv
+
+pub with-end : (f s : List ℕ) (b n a i : ℕ) → n ≤ i → withLeft f s b n a i ≡ rowWith f s b n a → 0 ≡ rowWith f s b n a
+unfolding withLeft rowFrom
+with-end f s b n a i l inv = go ∙ inv
+  where
+    go : 0 ≡ withLeft f s b n a i
+    go = rw (each-none (rowOf 0) (lineFrom f s) (b + i) n i l)
+
+-- ---- invariant, mapping, measure
 
 module _ (f s v : List ℕ) (c : Counts) (i line : ℕ) (there : i ≡ invariantAt c) where
   pub invariant-is : (h : Held) → line ≡ getD s i 0 → h ≡ answerF (line + 1) v 0 (readF 32 (drop (line + 1) f)) → h .holds ≡ invariantIn f s c v

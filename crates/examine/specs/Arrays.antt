@@ -1,7 +1,7 @@
 -- What the code computes of a state from a desk's arrays: f the fields, s the starts of lines, c the counts. A state is an array of
 -- eight values, v of the implementation and t of the specification. Nothing here is said of the criteria: that these are the
 -- state, the steps and the tests of the design in the arrays is in proofs/Arrays.
-use mathlib.Core.Bool.{Bool, _&&_}
+use mathlib.Core.Bool.{Bool, false, _&&_}
 use mathlib.Core.List.{List, [], _∷_}
 use Prim.Native.Nat.{ℕ, zero, suc}
 use lib.ListN.{getD, drop, replicate}
@@ -9,9 +9,10 @@ use lib.Seq.{sets}
 use Rattle.foundation.specs.Radix.{belowB, sameB, splitOf}
 use Rattle.criteria.specs.Design.{Row, values, mapped, measureAt}
 use Rattle.criteria.specs.Step.{nextState, dataNumber}
-use Rattle.decision.specs.Tests.{enabledB, invariantB}
-use Rattle.design.specs.Line.{valuesIn}
-use Rattle.design.specs.Loaded.{designIn}
+use Rattle.criteria.specs.Rows.{rowAt}
+use Rattle.decision.specs.Tests.{enabledB, invariantB, rowFrom}
+use Rattle.design.specs.Line.{rowOf, valuesIn}
+use Rattle.design.specs.Loaded.{lineFrom, eachLine, designIn}
 use Rattle.design.specs.declared.Counts.{Counts}
 use Rattle.layout.specs.Sizes.{parametersFrom, sizesOf}
 use Rattle.examine.specs.declared.Step.{Step}
@@ -31,7 +32,23 @@ valuesAt f at n v e = values (valuesIn n (drop at f)) v e
 
 -- what a row does
 unfoldable pub stepOf : Row → List ℕ → ℕ → Step
-stepOf r v e = record { enabled = enabledB r v e; carries = dataNumber r v e; next = padded (nextState r v e) }
+stepOf r v e = record { action = r .action; enabled = enabledB r v e; carries = dataNumber r v e; next = padded (nextState r v e) }
+
+abbrev pub noStep : Step
+noStep = record { action = 0; enabled = false; carries = 0; next = replicate 8 0 }
+
+-- n rows from line i on, in a process of m parameters: what row k does; its span; the number of the first row of an action
+abbrev pub rowsFrom : List ℕ → List ℕ → ℕ → ℕ → ℕ → List Row
+rowsFrom f s i n m = eachLine (rowOf m) (lineFrom f s) n i
+
+unfoldable pub rowStep : List ℕ → List ℕ → ℕ → ℕ → ℕ → ℕ → List ℕ → ℕ → Step
+rowStep f s i n m k v e = stepOf (rowAt (rowsFrom f s i n m) k) v e
+
+unfoldable pub rowSpan : List ℕ → List ℕ → ℕ → ℕ → ℕ → ℕ
+rowSpan f s i n k = rowAt (rowsFrom f s i n 0) k .span
+
+unfoldable pub rowWith : List ℕ → List ℕ → ℕ → ℕ → ℕ → ℕ
+rowWith f s i n a = rowFrom (rowsFrom f s i n 0) a 1
 
 -- the state with a number, of the first n parameters
 unfoldable pub stateIn : List ℕ → List ℕ → ℕ → ℕ → List ℕ

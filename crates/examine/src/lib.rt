@@ -9,10 +9,11 @@ ghost use lib.ListN.{drop};
 ghost use Rattle.design.specs.Line.{rowOf};
 ghost use Rattle.design.specs.Loaded.{invariantAt};
 ghost use Rattle.layout.specs.Sizes.{Fit};
-ghost use Rattle.examine.specs.Arrays.{padded, valuesAt, stepOf, stateIn, belowIn, sameIn, invariantIn, insideIn, mappedIn, measureIn};
+ghost use Rattle.examine.specs.Arrays.{padded, valuesAt, stepOf, noStep, rowStep, rowSpan, rowWith, stateIn, belowIn, sameIn, invariantIn, insideIn, mappedIn, measureIn};
 
-// What a row does at a state for a sum value: whether it is enabled, the data number, and the state that it leads to.
+// What a row does at a state for a sum value: its action, whether it is enabled, the data number, and the state that it leads to.
 pub struct Step {
+    pub action: u16,
     pub enabled: bool,
     pub carries: u16,
     pub next: [u16; terms::MAX_PARAMETERS],
@@ -133,10 +134,93 @@ fn step_by(
     let data = eval::value(fields, condition.next, v, sum, terms::MAX_DEPTH);
     let next = values(fields, data.next, n, v, sum);
     Step {
+        action: layout::field_of(fields, line, 1),
         enabled: condition.holds,
         carries: data.value,
         next: next,
     }
+}
+
+// What no row does.
+fn no_step() -> Step
+    ensures { λ r. ⌜ r ≡ noStep ⌝ }
+{
+    Step {
+        action: 0,
+        enabled: false,
+        carries: 0,
+        next: [0u16; terms::MAX_PARAMETERS],
+    }
+}
+
+// What row k does, of n rows that stand from line `first` on, in a process of m parameters.
+fn row_step<'a>(
+    fields: &'a [u16; terms::MAX_FIELDS],
+    starts: &'a [u16; 84],
+    first: usize,
+    n: usize,
+    m: usize,
+    k: u16,
+    v: &[u16; terms::MAX_PARAMETERS],
+    sum: u16,
+) -> Step
+    requires { ⌜ first ≤ 48 ⌝ }
+    requires { ⌜ m ≤ 8 ⌝ }
+    ensures { λ r. ⌜ r ≡ rowStep (now (fields .entry)) (now (starts .entry)) first n m k (now (v .entry)) sum ⌝ }
+{
+    let i = k as usize;
+    if i == 0 {
+        return no_step();
+    }
+    if n < i {
+        return no_step();
+    }
+    let line = layout::line(starts, first + i - 1);
+    step_by(fields, line, m, v, sum)
+}
+
+// The span of row k, of n rows that stand from line `first` on.
+fn row_span<'a>(
+    fields: &'a [u16; terms::MAX_FIELDS],
+    starts: &'a [u16; 84],
+    first: usize,
+    n: usize,
+    k: u16,
+) -> u16
+    requires { ⌜ first ≤ 48 ⌝ }
+    ensures { λ r. ⌜ r ≡ rowSpan (now (fields .entry)) (now (starts .entry)) first n k ⌝ }
+{
+    let i = k as usize;
+    if i == 0 {
+        return 0;
+    }
+    if n < i {
+        return 0;
+    }
+    layout::field_of(fields, layout::line(starts, first + i - 1), 2)
+}
+
+// The number of the first row of an action, of n rows that stand from line `first` on, and 0 if there is none.
+fn row_with<'a>(
+    fields: &'a [u16; terms::MAX_FIELDS],
+    starts: &'a [u16; 84],
+    first: usize,
+    n: usize,
+    action: u16,
+) -> u16
+    requires { ⌜ first ≤ 48 ⌝ }
+    requires { ⌜ n ≤ 32 ⌝ }
+    ensures { λ r. ⌜ r ≡ rowWith (now (fields .entry)) (now (starts .entry)) first n action ⌝ }
+{
+    let mut i = 0;
+    while i < n {
+        let a = layout::field_of(fields, layout::line(starts, first + i), 1);
+        if a == action {
+            return i as u16 + 1;
+        }
+        i += 1;
+    }
+    0
 }
 
 // The line of the invariant; those of the mapping and the measure follow it.
