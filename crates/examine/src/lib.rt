@@ -10,6 +10,7 @@ ghost use Rattle.design.specs.Line.{rowOf};
 ghost use Rattle.design.specs.Loaded.{invariantAt};
 ghost use Rattle.layout.specs.Sizes.{Fit};
 ghost use Rattle.examine.specs.Arrays.{padded, valuesAt, stepOf, noStep, rowStep, rowSpan, rowWith, stateIn, belowIn, sameIn, invariantIn, insideIn, mappedIn, measureIn};
+ghost use Rattle.examine.specs.Tests.{implStep, specStep, implSpan, specSpan, implRow, specRow, rowQuiet, focusIn, holds2In, holds3In, holds4In, holds5In, holds6In, holds7In, holds8In, holds9In};
 
 // What a row does at a state for a sum value: its action, whether it is enabled, the data number, and the state that it leads to.
 pub struct Step {
@@ -290,4 +291,306 @@ fn measure<'a>(
     let line = layout::line(starts, invariant_line(counts) + 2);
     let m = eval::value(fields, line as usize + 1, v, 0, terms::MAX_DEPTH);
     m.value
+}
+
+// ---- the two processes
+
+// What row k of the implementation does at v.
+fn impl_step<'a>(
+    fields: &'a [u16; terms::MAX_FIELDS],
+    starts: &'a [u16; 84],
+    counts: Counts,
+    k: u16,
+    v: &[u16; terms::MAX_PARAMETERS],
+    sum: u16,
+) -> Step
+    requires { ⌜ Fit counts ⌝ }
+    ensures { λ r. ⌜ r ≡ implStep (now (fields .entry)) (now (starts .entry)) counts k (now (v .entry)) sum ⌝ }
+{
+    row_step(
+        fields,
+        starts,
+        counts.kind1 + counts.kind2,
+        counts.kind3,
+        counts.kind1,
+        k,
+        v,
+        sum,
+    )
+}
+
+// What row k of the specification does at t.
+fn spec_step<'a>(
+    fields: &'a [u16; terms::MAX_FIELDS],
+    starts: &'a [u16; 84],
+    counts: Counts,
+    k: u16,
+    t: &[u16; terms::MAX_PARAMETERS],
+    sum: u16,
+) -> Step
+    requires { ⌜ Fit counts ⌝ }
+    ensures { λ r. ⌜ r ≡ specStep (now (fields .entry)) (now (starts .entry)) counts k (now (t .entry)) sum ⌝ }
+{
+    row_step(
+        fields,
+        starts,
+        counts.kind1 + counts.kind2 + counts.kind3,
+        counts.kind4,
+        counts.kind2,
+        k,
+        t,
+        sum,
+    )
+}
+
+// The span of row k of the implementation, and of the specification.
+fn impl_span<'a>(
+    fields: &'a [u16; terms::MAX_FIELDS],
+    starts: &'a [u16; 84],
+    counts: Counts,
+    k: u16,
+) -> u16
+    requires { ⌜ Fit counts ⌝ }
+    ensures { λ r. ⌜ r ≡ implSpan (now (fields .entry)) (now (starts .entry)) counts k ⌝ }
+{
+    row_span(fields, starts, counts.kind1 + counts.kind2, counts.kind3, k)
+}
+
+fn spec_span<'a>(
+    fields: &'a [u16; terms::MAX_FIELDS],
+    starts: &'a [u16; 84],
+    counts: Counts,
+    k: u16,
+) -> u16
+    requires { ⌜ Fit counts ⌝ }
+    ensures { λ r. ⌜ r ≡ specSpan (now (fields .entry)) (now (starts .entry)) counts k ⌝ }
+{
+    row_span(
+        fields,
+        starts,
+        counts.kind1 + counts.kind2 + counts.kind3,
+        counts.kind4,
+        k,
+    )
+}
+
+// The implementation's row of an action, and the specification's, by number; 0 where there is none.
+fn impl_row<'a>(
+    fields: &'a [u16; terms::MAX_FIELDS],
+    starts: &'a [u16; 84],
+    counts: Counts,
+    action: u16,
+) -> u16
+    requires { ⌜ Fit counts ⌝ }
+    ensures { λ r. ⌜ r ≡ implRow (now (fields .entry)) (now (starts .entry)) counts action ⌝ }
+{
+    row_with(
+        fields,
+        starts,
+        counts.kind1 + counts.kind2,
+        counts.kind3,
+        action,
+    )
+}
+
+fn spec_row<'a>(
+    fields: &'a [u16; terms::MAX_FIELDS],
+    starts: &'a [u16; 84],
+    counts: Counts,
+    action: u16,
+) -> u16
+    requires { ⌜ Fit counts ⌝ }
+    ensures { λ r. ⌜ r ≡ specRow (now (fields .entry)) (now (starts .entry)) counts action ⌝ }
+{
+    row_with(
+        fields,
+        starts,
+        counts.kind1 + counts.kind2 + counts.kind3,
+        counts.kind4,
+        action,
+    )
+}
+
+// ---- focus points
+
+// Whether row k of the implementation is no internal row that is enabled for some sum value.
+fn row_quiet<'a>(
+    fields: &'a [u16; terms::MAX_FIELDS],
+    starts: &'a [u16; 84],
+    counts: Counts,
+    k: u16,
+    v: &[u16; terms::MAX_PARAMETERS],
+) -> bool
+    requires { ⌜ Fit counts ⌝ }
+    ensures { λ r. ⌜ r ≡ rowQuiet (now (fields .entry)) (now (starts .entry)) counts (now (v .entry)) k ⌝ }
+{
+    let span = impl_span(fields, starts, counts, k);
+    let mut sum = 0;
+    while sum < span {
+        let step = impl_step(fields, starts, counts, k, v, sum);
+        if (step.action == 0) & step.enabled {
+            return false;
+        }
+        sum += 1;
+    }
+    true
+}
+
+// Whether the state is a focus point: no internal row is enabled.
+fn focus<'a>(
+    fields: &'a [u16; terms::MAX_FIELDS],
+    starts: &'a [u16; 84],
+    counts: Counts,
+    v: &[u16; terms::MAX_PARAMETERS],
+) -> bool
+    requires { ⌜ Fit counts ⌝ }
+    ensures { λ r. ⌜ r ≡ focusIn (now (fields .entry)) (now (starts .entry)) counts (now (v .entry)) ⌝ }
+{
+    let rows = counts.kind3 as u16;
+    let mut k = 0;
+    while k <= rows {
+        if !row_quiet(fields, starts, counts, k, v) {
+            return false;
+        }
+        k += 1;
+    }
+    true
+}
+
+// ---- criteria 2 to 9, for row k and a sum value; t is the mapped state of v
+
+fn holds2<'a>(
+    fields: &'a [u16; terms::MAX_FIELDS],
+    starts: &'a [u16; 84],
+    counts: Counts,
+    t: &[u16; terms::MAX_PARAMETERS],
+) -> bool
+    requires { ⌜ Fit counts ⌝ }
+    ensures { λ r. ⌜ r ≡ holds2In (now (fields .entry)) (now (starts .entry)) counts (now (t .entry)) ⌝ }
+{
+    below(fields, starts, counts.kind1, counts.kind2, t)
+}
+
+fn holds3<'a>(
+    fields: &'a [u16; terms::MAX_FIELDS],
+    starts: &'a [u16; 84],
+    counts: Counts,
+    v: &[u16; terms::MAX_PARAMETERS],
+    k: u16,
+    sum: u16,
+) -> bool
+    requires { ⌜ Fit counts ⌝ }
+    ensures { λ r. ⌜ r ≡ holds3In (now (fields .entry)) (now (starts .entry)) counts (now (v .entry)) k sum ⌝ }
+{
+    let step = impl_step(fields, starts, counts, k, v, sum);
+    !step.enabled | inside(fields, starts, counts, &step.next)
+}
+
+fn holds4<'a>(
+    fields: &'a [u16; terms::MAX_FIELDS],
+    starts: &'a [u16; 84],
+    counts: Counts,
+    v: &[u16; terms::MAX_PARAMETERS],
+    t: &[u16; terms::MAX_PARAMETERS],
+    k: u16,
+    sum: u16,
+) -> bool
+    requires { ⌜ Fit counts ⌝ }
+    ensures { λ r. ⌜ r ≡ holds4In (now (fields .entry)) (now (starts .entry)) counts (now (v .entry)) (now (t .entry)) k sum ⌝ }
+{
+    let step = impl_step(fields, starts, counts, k, v, sum);
+    let there = mapped(fields, starts, counts, &step.next);
+    !step.enabled | (!(step.action == 0) | same(counts.kind2, t, &there))
+}
+
+fn holds5<'a>(
+    fields: &'a [u16; terms::MAX_FIELDS],
+    starts: &'a [u16; 84],
+    counts: Counts,
+    v: &[u16; terms::MAX_PARAMETERS],
+    k: u16,
+    sum: u16,
+) -> bool
+    requires { ⌜ Fit counts ⌝ }
+    ensures { λ r. ⌜ r ≡ holds5In (now (fields .entry)) (now (starts .entry)) counts (now (v .entry)) k sum ⌝ }
+{
+    let step = impl_step(fields, starts, counts, k, v, sum);
+    let there = measure(fields, starts, counts, &step.next);
+    let here = measure(fields, starts, counts, v);
+    !step.enabled | (!(step.action == 0) | (there < here))
+}
+
+fn holds6<'a>(
+    fields: &'a [u16; terms::MAX_FIELDS],
+    starts: &'a [u16; 84],
+    counts: Counts,
+    v: &[u16; terms::MAX_PARAMETERS],
+    t: &[u16; terms::MAX_PARAMETERS],
+    k: u16,
+    sum: u16,
+) -> bool
+    requires { ⌜ Fit counts ⌝ }
+    ensures { λ r. ⌜ r ≡ holds6In (now (fields .entry)) (now (starts .entry)) counts (now (v .entry)) (now (t .entry)) k sum ⌝ }
+{
+    let step = impl_step(fields, starts, counts, k, v, sum);
+    let row = spec_row(fields, starts, counts, step.action);
+    let answer = spec_step(fields, starts, counts, row, t, sum);
+    !step.enabled | ((step.action == 0) | answer.enabled)
+}
+
+// Here k is the specification's row.
+fn holds7<'a>(
+    fields: &'a [u16; terms::MAX_FIELDS],
+    starts: &'a [u16; 84],
+    counts: Counts,
+    v: &[u16; terms::MAX_PARAMETERS],
+    t: &[u16; terms::MAX_PARAMETERS],
+    focus: bool,
+    k: u16,
+    sum: u16,
+) -> bool
+    requires { ⌜ Fit counts ⌝ }
+    ensures { λ r. ⌜ r ≡ holds7In (now (fields .entry)) (now (starts .entry)) counts (now (v .entry)) (now (t .entry)) focus k sum ⌝ }
+{
+    let step = spec_step(fields, starts, counts, k, t, sum);
+    let row = impl_row(fields, starts, counts, step.action);
+    let answer = impl_step(fields, starts, counts, row, v, sum);
+    !focus | (!step.enabled | answer.enabled)
+}
+
+fn holds8<'a>(
+    fields: &'a [u16; terms::MAX_FIELDS],
+    starts: &'a [u16; 84],
+    counts: Counts,
+    v: &[u16; terms::MAX_PARAMETERS],
+    t: &[u16; terms::MAX_PARAMETERS],
+    k: u16,
+    sum: u16,
+) -> bool
+    requires { ⌜ Fit counts ⌝ }
+    ensures { λ r. ⌜ r ≡ holds8In (now (fields .entry)) (now (starts .entry)) counts (now (v .entry)) (now (t .entry)) k sum ⌝ }
+{
+    let step = impl_step(fields, starts, counts, k, v, sum);
+    let row = spec_row(fields, starts, counts, step.action);
+    let answer = spec_step(fields, starts, counts, row, t, sum);
+    !step.enabled | ((step.action == 0) | ((row == 0) | (step.carries == answer.carries)))
+}
+
+fn holds9<'a>(
+    fields: &'a [u16; terms::MAX_FIELDS],
+    starts: &'a [u16; 84],
+    counts: Counts,
+    v: &[u16; terms::MAX_PARAMETERS],
+    t: &[u16; terms::MAX_PARAMETERS],
+    k: u16,
+    sum: u16,
+) -> bool
+    requires { ⌜ Fit counts ⌝ }
+    ensures { λ r. ⌜ r ≡ holds9In (now (fields .entry)) (now (starts .entry)) counts (now (v .entry)) (now (t .entry)) k sum ⌝ }
+{
+    let step = impl_step(fields, starts, counts, k, v, sum);
+    let row = spec_row(fields, starts, counts, step.action);
+    let answer = spec_step(fields, starts, counts, row, t, sum);
+    let there = mapped(fields, starts, counts, &step.next);
+    !step.enabled | ((step.action == 0) | ((row == 0) | same(counts.kind2, &there, &answer.next)))
 }
