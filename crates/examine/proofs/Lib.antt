@@ -1,3 +1,4 @@
 pub mod Arrays
 pub mod All
 pub mod Tests
+pub mod Search

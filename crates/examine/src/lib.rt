@@ -11,6 +11,7 @@ ghost use Rattle.design.specs.Loaded.{invariantAt};
 ghost use Rattle.layout.specs.Sizes.{Fit};
 ghost use Rattle.examine.specs.Arrays.{padded, valuesAt, stepOf, noStep, rowStep, rowSpan, rowWith, stateIn, belowIn, sameIn, invariantIn, insideIn, mappedIn, measureIn};
 ghost use Rattle.examine.specs.Tests.{implStep, specStep, implSpan, specSpan, implRow, specRow, rowQuiet, focusIn, holds2In, holds3In, holds4In, holds5In, holds6In, holds7In, holds8In, holds9In};
+ghost use Rattle.examine.specs.Search.{toldPlace, holdsIn, spanIn, rowsIn, inRowIn, inRowsIn, inCriteriaIn, searchIn};
 
 // What a row does at a state for a sum value: its action, whether it is enabled, the data number, and the state that it leads to.
 pub struct Step {
@@ -18,6 +19,18 @@ pub struct Step {
     pub enabled: bool,
     pub carries: u16,
     pub next: [u16; terms::MAX_PARAMETERS],
+}
+
+// A place of failure at a state: criterion, row and sum value.
+pub struct Place {
+    pub criterion: u16,
+    pub row: u16,
+    pub sum: u16,
+}
+
+pub enum Finding {
+    Nothing,
+    Found(Place),
 }
 
 // ---- values
@@ -593,4 +606,161 @@ fn holds9<'a>(
     let answer = spec_step(fields, starts, counts, row, t, sum);
     let there = mapped(fields, starts, counts, &step.next);
     !step.enabled | ((step.action == 0) | ((row == 0) | same(counts.kind2, &there, &answer.next)))
+}
+
+// ---- the lowest failure of a state
+
+// Whether criterion n, one of 3 to 9, holds for row k and a sum value.
+fn holds<'a>(
+    fields: &'a [u16; terms::MAX_FIELDS],
+    starts: &'a [u16; 84],
+    counts: Counts,
+    v: &[u16; terms::MAX_PARAMETERS],
+    t: &[u16; terms::MAX_PARAMETERS],
+    focus: bool,
+    n: u16,
+    k: u16,
+    sum: u16,
+) -> bool
+    requires { ⌜ Fit counts ⌝ }
+    ensures { λ r. ⌜ r ≡ holdsIn (now (fields .entry)) (now (starts .entry)) counts (now (v .entry)) (now (t .entry)) focus n k sum ⌝ }
+{
+    match n {
+        3 => holds3(fields, starts, counts, v, k, sum),
+        4 => holds4(fields, starts, counts, v, t, k, sum),
+        5 => holds5(fields, starts, counts, v, k, sum),
+        6 => holds6(fields, starts, counts, v, t, k, sum),
+        7 => holds7(fields, starts, counts, v, t, focus, k, sum),
+        8 => holds8(fields, starts, counts, v, t, k, sum),
+        _ => holds9(fields, starts, counts, v, t, k, sum),
+    }
+}
+
+// The span of row k, where the rows are those that criterion n is tried at.
+fn span_for<'a>(
+    fields: &'a [u16; terms::MAX_FIELDS],
+    starts: &'a [u16; 84],
+    counts: Counts,
+    n: u16,
+    k: u16,
+) -> u16
+    requires { ⌜ Fit counts ⌝ }
+    ensures { λ r. ⌜ r ≡ spanIn (now (fields .entry)) (now (starts .entry)) counts n k ⌝ }
+{
+    if n == 7 {
+        spec_span(fields, starts, counts, k)
+    } else {
+        impl_span(fields, starts, counts, k)
+    }
+}
+
+// How many rows criterion n is tried at: in criterion 7 they are the specification's.
+fn rows_for(counts: Counts, n: u16) -> u16
+    requires { ⌜ Fit counts ⌝ }
+    ensures { λ r. ⌜ r ≡ rowsIn counts n ⌝ }
+{
+    if n == 7 {
+        counts.kind4 as u16
+    } else {
+        counts.kind3 as u16
+    }
+}
+
+// The first sum value of row k at which criterion n fails.
+fn in_row<'a>(
+    fields: &'a [u16; terms::MAX_FIELDS],
+    starts: &'a [u16; 84],
+    counts: Counts,
+    v: &[u16; terms::MAX_PARAMETERS],
+    t: &[u16; terms::MAX_PARAMETERS],
+    focus: bool,
+    n: u16,
+    k: u16,
+) -> Finding
+    requires { ⌜ Fit counts ⌝ }
+    ensures { λ r. ⌜ toldPlace r ≡ inRowIn (now (fields .entry)) (now (starts .entry)) counts (now (v .entry)) (now (t .entry)) focus n k ⌝ }
+{
+    let span = span_for(fields, starts, counts, n, k);
+    let mut sum = 0;
+    while sum < span {
+        if !holds(fields, starts, counts, v, t, focus, n, k, sum) {
+            return Finding::Found(Place {
+                criterion: n,
+                row: k,
+                sum: sum,
+            });
+        }
+        sum += 1;
+    }
+    Finding::Nothing
+}
+
+// The first row at which criterion n fails.
+fn in_rows<'a>(
+    fields: &'a [u16; terms::MAX_FIELDS],
+    starts: &'a [u16; 84],
+    counts: Counts,
+    v: &[u16; terms::MAX_PARAMETERS],
+    t: &[u16; terms::MAX_PARAMETERS],
+    focus: bool,
+    n: u16,
+) -> Finding
+    requires { ⌜ Fit counts ⌝ }
+    ensures { λ r. ⌜ toldPlace r ≡ inRowsIn (now (fields .entry)) (now (starts .entry)) counts (now (v .entry)) (now (t .entry)) focus n ⌝ }
+{
+    let rows = rows_for(counts, n);
+    let mut k = 0;
+    while k <= rows {
+        let found = in_row(fields, starts, counts, v, t, focus, n, k);
+        if let Finding::Found(_) = found {
+            return found;
+        }
+        k += 1;
+    }
+    Finding::Nothing
+}
+
+// The first of the criteria 3 to 9 that fails.
+fn in_criteria<'a>(
+    fields: &'a [u16; terms::MAX_FIELDS],
+    starts: &'a [u16; 84],
+    counts: Counts,
+    v: &[u16; terms::MAX_PARAMETERS],
+    t: &[u16; terms::MAX_PARAMETERS],
+    focus: bool,
+) -> Finding
+    requires { ⌜ Fit counts ⌝ }
+    ensures { λ r. ⌜ toldPlace r ≡ inCriteriaIn (now (fields .entry)) (now (starts .entry)) counts (now (v .entry)) (now (t .entry)) focus ⌝ }
+{
+    let mut n = 3;
+    while n < 10 {
+        let found = in_rows(fields, starts, counts, v, t, focus, n);
+        if let Finding::Found(_) = found {
+            return found;
+        }
+        n += 1;
+    }
+    Finding::Nothing
+}
+
+// The lowest failure at the state v, whose mapped state is t.
+fn lowest<'a>(
+    fields: &'a [u16; terms::MAX_FIELDS],
+    starts: &'a [u16; 84],
+    counts: Counts,
+    v: &[u16; terms::MAX_PARAMETERS],
+    t: &[u16; terms::MAX_PARAMETERS],
+) -> Finding
+    requires { ⌜ Fit counts ⌝ }
+    ensures { λ r. ⌜ toldPlace r ≡ searchIn (now (fields .entry)) (now (starts .entry)) counts (now (v .entry)) (now (t .entry)) ⌝ }
+{
+    if !holds2(fields, starts, counts, t) {
+        return Finding::Found(Place {
+            criterion: 2,
+            row: 0,
+            sum: 0,
+        });
+    }
+    let quiet = focus(fields, starts, counts, v);
+    in_criteria(fields, starts, counts, v, t, quiet)
 }
