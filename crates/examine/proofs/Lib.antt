@@ -1,4 +1,0 @@
-pub mod Arrays
-pub mod All
-pub mod Tests
-pub mod Search
