@@ -188,7 +188,7 @@ step-is f v line n e a h x w ea eh ex ew = rw (ea, place f line 3 refl, ew, ex, 
 
 -- ---- rows by their numbers
 
-each-length : {A : Type 0} (says : List ℕ → A) (line : ℕ → List ℕ) (n i : ℕ) → length (eachLine says line n i) ≡ n
+pub each-length : {A : Type 0} (says : List ℕ → A) (line : ℕ → List ℕ) (n i : ℕ) → length (eachLine says line n i) ≡ n
 unfolding eachLine
 each-length says line zero i = refl
 each-length says line (suc n) i = ap suc (each-length says line n (suc i))
