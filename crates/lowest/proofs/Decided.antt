@@ -102,8 +102,11 @@ module _ (f s : List ℕ) (c : Counts) (fits : Fit c) (x : List ℕ) (long : len
     held4 : holds4In f s c v t k e ≡ holds4 d x (implAt k) e
     unfolding holds4In stepOf
     held4 =
-        rw (impl-step k e, states.mapped-held f s c next next-short,
-        states.same-held (mapped d x) (mapped d next) (c .kind2) (states.mapped-length f s c x) (states.mapped-length f s c next) (fits .kind2))
+        rw (
+          impl-step k e,
+          states.mapped-held f s c next next-short,
+          states.same-held (mapped d x) (mapped d next) (c .kind2) (states.mapped-length f s c x) (states.mapped-length f s c next) (fits .kind2),
+        )
 
     held5 : holds5In f s c v k e ≡ holds5 d x (implAt k) e
     unfolding holds5In stepOf

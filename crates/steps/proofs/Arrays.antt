@@ -24,9 +24,9 @@ use Rattle.eval.specs.declared.Held.{Held}
 use Rattle.design.specs.Line.{parameterOf, rowOf, valuesIn}
 use Rattle.design.specs.Loaded.{lineFrom, eachLine, implRowsAt, specRowsAt, invariantAt}
 use Rattle.design.specs.declared.Counts.{Counts}
-use Rattle.layout.specs.Sizes.{parametersFrom, sizesOf}
+use Rattle.layout.specs.Sizes.{parametersFrom, sizesOf, initialsOf}
 use Rattle.layout.proofs.Sizes.{each-on, each-turn, each-none}
-use Rattle.steps.specs.Arrays.{padded, front, valuesAt, stepOf, noStep, rowsFrom, rowStep, rowSpan, rowWith, stateIn, belowIn, sameIn, invariantIn, insideIn, mappedIn, measureIn, implStep, specStep, implSpan, specSpan, implRow, specRow}
+use Rattle.steps.specs.Arrays.{padded, front, valuesAt, stepOf, noStep, rowsFrom, rowStep, rowSpan, rowWith, stateIn, initialIn, belowIn, sameIn, invariantIn, insideIn, mappedIn, measureIn, implStep, specStep, implSpan, specSpan, implRow, specRow}
 use Rattle.steps.specs.declared.Step.{Step}
 
 -- ---- the values of terms, one after the other
@@ -119,6 +119,32 @@ module _ (f s : List ℕ) (n k : ℕ) where
 pub state-end : (f s : List ℕ) (n k : ℕ) (w : List ℕ) (i : ℕ) → i ≤ 0 → w ≡ lastValues f s (min n 8) k i → w ≡ stateIn f s n k
 unfolding lastValues stateIn padded
 state-end f s n k w i l ew = let z : i ≡ 0 = omega arith in let m : min n 8 - 0 ≡ min n 8 = omega arith in ew ∙ rw (z, m)
+
+-- ---- initial values
+
+module _ (f s : List ℕ) (b n : ℕ) where
+  unfoldable pub initialLeft : List ℕ → ℕ → List ℕ
+  initialLeft w i = sets w i (initialsOf (parametersFrom f s (n - i) (b + i)))
+
+  pub initial-start : initialLeft (replicate 8 0) 0 ≡ initialIn f s b n
+  unfolding initialLeft initialIn padded
+  initial-start = let k : n - 0 ≡ n = omega arith in let m : b + 0 ≡ b = omega arith in rw (k, m)
+
+  pub initial-turn : (w : List ℕ) (i m x : ℕ) → m ≡ min n 8 → i < m → x ≡ getD (lineFrom f s (b + i)) 2 0 → initialLeft w i ≡ initialIn f s b n
+      → initialLeft (set w i x) (i + 1) ≡ initialIn f s b n
+  unfolding initialLeft
+  initial-turn w i m x em l ex inv = go ∙ inv
+    where
+      go : initialLeft (set w i x) (i + 1) ≡ initialLeft w i
+      go = rw (each-on parameterOf (lineFrom f s) b n i (omega arith), ← ex, add-one i)
+
+  pub initial-end : (w : List ℕ) (i m : ℕ) → m ≡ min n 8 → m ≤ i → length w ≡ 8 → initialLeft w i ≡ initialIn f s b n → w ≡ initialIn f s b n
+  unfolding initialLeft
+  initial-end w i m em l long inv = go (decLt 8 n) ∙ inv
+    where
+      go : Dec (8 < n) → w ≡ initialLeft w i
+      go (no h) = rw (each-none parameterOf (lineFrom f s) (b + i) n i (omega arith))
+      go (yes h) = sym (sets-out w i (initialsOf (parametersFrom f s (n - i) (b + i))) (omega arith))
 
 -- ---- values below their sizes, and the same values
 

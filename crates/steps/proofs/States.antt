@@ -15,7 +15,7 @@ use Rattle.foundation.proofs.Nth.{nth-nil, nth-cons}
 use Rattle.foundation.proofs.Radix.{from-the-last}
 use Rattle.terms.specs.Tree.{Value, Formula, num, par, sumValue, choice, noValue, const, compare, negation, join, noFormula, evalV, evalF}
 use Rattle.terms.specs.Tree as tree
-use Rattle.criteria.specs.Design.{Parameter, Row, values, sizes, mapped, measureAt}
+use Rattle.criteria.specs.Design.{Parameter, Row, values, sizes, initialState, mapped, measureAt}
 use Rattle.criteria.specs.Step.{nextState}
 use Rattle.criteria.specs.Rows.{noRow, rowAt}
 use Rattle.decision.specs.Tests.{enabledB, invariantB, insideB, rowFrom, rowOf}
@@ -25,7 +25,7 @@ use Rattle.design.specs.Line.{valuesIn}
 use Rattle.design.specs.Loaded.{lineFrom, eachLine, designIn}
 use Rattle.design.specs.declared.Counts.{Counts}
 use Rattle.layout.specs.Sizes.{Fit, parametersFrom, sizesOf}
-use Rattle.steps.specs.Arrays.{padded, front, stepOf, rowsFrom, rowStep, rowSpan, rowWith, stateIn, belowIn, sameIn, invariantIn, insideIn, mappedIn, measureIn, implStep, specStep, implSpan, specSpan, implRow, specRow}
+use Rattle.steps.specs.Arrays.{padded, front, stepOf, rowsFrom, rowStep, rowSpan, rowWith, stateIn, initialIn, belowIn, sameIn, invariantIn, insideIn, mappedIn, measureIn, implStep, specStep, implSpan, specSpan, implRow, specRow}
 use Rattle.steps.specs.declared.Step.{Step}
 use Rattle.steps.proofs.Arrays.{each-length}
 
@@ -219,3 +219,17 @@ module _ (f s : List ℕ) (c : Counts) where
         let q = fits .kind1 in
         let e : min (c .kind1) 8 ≡ c .kind1 = omega arith in
         rw e (ap padded (from-the-last (sizes (designIn f s c .impl)) k l))
+
+    pub initial-held : initialIn f s 0 (c .kind1) ≡ padded (initialState (designIn f s c .impl))
+    unfolding initialIn
+    initial-held = refl
+
+    pub initial-held-spec : initialIn f s (c .kind1) (c .kind2) ≡ padded (initialState (designIn f s c .spec))
+    unfolding initialIn
+    initial-held-spec = refl
+
+  pub initial-length : length (initialState (designIn f s c .impl)) ≡ c .kind1
+  initial-length = length-map (designIn f s c .impl .parameters) _ ∙ each-length line.parameterOf (lineFrom f s) (c .kind1) 0
+
+  pub initial-length-spec : length (initialState (designIn f s c .spec)) ≡ c .kind2
+  initial-length-spec = length-map (designIn f s c .spec .parameters) _ ∙ each-length line.parameterOf (lineFrom f s) (c .kind2) (c .kind1)

@@ -14,7 +14,7 @@ use Rattle.decision.specs.Tests.{enabledB, invariantB, rowFrom}
 use Rattle.design.specs.Line.{rowOf, valuesIn}
 use Rattle.design.specs.Loaded.{lineFrom, eachLine, implRowsAt, specRowsAt, designIn}
 use Rattle.design.specs.declared.Counts.{Counts}
-use Rattle.layout.specs.Sizes.{parametersFrom, sizesOf}
+use Rattle.layout.specs.Sizes.{parametersFrom, sizesOf, initialsOf}
 use Rattle.steps.specs.declared.Step.{Step}
 
 -- eight values: those given, and 0 after them
@@ -53,6 +53,10 @@ rowWith f s i n a = rowFrom (rowsFrom f s i n 0) a 1
 -- the state with a number, of the first n parameters, and eight at most
 unfoldable pub stateIn : List ℕ → List ℕ → ℕ → ℕ → List ℕ
 stateIn f s n k = padded (splitOf (sizesOf (parametersFrom f s (min n 8) 0)) k .values)
+
+-- the initial values of n parameters from line i on
+unfoldable pub initialIn : List ℕ → List ℕ → ℕ → ℕ → List ℕ
+initialIn f s i n = padded (initialsOf (parametersFrom f s n i))
 
 -- the first n values are below the sizes that stand from line i on; are the same
 unfoldable pub belowIn : List ℕ → List ℕ → ℕ → ℕ → List ℕ → Bool

@@ -10,7 +10,7 @@ ghost use lib.ListN.{drop};
 ghost use Rattle.design.specs.Line.{rowOf};
 ghost use Rattle.design.specs.Loaded.{implRowsAt, specRowsAt, invariantAt};
 ghost use Rattle.layout.specs.Sizes.{countsOf};
-ghost use Rattle.steps.specs.Arrays.{padded, valuesAt, stepOf, noStep, rowStep, rowSpan, rowWith, stateIn, belowIn, sameIn, invariantIn, insideIn, mappedIn, measureIn};
+ghost use Rattle.steps.specs.Arrays.{padded, valuesAt, stepOf, noStep, rowStep, rowSpan, rowWith, stateIn, initialIn, belowIn, sameIn, invariantIn, insideIn, mappedIn, measureIn};
 ghost use Rattle.steps.specs.Arrays.{implStep, specStep, implSpan, specSpan, implRow, specRow};
 
 // What a row does at a state for a sum value: its action, whether it is enabled, the data number, and the state that it leads to.
@@ -87,6 +87,25 @@ pub fn state<'a>(
         let z = layout::size(fields, starts, i);
         out[i] = remainder(left, z);
         left = quotient(left, z);
+    }
+    out
+}
+
+// The initial values of n parameters that stand from line `first` on.
+pub fn initial_state<'a>(
+    fields: &'a [u16; terms::MAX_FIELDS],
+    starts: &'a [u16; 84],
+    first: u16,
+    n: u8,
+) -> [u16; terms::MAX_PARAMETERS]
+    ensures { λ r. ⌜ r ≡ initialIn (now (fields .entry)) (now (starts .entry)) first n ⌝ }
+{
+    let m = few(n);
+    let mut out = [0u16; terms::MAX_PARAMETERS];
+    let mut i = 0;
+    while i < m {
+        out[i] = layout::initial(fields, starts, first as usize + i);
+        i += 1;
     }
     out
 }
