@@ -17,7 +17,7 @@ use Rattle.terms.proofs.And.{and-left, and-right}
 use Rattle.criteria.specs.Design.{Parameter}
 use Rattle.design.specs.Loaded.{lineFrom, eachLine}
 use Rattle.design.specs.declared.Counts.{Counts}
-use Rattle.layout.specs.Sizes.{countsFit, Fit, parametersFrom, sizesOf, initialsOf, productUpTo, stateCountIn, numberUpTo, initialNumberIn}
+use Rattle.layout.specs.Sizes.{countsFit, Fit, shapeOf, countsOf, parametersFrom, sizesOf, initialsOf, productUpTo, stateCountIn, numberUpTo, initialNumberIn}
 
 pub fit : (c : Counts) (b : Bool) → b ≡ countsFit c → b ≡ true → Fit c
 fit c b said so =
@@ -35,15 +35,44 @@ fit c b said so =
       kind4 = leb-true (c .kind4) 32 (and-right k3 k4 q);
     }
 
--- what n - i lines from line i on say, one line at a time
+pub shape-fits : (c : Counts) (b : Bool) (k1 k2 k3 k4 : ℕ) → b ≡ countsFit c → b ≡ true → k1 ≡ min (c .kind1) 255 → k2 ≡ min (c .kind2) 255
+    → k3 ≡ min (c .kind3) 255 → k4 ≡ min (c .kind4) 255 → record { kind1 = k1; kind2 = k2; kind3 = k3; kind4 = k4 } ≡ shapeOf c
+unfolding shapeOf
+shape-fits c b k1 k2 k3 k4 said so e1 e2 e3 e4 =
+    let q : Fit c = fit c b said so in
+    let p1 : k1 ≡ c .kind1 = omega arith in
+    let p2 : k2 ≡ c .kind2 = omega arith in
+    let p3 : k3 ≡ c .kind3 = omega arith in
+    let p4 : k4 ≡ c .kind4 = omega arith in
+    rw (← said, so, p1, p2, p3, p4)
+
+pub shape-unfit : (c : Counts) (b : Bool) → b ≡ countsFit c → b ≡ false → record { kind1 = 0; kind2 = 0; kind3 = 0; kind4 = 0 } ≡ shapeOf c
+unfolding shapeOf
+shape-unfit c b said no-fit = rw (← said, no-fit)
+
+-- where the counts fit, nothing is lost
+pub counts-kept : (c : Counts) → countsFit c ≡ true → countsOf (shapeOf c) ≡ c
+unfolding shapeOf
+counts-kept c h = rw h
+
+-- what n - i lines from line b + i on say, one line at a time
+pub each-on : {A : Type 0} (says : List ℕ → A) (line : ℕ → List ℕ) (b n i : ℕ) → i < n
+    → eachLine says line (n - i) (b + i) ≡ says (line (b + i)) ∷ eachLine says line (n - (i + 1)) (b + (i + 1))
+unfolding eachLine
+each-on says line b n i l =
+    let e : n - i ≡ suc (n - (i + 1)) = omega arith in
+    let k : suc (b + i) ≡ b + (i + 1) = omega arith in
+    rw (e, k)
+
+-- from line i on
 pub each-turn : {A : Type 0} (says : List ℕ → A) (line : ℕ → List ℕ) (n i : ℕ) → i < n
     → eachLine says line (n - i) i ≡ says (line i) ∷ eachLine says line (n - (i + 1)) (i + 1)
 unfolding eachLine
 each-turn says line n i l = let e : n - i ≡ suc (n - (i + 1)) = omega arith in rw (e, add-one i)
 
-pub each-none : {A : Type 0} (says : List ℕ → A) (line : ℕ → List ℕ) (n i : ℕ) → n ≤ i → eachLine says line (n - i) i ≡ []
+pub each-none : {A : Type 0} (says : List ℕ → A) (line : ℕ → List ℕ) (b n i : ℕ) → n ≤ i → eachLine says line (n - i) b ≡ []
 unfolding eachLine
-each-none says line n i l = let e : n - i ≡ 0 = omega arith in rw e
+each-none says line b n i l = let e : n - i ≡ 0 = omega arith in rw e
 
 -- ---- cutting off
 
@@ -111,7 +140,7 @@ unfolding productLeft
 product-ends f s n i p l small inv = end ∙ inv
   where
     end : p ≡ productLeft f s n i p
-    end = rw (each-none _ (lineFrom f s) n i l) (omega arith)
+    end = rw (each-none _ (lineFrom f s) i n i l) (omega arith)
 
 pub number-starts : (f s : List ℕ) (n : ℕ) → numberLeft f s n 0 0 ≡ numberUpTo f s n
 unfolding numberLeft numberUpTo
@@ -132,7 +161,7 @@ unfolding numberFrom numberLeft
 number-ends f s n i v l small inv = end ∙ inv
   where
     end : v ≡ numberLeft f s n i v
-    end = rw (each-none _ (lineFrom f s) n i l) (omega arith)
+    end = rw (each-none _ (lineFrom f s) i n i l) (omega arith)
 
 -- ---- where the counts fit, and where not
 

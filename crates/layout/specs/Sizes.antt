@@ -11,6 +11,7 @@ use Rattle.criteria.specs.Design.{Parameter, Process, sizes, initialState, stat
 use Rattle.design.specs.Line.{parameterOf}
 use Rattle.design.specs.Loaded.{lineFrom, eachLine, designIn}
 use Rattle.design.specs.declared.Counts.{Counts}
+use Rattle.layout.specs.declared.Shape.{Shape}
 
 -- "1 to 8" lines of kinds 1 and 2, "0 to 32" of kinds 3 and 4: there are no more
 abbrev pub countsFit : Counts → Bool
@@ -22,6 +23,15 @@ pub record Fit (c : Counts) : Type 0 where
   pub kind2 : c .kind2 ≤ 8
   pub kind3 : c .kind3 ≤ 32
   pub kind4 : c .kind4 ≤ 32
+
+-- the counts as bytes, and back
+unfoldable pub shapeOf : Counts → Shape
+shapeOf c =
+    pick (countsFit c) (record { kind1 = c .kind1; kind2 = c .kind2; kind3 = c .kind3; kind4 = c .kind4 })
+    (record { kind1 = 0; kind2 = 0; kind3 = 0; kind4 = 0 })
+
+abbrev pub countsOf : Shape → Counts
+countsOf h = record { kind1 = h .kind1; kind2 = h .kind2; kind3 = h .kind3; kind4 = h .kind4 }
 
 -- what the lines from line i on say of n parameters
 abbrev pub parametersFrom : List ℕ → List ℕ → ℕ → ℕ → List Parameter

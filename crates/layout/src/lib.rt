@@ -6,7 +6,7 @@ ghost use mathlib.Core.Path.{_≡_};
 ghost use Prim.Native.Nat.{_+_, _*_, min};
 ghost use lib.ListN.{getD, drop};
 ghost use Rattle.design.specs.Loaded.{lineFrom};
-ghost use Rattle.layout.specs.Sizes.{countsFit, productUpTo, stateCountIn, numberUpTo, initialNumberIn};
+ghost use Rattle.layout.specs.Sizes.{countsFit, shapeOf, productUpTo, stateCountIn, numberUpTo, initialNumberIn};
 
 // One more than the most states that a design may have: a count that says "too many".
 pub const TOO_MANY: u32 = 65537;
@@ -21,6 +21,42 @@ pub fn counts_fit(counts: Counts) -> bool
     (counts.kind1 <= design::MAX_PARAMETERS)
         & ((counts.kind2 <= design::MAX_PARAMETERS)
             & ((counts.kind3 <= design::MAX_ROWS) & (counts.kind4 <= design::MAX_ROWS)))
+}
+
+// How many lines of kinds 1 to 4 there are, a byte for each: sums of these never wrap.
+pub struct Shape {
+    pub kind1: u8,
+    pub kind2: u8,
+    pub kind3: u8,
+    pub kind4: u8,
+}
+
+// The number as a byte, 255 standing for all that are too large.
+fn byte(x: usize) -> u8
+    ensures { λ r. ⌜ r ≡ min x 255 ⌝ }
+{
+    if x < 255 { x as u8 } else { 255 }
+}
+
+// The counts as bytes where they fit, and else none.
+pub fn shape_of(counts: Counts) -> Shape
+    ensures { λ r. ⌜ r ≡ shapeOf counts ⌝ }
+{
+    if counts_fit(counts) {
+        Shape {
+            kind1: byte(counts.kind1),
+            kind2: byte(counts.kind2),
+            kind3: byte(counts.kind3),
+            kind4: byte(counts.kind4),
+        }
+    } else {
+        Shape {
+            kind1: 0,
+            kind2: 0,
+            kind3: 0,
+            kind4: 0,
+        }
+    }
 }
 
 // Where line i starts among the fields, and 0 past the last line.

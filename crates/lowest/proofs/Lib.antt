@@ -1,0 +1,4 @@
+pub mod All
+pub mod Tests
+pub mod Search
+pub mod Decided

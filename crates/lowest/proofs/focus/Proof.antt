@@ -1,0 +1,31 @@
+-- What is left of the rows gives the whole.
+use borrow.Author.Needs.{needs}
+use Rattle.lowest.proofs.Tests as laws
+use native.Mathlib.Omega.{arith}
+use mathlib.Core.Path.{_≡_}
+use Prim.Native.Nat.{suc, _-_, _≤_}
+use Rattle.layout.specs.Sizes.{countsOf}
+use Rattle.lowest.specs.Tests.{focusIn}
+use Rattle.lowest.proofs.focus.Statement.{statement}
+use Rattle.lowest.proofs.focus.Tie as tie
+
+abbrev Inv-loop : tie.InvT-loop
+Inv-loop fields starts shape v rows k₀ k = laws.focusLeft fields starts v (countsOf shape) k ≡ focusIn fields starts (countsOf shape) v
+
+abbrev μ-loop : tie.MeasureT-loop
+μ-loop fields starts shape v rows k₀ k = suc rows - k
+
+pub focus-spec : {M : Type 1} → statement M
+focus-spec =
+    tie.close
+    (tie.spec
+    Inv-loop
+    μ-loop
+    (λ c. search laws.focus-begin)
+    (λ c. search needs)
+    (λ c κs. search needs)
+    (λ c. search laws.focus-fail)
+    (λ c. search needs)
+    (λ c. search needs)
+    (λ c. search laws.focus-turn)
+    (λ c. search laws.focus-end))

@@ -1,0 +1,31 @@
+-- What is left of the row gives the whole.
+use borrow.Author.Needs.{needs}
+use Rattle.lowest.proofs.Search as laws
+use native.Mathlib.Omega.{arith}
+use mathlib.Core.Path.{_≡_}
+use Prim.Native.Nat.{suc, _-_, _≤_}
+use Rattle.layout.specs.Sizes.{countsOf}
+use Rattle.lowest.specs.Search.{inRowIn}
+use Rattle.lowest.proofs.in_row.Statement.{statement}
+use Rattle.lowest.proofs.in_row.Tie as tie
+
+abbrev Inv-loop : tie.InvT-loop
+Inv-loop fields starts shape v t focus n k span sum₀ sum = laws.sumsLeft fields starts v t (countsOf shape) focus n k span sum ≡ inRowIn fields starts (countsOf shape) v t focus n k
+
+abbrev μ-loop : tie.MeasureT-loop
+μ-loop fields starts shape v t focus n k span sum₀ sum = span - sum
+
+pub in-row-spec : {M : Type 1} → statement M
+in-row-spec =
+    tie.close
+    (tie.spec
+    Inv-loop
+    μ-loop
+    (λ c κs. search needs)
+    (λ c. search laws.sums-begin)
+    (λ c κs. search needs)
+    (λ c. search laws.sums-fail)
+    (λ c. search needs)
+    (λ c. search needs)
+    (λ c. search laws.sums-turn)
+    (λ c. search laws.sums-end))

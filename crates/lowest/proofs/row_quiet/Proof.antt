@@ -1,0 +1,31 @@
+-- What is left of the row gives the whole.
+use borrow.Author.Needs.{needs}
+use Rattle.lowest.proofs.Tests as laws
+use native.Mathlib.Omega.{arith}
+use mathlib.Core.Path.{_≡_}
+use Prim.Native.Nat.{suc, _-_, _≤_}
+use Rattle.layout.specs.Sizes.{countsOf}
+use Rattle.lowest.specs.Tests.{rowQuiet}
+use Rattle.lowest.proofs.row_quiet.Statement.{statement}
+use Rattle.lowest.proofs.row_quiet.Tie as tie
+
+abbrev Inv-loop : tie.InvT-loop
+Inv-loop fields starts shape k v span sum₀ sum = laws.quietLeft fields starts v (countsOf shape) k span sum ≡ rowQuiet fields starts (countsOf shape) v k
+
+abbrev μ-loop : tie.MeasureT-loop
+μ-loop fields starts shape k v span sum₀ sum = span - sum
+
+pub row-quiet-spec : {M : Type 1} → statement M
+row-quiet-spec =
+    tie.close
+    (tie.spec
+    Inv-loop
+    μ-loop
+    (λ c κs. search needs)
+    (λ c. search laws.quiet-begin)
+    (λ c κs. search needs)
+    (λ c. search laws.quiet-fail)
+    (λ c. search needs)
+    (λ c. search needs)
+    (λ c. search laws.quiet-turn)
+    (λ c. search laws.quiet-end))

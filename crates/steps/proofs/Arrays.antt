@@ -1,0 +1,346 @@
+-- What the functions of the code return, and the turns of their loops, as the definitions of specs/Arrays say it: what is left gives
+-- the whole. That these are the state, the steps and the tests of a design is in proofs/States.
+use mathlib.Core.Path.{_≡_, refl, sym, _∙_, ap}
+use mathlib.Core.Bool.{Bool, true, false, _&&_}
+use mathlib.Core.List.{List, [], _∷_}
+use Prim.Native.Nat.{ℕ, zero, suc, _+_, _-_, _≤_, _<_, _%_, _/_, min}
+use native.Mathlib.Numerals.{add-one}
+use native.Mathlib.Decide.{decLt}
+use native.Mathlib.Omega.{arith}
+use borrow.Author.Tests.{lt-ltb, le-ltb, eq-eqb, ne-eqb}
+use lib.Dec.{eqb}
+use lib.ListN.{length, getD, drop, set, replicate, List·getD-eq-default}
+use lib.Seq.{sets, set-comm, set-out}
+use Rattle.foundation.specs.Radix.{belowB, sameB, splitOf}
+use Rattle.terms.specs.Tree.{pick, evalV, evalF}
+use Rattle.terms.specs.Read.{readV, readF}
+use Rattle.terms.proofs.Read.{place}
+use Rattle.criteria.specs.Design.{Parameter, Row}
+use Rattle.criteria.specs.Rows.{noRow, rowAt}
+use Rattle.decision.specs.Tests.{rowFrom}
+use Rattle.eval.specs.Answer.{answerV, answerF}
+use Rattle.eval.specs.declared.Valued.{Valued}
+use Rattle.eval.specs.declared.Held.{Held}
+use Rattle.design.specs.Line.{parameterOf, rowOf, valuesIn}
+use Rattle.design.specs.Loaded.{lineFrom, eachLine, implRowsAt, specRowsAt, invariantAt}
+use Rattle.design.specs.declared.Counts.{Counts}
+use Rattle.layout.specs.Sizes.{parametersFrom, sizesOf, initialsOf}
+use Rattle.layout.proofs.Sizes.{each-on, each-turn, each-none}
+use Rattle.steps.specs.Arrays.{padded, front, valuesAt, stepOf, noStep, rowsFrom, rowStep, rowSpan, rowWith, stateIn, initialIn, belowIn, sameIn, invariantIn, insideIn, mappedIn, measureIn, implStep, specStep, implSpan, specSpan, implRow, specRow}
+use Rattle.steps.specs.declared.Step.{Step}
+
+-- ---- the values of terms, one after the other
+
+-- past the end nothing is stored
+sets-out : (w : List ℕ) (i : ℕ) (vs : List ℕ) → length w ≤ i → sets w i vs ≡ w
+sets-out w i [] l = refl
+sets-out w i (x ∷ vs) l = rw (set-out w i x l) (sets-out w (suc i) vs (omega arith))
+
+module _ (f v : List ℕ) (e at n : ℕ) where
+  abbrev all : List ℕ
+  all = padded (valuesAt f at n v e)
+
+  -- the values from the i-th on, stored in w
+  unfoldable pub valuesLeft : List ℕ → ℕ → ℕ → List ℕ
+  valuesLeft w p i = sets w i (valuesAt f p (n - i) v e)
+
+  pub values-start : valuesLeft (replicate 8 0) at 0 ≡ all
+  unfolding valuesLeft padded
+  values-start = let k : n - 0 ≡ n = omega arith in rw k
+
+  pub values-turn : (w : List ℕ) (p i m : ℕ) (x : Valued) → m ≡ min n 8 → i < m → x ≡ answerV p v e (readV 32 (drop p f)) → valuesLeft w p i ≡ all
+      → valuesLeft (set w i (x .value)) (x .next) (i + 1) ≡ all
+  unfolding valuesLeft valuesAt valuesIn
+  values-turn w p i m x em l said inv = go ∙ inv
+    where
+      go : valuesLeft (set w i (x .value)) (x .next) (i + 1) ≡ valuesLeft w p i
+      go =
+          let k : n - i ≡ suc (n - (i + 1)) = omega arith in
+          rw (k, said, add-one i, place f p _ refl)
+
+  pub values-end : (w : List ℕ) (p i m : ℕ) → m ≡ min n 8 → m ≤ i → length w ≡ 8 → valuesLeft w p i ≡ all → w ≡ all
+  unfolding valuesLeft valuesAt valuesIn
+  values-end w p i m em l long inv = go (decLt 8 n) ∙ inv
+    where
+      go : Dec (8 < n) → w ≡ valuesLeft w p i
+      go (no h) = let k : n - i ≡ 0 = omega arith in rw k
+      go (yes h) = sym (sets-out w i (valuesAt f p (n - i) v e) (omega arith))
+
+-- ---- the state with a number, from the last value on
+
+-- a store before a run of stores may as well come first
+set-first : (l : List ℕ) (i : ℕ) (vs : List ℕ) (j x : ℕ) → j < i → set (sets l i vs) j x ≡ sets (set l j x) i vs
+set-first l i [] j x h = refl
+set-first l i (a ∷ vs) j x h =
+    set-first (set l i a) (suc i) vs j x (omega arith) ∙ ap (λ m. sets m (suc i) vs) (set-comm l i j a x (omega arith))
+
+module _ (f s : List ℕ) (n k : ℕ) where
+  unfoldable pub lastValues : ℕ → List ℕ
+  lastValues i = sets (replicate 8 0) i (splitOf (sizesOf (parametersFrom f s (n - i) i)) k .values)
+
+  unfoldable pub leftOver : ℕ → ℕ
+  leftOver i = splitOf (sizesOf (parametersFrom f s (n - i) i)) k .left
+
+  pub state-start-values : (i : ℕ) → i ≡ n → replicate 8 0 ≡ lastValues i
+  unfolding lastValues splitOf
+  state-start-values i h =
+      ap (λ ps. sets (replicate 8 0) i (splitOf (sizesOf ps) k .values)) (sym (each-none parameterOf (lineFrom f s) i n i (omega arith)))
+
+  pub state-start-left : (i : ℕ) → i ≡ n → k ≡ leftOver i
+  unfolding leftOver splitOf
+  state-start-left i h = ap (λ ps. splitOf (sizesOf ps) k .left) (sym (each-none parameterOf (lineFrom f s) i n i (omega arith)))
+
+  state-turn : (w : List ℕ) (m i j z x y : ℕ) → j ≡ i - 1 → 0 < i → i ≤ n → z ≡ getD (lineFrom f s j) 1 0 → x ≡ m % z → y ≡ m / z
+      → w ≡ lastValues i → m ≡ leftOver i → (set w j x ≡ lastValues j) × (y ≡ leftOver j)
+  unfolding lastValues leftOver splitOf
+  state-turn w m i j z x y ej p l ez ex ey ew em =
+      let u : j + 1 ≡ i = omega arith in
+      let v : i ≡ suc j = omega arith in
+      let one : parametersFrom f s (n - j) j ≡ parameterOf (lineFrom f s j) ∷ parametersFrom f s (n - i) i =
+      each-turn parameterOf (lineFrom f s) n j (omega arith) ∙ ap (λ (q : ℕ). parameterOf (lineFrom f s j) ∷ parametersFrom f s (n - q) q) u in
+      let vs : List ℕ = splitOf (sizesOf (parametersFrom f s (n - i) i)) k .values in
+      let ex′ : x ≡ leftOver i % getD (lineFrom f s j) 1 0 = rw (ex, ez, em) in
+      let ey′ : y ≡ leftOver i / getD (lineFrom f s j) 1 0 = rw (ey, ez, em) in (
+        ap (λ o. set o j x) ew
+            ∙ set-first (replicate 8 0) i vs j x (omega arith)
+            ∙ (λ h. sets (set (replicate 8 0) j (ex′ h)) (v h) vs)
+            ∙ ap (λ ps. sets (replicate 8 0) j (splitOf (sizesOf ps) k .values)) (sym one),
+        ey′ ∙ ap (λ ps. splitOf (sizesOf ps) k .left) (sym one),
+      )
+
+  pub state-turn-values : (w : List ℕ) (m i z x : ℕ) → 0 < i → i ≤ n → x ≡ m % z → z ≡ getD (lineFrom f s (i - 1)) 1 0
+      → w ≡ lastValues i → m ≡ leftOver i → set w (i - 1) x ≡ lastValues (i - 1)
+  state-turn-values w m i z x p l ex ez ew em = state-turn w m i (i - 1) z x (m / z) refl p l ez ex refl ew em .0
+
+  pub state-turn-left : (w : List ℕ) (m i z y : ℕ) → 0 < i → i ≤ n → y ≡ m / z → z ≡ getD (lineFrom f s (i - 1)) 1 0
+      → w ≡ lastValues i → m ≡ leftOver i → y ≡ leftOver (i - 1)
+  state-turn-left w m i z y p l ey ez ew em = state-turn w m i (i - 1) z (m % z) y refl p l ez refl ey ew em .1
+
+pub state-end : (f s : List ℕ) (n k : ℕ) (w : List ℕ) (i : ℕ) → i ≤ 0 → w ≡ lastValues f s (min n 8) k i → w ≡ stateIn f s n k
+unfolding lastValues stateIn padded
+state-end f s n k w i l ew = let z : i ≡ 0 = omega arith in let m : min n 8 - 0 ≡ min n 8 = omega arith in ew ∙ rw (z, m)
+
+-- ---- initial values
+
+module _ (f s : List ℕ) (b n : ℕ) where
+  unfoldable pub initialLeft : List ℕ → ℕ → List ℕ
+  initialLeft w i = sets w i (initialsOf (parametersFrom f s (n - i) (b + i)))
+
+  pub initial-start : initialLeft (replicate 8 0) 0 ≡ initialIn f s b n
+  unfolding initialLeft initialIn padded
+  initial-start = let k : n - 0 ≡ n = omega arith in let m : b + 0 ≡ b = omega arith in rw (k, m)
+
+  pub initial-turn : (w : List ℕ) (i m x : ℕ) → m ≡ min n 8 → i < m → x ≡ getD (lineFrom f s (b + i)) 2 0 → initialLeft w i ≡ initialIn f s b n
+      → initialLeft (set w i x) (i + 1) ≡ initialIn f s b n
+  unfolding initialLeft
+  initial-turn w i m x em l ex inv = go ∙ inv
+    where
+      go : initialLeft (set w i x) (i + 1) ≡ initialLeft w i
+      go = rw (each-on parameterOf (lineFrom f s) b n i (omega arith), ← ex, add-one i)
+
+  pub initial-end : (w : List ℕ) (i m : ℕ) → m ≡ min n 8 → m ≤ i → length w ≡ 8 → initialLeft w i ≡ initialIn f s b n → w ≡ initialIn f s b n
+  unfolding initialLeft
+  initial-end w i m em l long inv = go (decLt 8 n) ∙ inv
+    where
+      go : Dec (8 < n) → w ≡ initialLeft w i
+      go (no h) = rw (each-none parameterOf (lineFrom f s) (b + i) n i (omega arith))
+      go (yes h) = sym (sets-out w i (initialsOf (parametersFrom f s (n - i) (b + i))) (omega arith))
+
+-- ---- values below their sizes, and the same values
+
+module _ (f s v : List ℕ) (b n i : ℕ) where
+  unfoldable pub belowLeft : Bool
+  belowLeft = belowB (sizesOf (parametersFrom f s (n - i) (b + i))) (front (n - i) i v)
+
+  belows : (z : ℕ) → i < n → z ≡ getD (lineFrom f s (b + i)) 1 0
+      → belowLeft ≡ belowB (z ∷ sizesOf (parametersFrom f s (n - (i + 1)) (b + (i + 1)))) (getD v i 0 ∷ front (n - (i + 1)) (i + 1) v)
+  unfolding belowLeft front
+  belows z l ez =
+      let k : n - i ≡ suc (n - (i + 1)) = omega arith in
+      rw (each-on parameterOf (lineFrom f s) b n i l, ez, add-one i, k, add-one i)
+
+  pub below-fails : (z x : ℕ) → i < n → z ≡ getD (lineFrom f s (b + i)) 1 0 → x ≡ getD v i 0 → z ≤ x → belowLeft ≡ belowIn f s b n v → false ≡ belowIn f s b n v
+  below-fails z x l ez ex h inv = sym (belows z l ez ∙ rw (← ex, le-ltb x z h)) ∙ inv
+
+pub below-start : (f s v : List ℕ) (b n : ℕ) → belowLeft f s v b n 0 ≡ belowIn f s b n v
+unfolding belowLeft belowIn
+below-start f s v b n = let k : n - 0 ≡ n = omega arith in let m : b + 0 ≡ b = omega arith in rw (k, m)
+
+pub below-turn : (f s v : List ℕ) (b n i z x : ℕ) → i < n → z ≡ getD (lineFrom f s (b + i)) 1 0 → x ≡ getD v i 0 → x < z → belowLeft f s v b n i ≡ belowIn f s b n v
+    → belowLeft f s v b n (i + 1) ≡ belowIn f s b n v
+unfolding belowLeft
+below-turn f s v b n i z x l ez ex h inv = sym (belows f s v b n i z l ez ∙ rw (← ex, lt-ltb x z h)) ∙ inv
+
+pub below-end : (f s v : List ℕ) (b n i : ℕ) → n ≤ i → belowLeft f s v b n i ≡ belowIn f s b n v → true ≡ belowIn f s b n v
+unfolding belowLeft front
+below-end f s v b n i l inv = go ∙ inv
+  where
+    go : true ≡ belowLeft f s v b n i
+    go = let k : n - i ≡ 0 = omega arith in rw (each-none parameterOf (lineFrom f s) (b + i) n i l, k)
+
+module _ (v w : List ℕ) (n i : ℕ) where
+  unfoldable pub sameLeft : Bool
+  sameLeft = sameB (front (n - i) i v) (front (n - i) i w)
+
+  sames : i < n → sameLeft ≡ sameB (getD v i 0 ∷ front (n - (i + 1)) (i + 1) v) (getD w i 0 ∷ front (n - (i + 1)) (i + 1) w)
+  unfolding sameLeft front
+  sames l = let k : n - i ≡ suc (n - (i + 1)) = omega arith in rw (k, add-one i)
+
+  pub same-fails : (x y : ℕ) → i < n → x ≡ getD v i 0 → y ≡ getD w i 0 → (x ≡ y → ⊥) → sameLeft ≡ sameIn n v w → false ≡ sameIn n v w
+  same-fails x y l ex ey h inv = sym (sames l ∙ rw (← ex, ← ey, ne-eqb x y h)) ∙ inv
+
+pub same-start : (v w : List ℕ) (n : ℕ) → sameLeft v w n 0 ≡ sameIn n v w
+unfolding sameLeft sameIn
+same-start v w n = let k : n - 0 ≡ n = omega arith in rw k
+
+pub same-turn : (v w : List ℕ) (n i x y : ℕ) → i < n → x ≡ getD v i 0 → y ≡ getD w i 0 → x ≡ y → sameLeft v w n i ≡ sameIn n v w → sameLeft v w n (i + 1) ≡ sameIn n v w
+unfolding sameLeft
+same-turn v w n i x y l ex ey h inv = sym (sames v w n i l ∙ rw (← ex, ← ey, eq-eqb x y h)) ∙ inv
+
+pub same-end : (v w : List ℕ) (n i : ℕ) → n ≤ i → sameLeft v w n i ≡ sameIn n v w → true ≡ sameIn n v w
+unfolding sameLeft front
+same-end v w n i l inv = go ∙ inv
+  where
+    go : true ≡ sameLeft v w n i
+    go = let k : n - i ≡ 0 = omega arith in rw k
+
+-- ---- a row's step
+
+pub step-is : (f v : List ℕ) (line n e a : ℕ) (h : Held) (x : Valued) (w : List ℕ) → a ≡ getD (drop line f) 1 0 → h ≡ answerF (line + 3) v e (readF 32 (drop (line + 3) f))
+    → x ≡ answerV (h .next) v e (readV 32 (drop (h .next) f)) → w ≡ padded (valuesAt f (x .next) n v e)
+    → record { action = a; enabled = h .holds; carries = x .value; next = w } ≡ stepOf (rowOf n (drop line f)) v e
+unfolding stepOf valuesAt
+step-is f v line n e a h x w ea eh ex ew = rw (ea, place f line 3 refl, ew, ex, eh, place f (line + 3) _ refl, place f (line + 3 + _) _ refl)
+
+-- ---- rows by their numbers
+
+pub each-length : {A : Type 0} (says : List ℕ → A) (line : ℕ → List ℕ) (n i : ℕ) → length (eachLine says line n i) ≡ n
+unfolding eachLine
+each-length says line zero i = refl
+each-length says line (suc n) i = ap suc (each-length says line n (suc i))
+
+each-get : {A : Type 0} (says : List ℕ → A) (line : ℕ → List ℕ) (n i j : ℕ) (x : A) → j < n → getD (eachLine says line n i) j x ≡ says (line (i + j))
+unfolding eachLine
+each-get says line zero i j x l = absurd (omega arith)
+each-get says line (suc n) i zero x l = let e : i + 0 ≡ i = omega arith in rw e
+each-get says line (suc n) i (suc j) x l = let e : suc i + j ≡ i + suc j = omega arith in each-get says line n (suc i) j x (omega arith) ∙ rw e
+
+module _ (f s : List ℕ) (i n m : ℕ) where
+  pub row-there : (k : ℕ) → (k ≡ 0 → ⊥) → k ≤ n → rowAt (rowsFrom f s i n m) k ≡ rowOf m (lineFrom f s (i + k - 1))
+  row-there zero p l = absurd (p refl)
+  row-there (suc k) p l = let e : i + k ≡ i + suc k - 1 = omega arith in each-get (rowOf m) (lineFrom f s) n i k noRow (omega arith) ∙ rw e
+
+  pub row-past : (k : ℕ) → n < k → rowAt (rowsFrom f s i n m) k ≡ noRow
+  row-past zero l = absurd (omega arith)
+  row-past (suc k) l = List·getD-eq-default (rowsFrom f s i n m) noRow (rw (each-length (rowOf m) (lineFrom f s) n i) (omega arith))
+
+no-step : (v : List ℕ) (e : ℕ) → noStep ≡ stepOf noRow v e
+unfolding stepOf padded evalV
+no-step v e = refl
+
+module _ (f s v : List ℕ) (i n m k e : ℕ) where
+  pub step-none : (r : Step) → k ≡ 0 → r ≡ noStep → r ≡ rowStep f s i n m k v e
+  unfolding rowStep
+  step-none r z er = er ∙ rw z (no-step v e)
+
+  pub step-past : (r : Step) → n < k → r ≡ noStep → r ≡ rowStep f s i n m k v e
+  unfolding rowStep
+  step-past r l er = er ∙ rw (row-past f s i n m k l) (no-step v e)
+
+  pub step-there : (r : Step) (line : ℕ) → (k ≡ 0 → ⊥) → k ≤ n → line ≡ getD s (i + k - 1) 0 → r ≡ stepOf (rowOf m (drop line f)) v e → r ≡ rowStep f s i n m k v e
+  unfolding rowStep
+  step-there r line p l el er = er ∙ rw (row-there f s i n m k p l, el)
+
+module _ (f s : List ℕ) (i n k : ℕ) where
+  pub span-none : k ≡ 0 → 0 ≡ rowSpan f s i n k
+  unfolding rowSpan
+  span-none z = rw z
+
+  pub span-past : n < k → 0 ≡ rowSpan f s i n k
+  unfolding rowSpan
+  span-past l = ap (λ (r : Row). r .span) (sym (row-past f s i n 0 k l))
+
+  pub span-there : (r line : ℕ) → (k ≡ 0 → ⊥) → k ≤ n → line ≡ getD s (i + k - 1) 0 → r ≡ getD (drop line f) 2 0 → r ≡ rowSpan f s i n k
+  unfolding rowSpan
+  span-there r line p l el er = er ∙ ap (λ (x : ℕ). getD (drop x f) 2 0) el ∙ ap (λ (q : Row). q .span) (sym (row-there f s i n 0 k p l))
+
+-- the search for the row of an action
+module _ (f s : List ℕ) (b n a i : ℕ) where
+  unfoldable pub withLeft : ℕ
+  withLeft = rowFrom (eachLine (rowOf 0) (lineFrom f s) (n - i) (b + i)) a (i + 1)
+
+  withs : (x : ℕ) (line : ℕ) → i < n → line ≡ getD s (b + i) 0 → x ≡ getD (drop line f) 1 0
+      → withLeft ≡ pick (eqb x a) (i + 1) (rowFrom (eachLine (rowOf 0) (lineFrom f s) (n - (i + 1)) (b + (i + 1))) a (i + 1 + 1))
+  unfolding withLeft rowFrom
+  withs x line l el ex = rw (each-on (rowOf 0) (lineFrom f s) b n i l, ex, el, add-one (i + 1))
+
+  pub with-found : (x line : ℕ) → i < n → line ≡ getD s (b + i) 0 → x ≡ getD (drop line f) 1 0 → x ≡ a → withLeft ≡ rowWith f s b n a → i + 1 ≡ rowWith f s b n a
+  with-found x line l el ex h inv = sym (withs x line l el ex ∙ rw (eq-eqb x a h)) ∙ inv
+
+pub with-start : (f s : List ℕ) (b n a : ℕ) → withLeft f s b n a 0 ≡ rowWith f s b n a
+unfolding withLeft rowWith
+with-start f s b n a = let e : n - 0 ≡ n = omega arith in let k : b + 0 ≡ b = omega arith in rw (e, k)
+
+pub with-turn : (f s : List ℕ) (b n a i x line : ℕ) → i < n → line ≡ getD s (b + i) 0 → x ≡ getD (drop line f) 1 0 → (x ≡ a → ⊥)
+    → withLeft f s b n a i ≡ rowWith f s b n a → withLeft f s b n a (i + 1) ≡ rowWith f s b n a
+unfolding withLeft
+with-turn f s b n a i x line l el ex h inv = sym (withs f s b n a i x line l el ex ∙ rw (ne-eqb x a h)) ∙ inv
+
+pub with-end : (f s : List ℕ) (b n a i : ℕ) → n ≤ i → withLeft f s b n a i ≡ rowWith f s b n a → 0 ≡ rowWith f s b n a
+unfolding withLeft rowFrom
+with-end f s b n a i l inv = go ∙ inv
+  where
+    go : 0 ≡ withLeft f s b n a i
+    go = rw (each-none (rowOf 0) (lineFrom f s) (b + i) n i l)
+
+-- ---- invariant, mapping, measure
+
+module _ (f s v : List ℕ) (c : Counts) (i line : ℕ) (there : i ≡ invariantAt c) where
+  pub invariant-is : (h : Held) → line ≡ getD s i 0 → h ≡ answerF (line + 1) v 0 (readF 32 (drop (line + 1) f)) → h .holds ≡ invariantIn f s c v
+  unfolding invariantIn
+  invariant-is h el eh = rw (← there, ← el, place f line 1 refl, eh)
+
+  pub mapped-is : (w : List ℕ) → line ≡ getD s (i + 1) 0 → w ≡ padded (valuesAt f (line + 1) (c .kind2) v 0) → w ≡ mappedIn f s c v
+  unfolding mappedIn valuesAt
+  mapped-is w el ew = rw (← there, ← el, place f line 1 refl, ew)
+
+  pub measure-is : (x : Valued) → line ≡ getD s (i + 2) 0 → x ≡ answerV (line + 1) v 0 (readV 32 (drop (line + 1) f)) → x .value ≡ measureIn f s c v
+  unfolding measureIn
+  measure-is x el ex = rw (← there, ← el, place f line 1 refl, ex)
+
+module _ (f s v : List ℕ) (c : Counts) (b : Bool) (said : b ≡ belowIn f s 0 (c .kind1) v) where
+  pub inside-so : (r : Bool) → b ≡ true → r ≡ invariantIn f s c v → r ≡ insideIn f s c v
+  unfolding insideIn
+  inside-so r h er = rw (← said, h) er
+
+  pub inside-not : b ≡ false → false ≡ insideIn f s c v
+  unfolding insideIn
+  inside-not h = rw (← said, h)
+
+-- ---- the two processes
+
+module _ (f s v : List ℕ) (c : Counts) (i k e : ℕ) where
+  pub impl-step-is : (r : Step) → i ≡ implRowsAt c → r ≡ rowStep f s i (c .kind3) (c .kind1) k v e → r ≡ implStep f s c k v e
+  unfolding implStep
+  impl-step-is r ei er = er ∙ rw ei
+
+  pub spec-step-is : (r : Step) → i ≡ specRowsAt c → r ≡ rowStep f s i (c .kind4) (c .kind2) k v e → r ≡ specStep f s c k v e
+  unfolding specStep
+  spec-step-is r ei er = er ∙ rw ei
+
+module _ (f s : List ℕ) (c : Counts) (i k r : ℕ) where
+  pub impl-span-is : i ≡ implRowsAt c → r ≡ rowSpan f s i (c .kind3) k → r ≡ implSpan f s c k
+  unfolding implSpan
+  impl-span-is ei er = er ∙ rw ei
+
+  pub spec-span-is : i ≡ specRowsAt c → r ≡ rowSpan f s i (c .kind4) k → r ≡ specSpan f s c k
+  unfolding specSpan
+  spec-span-is ei er = er ∙ rw ei
+
+  pub impl-row-is : i ≡ implRowsAt c → r ≡ rowWith f s i (c .kind3) k → r ≡ implRow f s c k
+  unfolding implRow
+  impl-row-is ei er = er ∙ rw ei
+
+  pub spec-row-is : i ≡ specRowsAt c → r ≡ rowWith f s i (c .kind4) k → r ≡ specRow f s c k
+  unfolding specRow
+  spec-row-is ei er = er ∙ rw ei

@@ -1,0 +1,33 @@
+-- What is left to store gives the whole.
+use borrow.Author.Needs.{needs}
+use mathlib.Core.Path.{_≡_}
+use Prim.Native.Nat.{_-_, _≤_, min}
+use native.Mathlib.Omega.{arith}
+use lib.ListN.{length}
+use Rattle.steps.specs.Arrays.{initialIn}
+use Rattle.steps.proofs.Arrays as laws
+use Rattle.steps.proofs.initial_state.Statement.{statement}
+use Rattle.steps.proofs.initial_state.Tie as tie
+
+abbrev Inv-loop : tie.InvT-loop
+Inv-loop fields starts first n m out₀ i₀ out i = (length out ≡ 8) × (laws.initialLeft fields starts first n out i ≡ initialIn fields starts first n)
+
+abbrev μ-loop : tie.MeasureT-loop
+μ-loop fields starts first n m out₀ i₀ out i = m - i
+
+pub initial-state-spec : {M : Type 1} → statement M
+initial-state-spec =
+    tie.close
+    (tie.spec
+    Inv-loop
+    μ-loop
+    (λ c κs. search needs)
+    (λ c. (search needs, search laws.initial-start))
+    (λ c. search needs)
+    (λ c κs. search needs)
+    (λ c. search needs)
+    (λ c. search needs)
+    (λ c. search needs)
+    (λ c. search needs)
+    (λ c. (search needs, search laws.initial-turn))
+    (λ c. search laws.initial-end))

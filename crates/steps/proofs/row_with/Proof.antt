@@ -1,0 +1,33 @@
+-- The search among the rows that are left gives the whole.
+use borrow.Author.Needs.{needs}
+use Rattle.steps.proofs.Arrays as laws
+use native.Mathlib.Omega.{arith}
+use mathlib.Core.Path.{_≡_}
+use Prim.Native.Nat.{_-_, _≤_, min}
+use Rattle.steps.specs.Arrays.{rowWith}
+use Rattle.steps.proofs.row_with.Statement.{statement}
+use Rattle.steps.proofs.row_with.Tie as tie
+
+abbrev Inv-loop : tie.InvT-loop
+Inv-loop fields starts first n action i₀ i = laws.withLeft fields starts first n action i ≡ rowWith fields starts first n action
+
+abbrev μ-loop : tie.MeasureT-loop
+μ-loop fields starts first n action i₀ i = n - i
+
+pub row-with-spec : {M : Type 1} → statement M
+row-with-spec =
+    tie.close
+    (tie.spec
+    Inv-loop
+    μ-loop
+    (λ c. search laws.with-start)
+    (λ c. search needs)
+    (λ c κs. search needs)
+    (λ c κs. search needs)
+    (λ c. search needs)
+    (λ c. search needs)
+    (λ c. search laws.with-found)
+    (λ c. search needs)
+    (λ c. search needs)
+    (λ c. search laws.with-turn)
+    (λ c. search laws.with-end))

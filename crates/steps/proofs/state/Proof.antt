@@ -1,0 +1,33 @@
+-- The values from the i-th on are stored, and what is left to divide is what they leave.
+use borrow.Author.Needs.{needs}
+use mathlib.Core.Path.{_≡_}
+use Prim.Native.Nat.{_-_, _≤_, min}
+use native.Mathlib.Omega.{arith}
+use lib.ListN.{length}
+use Rattle.steps.proofs.Arrays as laws
+use Rattle.steps.proofs.state.Statement.{statement}
+use Rattle.steps.proofs.state.Tie as tie
+
+abbrev Inv-loop : tie.InvT-loop
+Inv-loop fields starts n number out₀ left₀ i₀ out left i = (i ≤ min n 8) × ((out ≡ laws.lastValues fields starts (min n 8) number i) × (left ≡ laws.leftOver fields starts (min n 8) number i))
+
+abbrev μ-loop : tie.MeasureT-loop
+μ-loop fields starts n number out₀ left₀ i₀ out left i = i
+
+pub state-spec : {M : Type 1} → statement M
+state-spec =
+    tie.close
+    (tie.spec
+    Inv-loop
+    μ-loop
+    (λ c κs. search needs)
+    (λ c. (omega arith, (search laws.state-start-values, search laws.state-start-left)))
+    (λ c. search needs)
+    (λ c κs. search needs)
+    (λ c κs. search needs)
+    (λ c. search needs)
+    (λ c. search needs)
+    (λ c κs. search needs)
+    (λ c. search needs)
+    (λ c. (omega arith, (search laws.state-turn-values, search laws.state-turn-left)))
+    (λ c. search laws.state-end))

@@ -1,0 +1,17 @@
+-- Both parts of criterion 1.
+use borrow.Author.Needs.{needs}
+use Rattle.walk.proofs.Walking as laws
+use Rattle.walk.proofs.start_meets.Statement.{statement}
+use Rattle.walk.proofs.start_meets.Tie as tie
+
+pub start-meets-spec : {M : Type 1} → statement M
+start-meets-spec =
+    tie.close
+    (tie.spec
+    (λ c κs. search needs)
+    (λ c κs. search needs)
+    (λ c. search needs)
+    (λ c κs. search needs)
+    (λ c κs. search needs)
+    (λ c κs. search needs)
+    (λ c. search laws.start-is))

@@ -1,0 +1,28 @@
+-- What the code's answers say, in the words of the crates foundation and criteria.
+use mathlib.Core.List.{List}
+use Prim.Native.Nat.{ℕ}
+use Rattle.foundation.specs.First.{Outcome, pass, fail}
+use Rattle.foundation.specs.Walk.{Walked}
+use Rattle.criteria.specs.Failure.{Failure}
+use Rattle.decision.specs.Examine.{named}
+use Rattle.lowest.specs.Search.{toldPlace}
+use Rattle.lowest.specs.declared.Finding.{Finding}
+use Rattle.walk.specs.declared.Failure.{Failure as Said}
+use Rattle.walk.specs.declared.Outcome.{Outcome as Answer}
+use Rattle.walk.specs.declared.Outcome.the-variants.{Pass, Fail}
+use Rattle.walk.specs.declared.Walked.{Walked as WalkAnswer}
+
+abbrev pub told : Answer → Outcome Failure
+told Pass = pass
+told (Fail x) = fail (record { criterion = x .criterion; state = x .state; row = x .row; sum = x .sum })
+
+abbrev pub toldWalked : WalkAnswer → Walked Failure
+toldWalked w = record { outcome = told (w .outcome); count = w .count }
+
+-- no state was walked
+abbrev pub noWalk : Walked Failure
+noWalk = record { outcome = pass; count = 0 }
+
+-- what was found at the state with a number
+unfoldable pub namedBy : ℕ → Finding → Outcome Failure
+namedBy n r = named n (toldPlace r)

@@ -1,0 +1,34 @@
+-- What the public functions compute, for every arrays, counts and numbers: criterion 1 of the design in the arrays, and the walk over n
+-- of its states from a number on. Where the counts do not fit, or there are not so many states, nothing is walked.
+use mathlib.Core.Bool.{Bool, false, _&&_}
+use mathlib.Core.List.{List}
+use Prim.Native.Nat.{ℕ, _+_, min}
+use lib.Dec.{leb}
+use Rattle.foundation.specs.Walk.{Walked, walk}
+use Rattle.terms.specs.Tree.{pick}
+use Rattle.criteria.specs.Design.{states}
+use Rattle.criteria.specs.Failure.{Failure}
+use Rattle.decision.specs.Tests.{holds1}
+use Rattle.decision.specs.Examine.{examine}
+use Rattle.design.specs.Loaded.{designIn}
+use Rattle.design.specs.declared.Counts.{Counts}
+use Rattle.layout.specs.Sizes.{countsFit}
+use Rattle.steps.specs.Arrays.{initialIn, invariantIn, mappedIn, sameIn}
+use Rattle.walk.specs.Told.{noWalk}
+
+-- criterion 1
+unfoldable pub startIn : List ℕ → List ℕ → Counts → Bool
+startIn f s c = pick (countsFit c) (holds1 (designIn f s c)) false
+
+-- there are the states with the numbers from, .., from + n - 1, and their numbers fit 16 bits
+abbrev pub statesThere : List ℕ → List ℕ → Counts → ℕ → ℕ → Bool
+statesThere f s c n from = countsFit c && leb (from + n) (min (states (designIn f s c)) 65536)
+
+unfoldable pub walkIn : List ℕ → List ℕ → Counts → ℕ → ℕ → Walked Failure
+walkIn f s c n from = let w = walk (examine (designIn f s c)) n from in pick (statesThere f s c n from) w noWalk
+
+-- criterion 1 as the code tries it
+unfoldable pub startMeets : List ℕ → List ℕ → Counts → Bool
+startMeets f s c =
+    let v = initialIn f s 0 (c .kind1) in
+    invariantIn f s c v && sameIn (c .kind2) (mappedIn f s c v) (initialIn f s (c .kind1) (c .kind2))

@@ -1,0 +1,170 @@
+// The walk over the states of the design in a desk's arrays: criterion 1 at the start, and criteria 2 to 9 at n states from a place on.
+// Every public function answers any arrays, any counts and any numbers. What a walk is, and what the examination of a state, is in
+// the crates foundation and decision.
+use design::Counts;
+use layout::Shape;
+use lowest::Finding;
+ghost use mathlib.Core.Path.{_≡_};
+ghost use Prim.Native.Nat.{_+_, _≤_, min};
+ghost use Rattle.layout.specs.Sizes.{countsOf, stateCountIn};
+ghost use Rattle.walk.specs.Told.{told, toldWalked, noWalk, namedBy};
+ghost use Rattle.walk.specs.Walk.{startMeets, startIn, walkIn};
+ghost use Rattle.walk.specs.Examine.{examineIn, walkOn};
+
+// A failure, the state by its number.
+pub struct Failure {
+    pub criterion: u16,
+    pub state: u16,
+    pub row: u16,
+    pub sum: u16,
+}
+
+pub enum Outcome {
+    Pass,
+    Fail(Failure),
+}
+
+// What came of a walk, and how many states were examined, the failing one included.
+pub struct Walked {
+    pub outcome: Outcome,
+    pub count: usize,
+}
+
+// The most states that are walked: their numbers fit 16 bits.
+const MAX_STATES: usize = 65536;
+
+// Whether criterion 1 holds; not where the counts do not fit.
+pub fn start_holds<'a>(
+    fields: &'a [u16; terms::MAX_FIELDS],
+    starts: &'a [u16; 84],
+    counts: Counts,
+) -> bool
+    ensures { λ r. ⌜ r ≡ startIn (now (fields .entry)) (now (starts .entry)) counts ⌝ }
+{
+    if layout::counts_fit(counts) {
+        start_meets(fields, starts, layout::shape_of(counts))
+    } else {
+        false
+    }
+}
+
+// The walk over n states from number `from` on, where there are so many; else no state is walked.
+pub fn walk<'a>(
+    fields: &'a [u16; terms::MAX_FIELDS],
+    starts: &'a [u16; 84],
+    counts: Counts,
+    from: usize,
+    n: usize,
+) -> Walked
+    ensures { λ r. ⌜ toldWalked r ≡ walkIn (now (fields .entry)) (now (starts .entry)) counts n from ⌝ }
+{
+    let most = walkable(fields, starts, counts);
+    if most < from {
+        return no_walk();
+    }
+    if most - from < n {
+        return no_walk();
+    }
+    walk_on(fields, starts, layout::shape_of(counts), from, n)
+}
+
+// How many states may be walked.
+fn walkable<'a>(
+    fields: &'a [u16; terms::MAX_FIELDS],
+    starts: &'a [u16; 84],
+    counts: Counts,
+) -> usize
+    ensures { λ r. ⌜ r ≡ min (stateCountIn (now (fields .entry)) (now (starts .entry)) counts) 65536 ⌝ }
+{
+    let there = layout::state_count(fields, starts, counts);
+    if there < MAX_STATES {
+        there
+    } else {
+        MAX_STATES
+    }
+}
+
+// Criterion 1.
+fn start_meets<'a>(
+    fields: &'a [u16; terms::MAX_FIELDS],
+    starts: &'a [u16; 84],
+    shape: Shape,
+) -> bool
+    ensures { λ r. ⌜ r ≡ startMeets (now (fields .entry)) (now (starts .entry)) (countsOf shape) ⌝ }
+{
+    let v = steps::initial_state(fields, starts, 0, shape.kind1);
+    let t = steps::mapped(fields, starts, shape, &v);
+    let u = steps::initial_state(fields, starts, shape.kind1 as u16, shape.kind2);
+    steps::invariant(fields, starts, shape, &v) & steps::same(shape.kind2, &t, &u)
+}
+
+// A walk over no state.
+fn no_walk() -> Walked
+    ensures { λ r. ⌜ toldWalked r ≡ noWalk ⌝ }
+{
+    Walked {
+        outcome: Outcome::Pass,
+        count: 0,
+    }
+}
+
+// The states from number `from` on, n of them, up to the first that fails.
+fn walk_on<'a>(
+    fields: &'a [u16; terms::MAX_FIELDS],
+    starts: &'a [u16; 84],
+    shape: Shape,
+    from: usize,
+    n: usize,
+) -> Walked
+    requires { ⌜ from + n ≤ 65536 ⌝ }
+    ensures { λ r. ⌜ toldWalked r ≡ walkOn (now (fields .entry)) (now (starts .entry)) (countsOf shape) n from ⌝ }
+{
+    let mut i = 0;
+    while i < n {
+        let o = examine(fields, starts, shape, (from + i) as u16);
+        if let Outcome::Fail(_) = o {
+            return Walked {
+                outcome: o,
+                count: i + 1,
+            };
+        }
+        i += 1;
+    }
+    Walked {
+        outcome: Outcome::Pass,
+        count: n,
+    }
+}
+
+// One state examined: no failure, or its lowest. Outside the invariant nothing is tried.
+fn examine<'a>(
+    fields: &'a [u16; terms::MAX_FIELDS],
+    starts: &'a [u16; 84],
+    shape: Shape,
+    number: u16,
+) -> Outcome
+    ensures { λ r. ⌜ told r ≡ examineIn (now (fields .entry)) (now (starts .entry)) (countsOf shape) number ⌝ }
+{
+    let v = steps::state(fields, starts, shape.kind1, number);
+    if steps::invariant(fields, starts, shape, &v) {
+        let t = steps::mapped(fields, starts, shape, &v);
+        named(number, lowest::lowest(fields, starts, shape, &v, &t))
+    } else {
+        Outcome::Pass
+    }
+}
+
+// The place of failure with the number of the state.
+fn named(number: u16, found: Finding) -> Outcome
+    ensures { λ r. ⌜ told r ≡ namedBy number found ⌝ }
+{
+    match found {
+        Finding::Nothing => Outcome::Pass,
+        Finding::Found(place) => Outcome::Fail(Failure {
+            criterion: place.criterion,
+            state: number,
+            row: place.row,
+            sum: place.sum,
+        }),
+    }
+}
