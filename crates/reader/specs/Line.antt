@@ -7,6 +7,8 @@ use mathlib.Core.Logic.{_≢_}
 use mathlib.Core.List.{List, [], _∷_, _++_}
 use lib.ListN.{length, take, drop}
 use Rattle.reader.specs.Columns.{columnsOf, fieldOf}
+use denote.Ref.{RefT}
+use Rattle.reader.specs.declared.LineReader.{LineReader}
 use Rattle.reader.specs.declared.Field.{Field}
 use Rattle.reader.specs.declared.Field.the-variants.{Number, Malformed}
 
@@ -44,3 +46,8 @@ fieldsFrom (suc k) bytes = let later = fieldsFrom k (drop 6 bytes) in andThen (f
 -- the fields that bytes begin with
 unfoldable pub fieldsOf : List ℕ → List ℕ
 fieldsOf bytes = fieldsFrom (length bytes / 6) bytes
+
+-- "the reader is a read-only look at one line of the lent text, which advances field by field": the look at a line whose next field
+-- is the k-th
+abbrev pub readerAt : RefT (List ℕ) → ℕ → LineReader
+readerAt line k = record { line = line; at = k }

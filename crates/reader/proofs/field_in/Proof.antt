@@ -1,11 +1,11 @@
--- `reader::field_at` is the field in the k-th six columns.
+-- `reader::field_in` is the field in the k-th six columns.
 use borrow.Author.Needs.{needs}
 use Rattle.reader.proofs.Line as line
-use Rattle.reader.proofs.field_at.Statement.{statement}
-use Rattle.reader.proofs.field_at.Tie as tie
+use Rattle.reader.proofs.field_in.Statement.{statement}
+use Rattle.reader.proofs.field_in.Tie as tie
 
-pub field-at-spec : {M : Type 1} → statement M
-field-at-spec =
+pub field-in-spec : {M : Type 1} → statement M
+field-in-spec =
     tie.close
     (tie.spec
     (λ c. search needs)

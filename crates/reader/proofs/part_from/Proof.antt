@@ -1,12 +1,12 @@
--- `reader::rest` is the bytes after the k-th field, or none.
+-- `reader::part_from` is the bytes after the k-th field, or none.
 use borrow.Author.Needs.{needs}
 use native.Mathlib.Omega.{arith}
 use Rattle.reader.proofs.Line as line
-use Rattle.reader.proofs.rest.Statement.{statement}
-use Rattle.reader.proofs.rest.Tie as tie
+use Rattle.reader.proofs.part_from.Statement.{statement}
+use Rattle.reader.proofs.part_from.Tie as tie
 
-pub rest-spec : {M : Type 1} → statement M
-rest-spec =
+pub part-from-spec : {M : Type 1} → statement M
+part-from-spec =
     tie.close
     (tie.spec
     (λ c. search needs)
