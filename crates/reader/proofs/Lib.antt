@@ -6,3 +6,4 @@ pub mod Text
 pub mod Faults
 pub mod Written
 pub mod Look
+pub mod Made

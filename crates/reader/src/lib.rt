@@ -1,5 +1,7 @@
 // From bytes to fields and lines: what six columns are a field, the fields of a line, and whether a text's columns are at fault.
-// Every public function answers any bytes. The definitions are in specs/Columns, specs/Line and specs/Text.
+// Every field is read through a `LineReader`. Callers use `field_at` and `rest`, whose parameters are plain: a function that has a
+// reader in its hands is proved step by step. Every public function answers any bytes. The definitions are in specs/Columns,
+// specs/Line and specs/Text.
 ghost use mathlib.Core.Path.{_≡_};
 ghost use Prim.Native.Nat.{_+_, _*_, _≤_};
 ghost use lib.ListN.{length, take, drop};
@@ -31,22 +33,22 @@ const DIGIT_9: u8 = 57;
 
 const LINE_END: u8 = 10;
 
-// A read-only look at one line, or at a part of one, of a lent text: its bytes, and the number of the field that is read next.
+// A read-only look at one line of the lent text, or at a part of one: its bytes, and the number of the field that is next.
 pub struct LineReader<'a> {
     pub line: &'a [u8],
     pub at: usize,
 }
 
-// The reader's own functions. Each takes the reader apart and leaves the work to a function on the bytes and the number.
+// Thin functions: each takes the reader apart, and `field_in` and `part_from` do the work on the bytes and the number.
 impl<'a> LineReader<'a> {
-    // A look at a line from its first field on.
+    // The reader of a line, at its first field.
     pub fn new(line: &'a [u8]) -> LineReader<'a>
         ensures { λ r. ⌜ r ≡ readerAt (line .entry) 0 ⌝ }
     {
         LineReader { line, at: 0 }
     }
 
-    // The same look moved on to field k.
+    // The reader moved on to field k.
     pub fn moved(self, k: usize) -> LineReader<'a>
         ensures { λ r. ⌜ r ≡ readerAt (self .entry .line) k ⌝ }
     {
@@ -63,7 +65,7 @@ impl<'a> LineReader<'a> {
         field_in(self.line, self.at)
     }
 
-    // What is left of the line, the next field first, as a part.
+    // What is left of the line from the next field on, as a part.
     pub fn rest(self) -> &'a [u8]
         ensures { λ r. ⌜ now r ≡ drop (6 * self .entry .at) (now (self .entry .line)) ⌝ }
     {
@@ -144,27 +146,27 @@ fn lines_fault(text: &[u8]) -> u16
     0
 }
 
-// The field in the k-th six columns.
-fn field_in(part: &[u8], k: usize) -> Field
-    ensures { λ r. ⌜ r ≡ fieldAt (now (part .entry)) k ⌝ }
+// The field in the k-th six columns of a line.
+fn field_in(line: &[u8], k: usize) -> Field
+    ensures { λ r. ⌜ r ≡ fieldAt (now (line .entry)) k ⌝ }
 {
-    if k < part.len() / COLUMNS {
+    if k < line.len() / COLUMNS {
         let at = COLUMNS * k;
-        first_field(&part[at..])
+        first_field(&line[at..])
     } else {
         Field::Malformed
     }
 }
 
-// The bytes from the k-th six columns on.
-fn part_from(part: &[u8], k: usize) -> &[u8]
-    ensures { λ r. ⌜ now r ≡ drop (6 * k) (now (part .entry)) ⌝ }
+// The bytes of a line from its k-th six columns on.
+fn part_from(line: &[u8], k: usize) -> &[u8]
+    ensures { λ r. ⌜ now r ≡ drop (6 * k) (now (line .entry)) ⌝ }
 {
-    if k <= part.len() / COLUMNS {
+    if k <= line.len() / COLUMNS {
         let at = COLUMNS * k;
-        &part[at..]
+        &line[at..]
     } else {
-        &part[part.len()..]
+        &line[line.len()..]
     }
 }
 

@@ -1,5 +1,5 @@
--- `reader::field_at` meets its contract: a walk of its MIR, by hand. A look at the part is made, moved on to field k, and its next field
--- read. Of `new`, `moved` and `next` the walk knows their contracts alone (proofs/Look has the first two calls).
+-- `reader::field_at` meets its contract: its MIR is gone through by hand. A reader of the part is made, moved on to field k, and its next
+-- field read. Of `new`, `moved` and `next` the proof knows their contracts alone; the first two calls are in proofs/Made.
 use mathlib.Core.Path.{_≡_, refl, ap, _∙_}
 use Prim.Native.Nat.{ℕ, _<_, _^_}
 use mathlib.Core.List.{List, [], _∷_}
@@ -37,8 +37,9 @@ use denote.Triple.Clauses.{ensured, lasts}
 use Rattle.reader.specs.Line.{fieldAt, readerAt}
 use Rattle.reader.specs.declared.LineReader.{LineReader}
 use Rattle.reader.specs.declared.Field.{Field}
-use Rattle.reader.proofs.Look as made
-use Rattle.reader.proofs.Look.{B, Bytes, OwnBytes, bytesVal, twoVals, inBody, New, Moved}
+use Rattle.reader.proofs.Look.{B, Bytes, OwnBytes, bytesVal, twoVals, inBody}
+use Rattle.reader.proofs.Made as made
+use Rattle.reader.proofs.Made.{New, Moved}
 use Rattle.reader.proofs.LineReader as T
 use Rattle.reader.proofs.LineReader.Laws as T′
 use Rattle.reader.proofs.Field as S
@@ -91,7 +92,7 @@ module _ {M : Type 1} (𝓤 : URA M) (H : Heap 𝓤) (A : Atoms 𝓤) (W : Given
   next-said : (r : LineReader) (t : Field) → ent 𝓤 (ensured 𝓤 H A next.ended (next.clauses 𝓤 H A mem run) (κ, tt) (r, tt) tt t) (fact 𝓤 (t ≡ fieldAt (now (r .line)) (r .at)))
   next-said r t = exE 𝓤 _ (λ ws. snd∗ 𝓤 (sem 𝓤 H A (lasts next.ended (κ, tt) (r, tt) ws)) (fact 𝓤 (t ≡ fieldAt (now (r .line)) (r .at))))
 
-  -- a look at the part, moved on to field n, has that field next
+  -- a reader of the part, moved on to field n, has that field next
   answer : (r₁ r₂ : LineReader) (t : Field) → r₁ ≡ readerAt s 0 → r₂ ≡ readerAt (r₁ .line) n → t ≡ fieldAt (now (r₂ .line)) (r₂ .at) → t ≡ found
   answer r₁ r₂ t e₁ e₂ e = e ∙ ap (λ (r : LineReader). fieldAt (now (r .line)) (r .at)) (e₂ ∙ ap (λ (r : LineReader). readerAt (r .line) n) e₁)
 

@@ -1,5 +1,5 @@
--- `reader::rest` meets its contract: a walk of its MIR, by hand. A look at the part is made, moved on to field k, and what is
--- left of it given. Of `new`, `moved` and the look's own `rest` the walk knows their contracts alone (proofs/Look has the first two calls).
+-- `reader::rest` meets its contract: its MIR is gone through by hand. A reader of the part is made, moved on to field k, and what is left
+-- of it given. Of `new`, `moved` and the reader's `rest` the proof knows their contracts alone; the first two calls are in proofs/Made.
 use mathlib.Core.Path.{_≡_, refl, ap, _∙_}
 use Prim.Native.Nat.{ℕ, _*_, _<_, _^_}
 use mathlib.Core.List.{List, [], _∷_}
@@ -36,8 +36,9 @@ use denote.Exit.{yes}
 use denote.Triple.Clauses.{ensured, lasts}
 use Rattle.reader.specs.Line.{readerAt}
 use Rattle.reader.specs.declared.LineReader.{LineReader}
-use Rattle.reader.proofs.Look as made
-use Rattle.reader.proofs.Look.{B, Bytes, OwnBytes, bytesVal, twoVals, inBody, New, Moved}
+use Rattle.reader.proofs.Look.{B, Bytes, OwnBytes, bytesVal, twoVals, inBody}
+use Rattle.reader.proofs.Made as made
+use Rattle.reader.proofs.Made.{New, Moved}
 use Rattle.reader.proofs.LineReader as T
 use Rattle.reader.proofs.LineReader.Laws as T′
 use Rattle.reader.proofs.LineReader.new as new
@@ -79,7 +80,7 @@ module _ {M : Type 1} (𝓤 : URA M) (H : Heap 𝓤) (A : Atoms 𝓤) (W : Given
   abbrev to-moved : LineReader → Val → Moved 𝓤 H A mem run .Ghost
   to-moved = made.to-moved 𝓤 H A W mem run κ q s n ok
 
-  -- the call of the look's own `rest`, at the reader r with the machine value u
+  -- the call of the reader's `rest`, at the reader r with the machine value u
   abbrev to-left : LineReader → Val → Left 𝓤 H A mem run .Ghost
   to-left r u = (((κ, tt), (q, tt), tt, (r, tt), (u ∷ [], tt)), tt)
 
@@ -89,7 +90,7 @@ module _ {M : Type 1} (𝓤 : URA M) (H : Heap 𝓤) (A : Atoms 𝓤) (W : Given
   left-said : (r : LineReader) (t : RefT (List ℕ)) → ent 𝓤 (ensured 𝓤 H A left.ended (left.clauses 𝓤 H A mem run) (κ, tt) (r, tt) tt t) (fact 𝓤 (now t ≡ drop (6 * r .at) (now (r .line))))
   left-said r t = exE 𝓤 _ (λ ws. snd∗ 𝓤 (sem 𝓤 H A (lasts left.ended (κ, tt) (r, tt) ws)) (fact 𝓤 (now t ≡ drop (6 * r .at) (now (r .line)))))
 
-  -- of a look at the part, moved on to field n, that is left
+  -- of a reader of the part, moved on to field n, that is left
   answer : (r₁ r₂ : LineReader) (t : RefT (List ℕ)) → r₁ ≡ readerAt s 0 → r₂ ≡ readerAt (r₁ .line) n → now t ≡ drop (6 * r₂ .at) (now (r₂ .line)) → now t ≡ after
   answer r₁ r₂ t e₁ e₂ e = e ∙ ap (λ (r : LineReader). drop (6 * r .at) (now (r .line))) (e₂ ∙ ap (λ (r : LineReader). readerAt (r .line) n) e₁)
 

@@ -1,4 +1,4 @@
--- `LineReader::moved` meets its contract: a walk of its MIR, by hand. A reader is made anew of the bytes of the one passed, and another
+-- `LineReader::moved` meets its contract: its MIR is gone through by hand. A reader is made anew of the bytes of the one passed, and another
 -- number. What the one passed owns is had twice: once for the exit, and once, with the other number's facts, for the result.
 use mathlib.Core.Path.{refl}
 use Prim.Native.Nat.{ℕ, _<_, _^_}
@@ -32,7 +32,6 @@ use denote.Triple.Spec.{Meets, tripleOf}
 use denote.Triple.Table.{entered}
 use denote.Triple.Walked.{says, Stays, stay-none, walkOf, goes-none, Walks, ends-at, walked, walk-meets}
 use denote.Exit.{yes}
-use Rattle.reader.specs.Line.{readerAt}
 use Rattle.reader.specs.declared.LineReader.{LineReader}
 use Rattle.reader.proofs.Look.{B, D, L, OwnReader}
 use Rattle.reader.proofs.LineReader.Laws as T′
@@ -50,7 +49,7 @@ module _ {M : Type 1} (𝓤 : URA M) (H : Heap 𝓤) (A : Atoms 𝓤) (W : Given
   mach = T′.lowered d
 
   abbrev on : LineReader
-  on = readerAt (d .line) n
+  on = record { line = d .line; at = n }
 
   abbrev at : Vals moved.signature (κ, tt)
   at = (mach ∷ [], (vint w64 n ∷ [], tt))

@@ -1,4 +1,4 @@
--- `LineReader::new` meets its contract: a walk of its MIR, by hand. A reader is made of the bytes passed and 0, in the result's local.
+-- `LineReader::new` meets its contract: its MIR is gone through by hand. A reader is made of the bytes passed and 0, in the result's local.
 -- What the bytes own is had twice: once for the exit, and once inside the result, beside the number's facts.
 use mathlib.Core.Path.{refl}
 use Prim.Native.Nat.{ℕ}
@@ -33,7 +33,7 @@ use denote.Triple.Spec.{Meets, tripleOf}
 use denote.Triple.Table.{entered}
 use denote.Triple.Walked.{says, Stays, stay-none-slice, walkOf, goes-none-slice, Walks, ends-at, walked, walk-meets}
 use denote.Exit.{yes}
-use Rattle.reader.specs.Line.{readerAt}
+use Rattle.reader.specs.declared.LineReader.{LineReader}
 use Rattle.reader.proofs.Look.{D, L, Bytes, OwnBytes, bytesVal}
 use Rattle.reader.proofs.LineReader.Laws as T′
 use Rattle.reader.proofs.LineReader.new.Key.{name as #new}
@@ -49,13 +49,16 @@ module _ {M : Type 1} (𝓤 : URA M) (H : Heap 𝓤) (A : Atoms 𝓤) (W : Given
   abbrev at : List Val × Unit {0}
   at = (bytesVal s ∷ [], tt)
 
+  abbrev made : LineReader
+  made = record { line = s; at = 0 }
+
   abbrev Post : Val → SProp 𝓤
   Post = walkOf 𝓤 H A new.ended stayed (new.clauses 𝓤 H A mem run) .post (((κ, tt), (q, tt), tt, (s, tt), at), tt)
 
-  exits : ent 𝓤 (onEntry 𝓤 H A new.signature (κ, tt) (q, tt) (s, tt) at) (Post (T′.lowered (readerAt s 0)))
+  exits : ent 𝓤 (onEntry 𝓤 H A new.signature (κ, tt) (q, tt) (s, tt) at) (Post (T′.lowered made))
   exits =
       qed W ((‵ (flft κ q) ⊛ ‵ ftrue) ∷ ‵ (owns (Bytes κ ∷ []) (s, tt) at) ∷ []) ∵
-      suffices ! _ (ends-at 𝓤 H A new.ended stayed (new.clauses 𝓤 H A mem run) W (((κ, tt), (q, tt), tt, (s, tt), at), tt) (T′.lowered (readerAt s 0)) (readerAt s 0) (tt, tt) (tt, tt)) $ says ! refl $
+      suffices ! _ (ends-at 𝓤 H A new.ended stayed (new.clauses 𝓤 H A mem run) W (((κ, tt), (q, tt), tt, (s, tt), at), tt) (T′.lowered made) made (tt, tt) (tt, tt)) $ says ! refl $
       frame ! $ fsplit ! $ use1 W (‵ (OwnBytes κ s) ⊛ ‵ (OwnBytes κ s)) (shr-slice-copy 𝓤 H A W (named 0) κ u8 .twice s (bytesVal s ∷ [])) $ split ! $ move ! (0 ∷ 2 ∷ []) $ fjoin ! $ frame ! $
       -- [what the bytes own]: with the number's facts it is what the reader owns
       nothing ! $ owned ! usize (Is usize) (uint-makes 𝓤 H A W w64) 0 _ (refl, lit< tt) $ fjoin ! $ move ! (1 ∷ 0 ∷ []) $ fjoin ! $ by ! (own-shut 𝓤 H A W (D (κ, tt)) (L (κ, tt)) (s, (0, tt)))

@@ -1,5 +1,5 @@
--- `LineReader::next` meets its contract: a walk of its MIR, by hand. The reader is taken apart (proofs/Look), and `field_in` called on its
--- bytes and its number. Of `field_in` the walk knows its contract alone.
+-- `LineReader::next` meets its contract: its MIR is gone through by hand. The reader is taken apart (proofs/Look), and `field_in` called on
+-- its bytes and its number. Of `field_in` the proof knows its contract alone.
 use mathlib.Core.Path.{_≡_, refl}
 use mathlib.Core.List.{[], _∷_}
 use lib.Dec.{T as Holds}

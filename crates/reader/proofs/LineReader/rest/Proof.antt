@@ -1,5 +1,5 @@
--- `LineReader::rest` meets its contract: a walk of its MIR, by hand. The reader is taken apart (proofs/Look), and `part_from` called on its
--- bytes and its number. Of `part_from` the walk knows its contract alone.
+-- `LineReader::rest` meets its contract: its MIR is gone through by hand. The reader is taken apart (proofs/Look), and `part_from` called on
+-- its bytes and its number. Of `part_from` the proof knows its contract alone; the part that it returns is returned as it is.
 use mathlib.Core.Path.{_≡_, refl}
 use Prim.Native.Nat.{ℕ, _*_}
 use mathlib.Core.List.{List, [], _∷_}
