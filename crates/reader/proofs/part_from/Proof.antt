@@ -1,6 +1,5 @@
 -- `reader::part_from` is the bytes after the k-th field, or none.
 use borrow.Author.Needs.{needs}
-use native.Mathlib.Omega.{arith}
 use Rattle.reader.proofs.Line as line
 use Rattle.reader.proofs.part_from.Statement.{statement}
 use Rattle.reader.proofs.part_from.Tie as tie
