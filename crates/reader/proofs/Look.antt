@@ -32,15 +32,15 @@ use Rattle.reader.proofs.LineReader as T
 use Rattle.reader.proofs.LineReader.Laws as T′
 
 -- the reader's type, over the signature's lifetimes
-abbrev pub B : Lfts 1 → RattleType
-B κs = T.the-row (namedLft 1 0 tt κs)
+abbrev pub Reader : Lfts 1 → RattleType
+Reader κs = T.the-row (namedLft 1 0 tt κs)
 
 -- the same as declared, with its laws
-abbrev pub D : Lfts 1 → Declared
-D κs = T.the-type (namedLft 1 0 tt κs)
+abbrev pub Decl : Lfts 1 → Declared
+Decl κs = T.the-type (namedLft 1 0 tt κs)
 
-abbrev pub L : (κs : Lfts 1) → LL.Laws (D κs)
-L κs = T′.the-laws (namedLft 1 0 tt κs)
+abbrev pub Laws : (κs : Lfts 1) → LL.Laws (Decl κs)
+Laws κs = T′.the-laws (namedLft 1 0 tt κs)
 
 -- a lifetime as the locals of a body have it: MIR erases its name
 abbrev pub inBody : Lft → NamedLft
@@ -64,24 +64,25 @@ abbrev pub OwnTwo : Lft → RefT (List ℕ) → ℕ → Fml
 OwnTwo κ s n = owns (Bytes κ ∷ usize ∷ []) (s, (n, tt)) (twoVals s n)
 
 abbrev pub OwnReader : Lft → LineReader → Fml
-OwnReader κ d = B (κ, tt) .own d (T′.lowered d ∷ [])
+OwnReader κ d = Reader (κ, tt) .own d (T′.lowered d ∷ [])
 
-module _ {M : Type 1} (𝓤 : URA M) (H : Heap 𝓤) (A : Atoms 𝓤) (W : Given 𝓤 H A) (κ : Lft) (q : Share) where
+module _ {M : Type 1} (𝓤 : URA M) (H : Heap 𝓤) (A : Atoms 𝓤) (κ : Lft) (q : Share) where
   -- what a call is entered with: the lifetime's token, and what the arguments own
   abbrev pub With : Fml → SProp 𝓤
   With F = ⋆ 𝓤 H A ((‵ (flft κ q) ⊛ ‵ ftrue) ∷ ‵ F ∷ [])
 
+module _ {M : Type 1} (𝓤 : URA M) (H : Heap 𝓤) (A : Atoms 𝓤) (W : Given 𝓤 H A) (κ : Lft) (q : Share) where
   -- A reader is taken apart: what a callee on its bytes and its number is entered with is had, and the reader kept.
-  pub apart : (d : LineReader) → d .at < 2 ^ 64 → {P : SProp 𝓤} → ent 𝓤 (With (OwnTwo κ (d .line) (d .at))) P
-      → ent 𝓤 (With (owns (B (κ, tt) ∷ []) (d, tt) (T′.lowered d ∷ [], tt))) (sep 𝓤 P (sem 𝓤 H A (OwnReader κ d)))
+  pub apart : (d : LineReader) → d .at < 2 ^ 64 → {P : SProp 𝓤} → ent 𝓤 (With 𝓤 H A κ q (OwnTwo κ (d .line) (d .at))) P
+      → ent 𝓤 (With 𝓤 H A κ q (owns (Reader (κ, tt) ∷ []) (d, tt) (T′.lowered d ∷ [], tt))) (sep 𝓤 P (sem 𝓤 H A (OwnReader κ d)))
   apart d fits {P} asked =
-      let fields : Values (D (κ, tt) .parts) = (d .line, (d .at, tt)) in
+      let fields : Values (Decl (κ, tt) .parts) = (d .line, (d .at, tt)) in
       let mach : Val = T′.lowered d in
-      qed W ((‵ (flft κ q) ⊛ ‵ ftrue) ∷ ‵ (owns (B (κ, tt) ∷ []) (d, tt) (mach ∷ [], tt)) ∷ []) ∵
+      qed W ((‵ (flft κ q) ⊛ ‵ ftrue) ∷ ‵ (owns (Reader (κ, tt) ∷ []) (d, tt) (mach ∷ [], tt)) ∷ []) ∵
       move ! (1 ∷ []) $ fsplit ! $ move ! (1 ∷ []) $ drop ! $
-      use1 W (‵ (OwnReader κ d) ⊛ ‵ (OwnReader κ d)) (LL.copy (D (κ, tt)) (T′.the-copy (namedLft 1 0 tt (κ, tt))) 𝓤 H A W .twice d (mach ∷ [])) $ split ! $
-      use1 W (given (mach ∷ [] ≡ mach ∷ []) (‵ (all-own (D (κ, tt) .parts) (L (κ, tt)) fields))) (own-open 𝓤 H A W (D (κ, tt)) (L (κ, tt)) fields mach) $ learn ! (λ _.
-      use1 W (‵ (ownAt (D (κ, tt) .parts) (L (κ, tt)) 0 (d .line)) ⊛ ‵ (rest (D (κ, tt) .parts) (L (κ, tt)) 0 fields)) (own-out 𝓤 H A W (D (κ, tt) .parts) (L (κ, tt)) 0 fields) $ split ! $
+      use1 W (‵ (OwnReader κ d) ⊛ ‵ (OwnReader κ d)) (LL.copy (Decl (κ, tt)) (T′.the-copy (namedLft 1 0 tt (κ, tt))) 𝓤 H A W .twice d (mach ∷ [])) $ split ! $
+      use1 W (given (mach ∷ [] ≡ mach ∷ []) (‵ (all-own (Decl (κ, tt) .parts) (Laws (κ, tt)) fields))) (own-open 𝓤 H A W (Decl (κ, tt)) (Laws (κ, tt)) fields mach) $ learn ! (λ _.
+      use1 W (‵ (ownAt (Decl (κ, tt) .parts) (Laws (κ, tt)) 0 (d .line)) ⊛ ‵ (rest (Decl (κ, tt) .parts) (Laws (κ, tt)) 0 fields)) (own-out 𝓤 H A W (Decl (κ, tt) .parts) (Laws (κ, tt)) 0 fields) $ split ! $
       -- [what the bytes own; what the number owns; what the reader owns; the token]: the number's facts are made anew
       move ! (1 ∷ []) $ drop ! $ nothing ! $ owned ! usize (Is usize) (uint-makes 𝓤 H A W w64) (d .at) _ (refl, fits) $ fjoin ! $ move ! (1 ∷ 0 ∷ []) $ fjoin ! $
       move ! (2 ∷ 0 ∷ []) $ use2 W (raw P) asked $ frame ! $ done !)

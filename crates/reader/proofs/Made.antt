@@ -26,7 +26,7 @@ use denote.Triple.Spec.{tripleOf}
 use denote.Triple.Clauses.{ensured, lasts}
 use Rattle.reader.specs.Line.{readerAt}
 use Rattle.reader.specs.declared.LineReader.{LineReader}
-use Rattle.reader.proofs.Look.{B, Bytes, OwnBytes, OwnTwo, bytesVal, With}
+use Rattle.reader.proofs.Look.{Reader, Bytes, OwnBytes, OwnTwo, bytesVal, With}
 use Rattle.reader.proofs.LineReader.new as new
 use Rattle.reader.proofs.LineReader.moved as moved
 
@@ -43,7 +43,7 @@ module _ {M : Type 1} (𝓤 : URA M) (H : Heap 𝓤) (A : Atoms 𝓤) (W : Given
   abbrev pub to-new : New 𝓤 H A mem run .Ghost
   to-new = (((κ, tt), (q, tt), tt, (s, tt), (bytesVal s ∷ [], tt)), tt)
 
-  pub goes-new : ent 𝓤 (With 𝓤 H A W κ q (OwnTwo κ s n)) (sep 𝓤 (New 𝓤 H A mem run .pre to-new) (sem 𝓤 H A (OwnBytes κ s)))
+  pub goes-new : ent 𝓤 (With 𝓤 H A κ q (OwnTwo κ s n)) (sep 𝓤 (New 𝓤 H A mem run .pre to-new) (sem 𝓤 H A (OwnBytes κ s)))
   goes-new =
       qed W ((‵ (flft κ q) ⊛ ‵ ftrue) ∷ ‵ (OwnTwo κ s n) ∷ []) ∵
       move ! (1 ∷ []) $ fsplit ! $ move ! (1 ∷ []) $ drop ! $ use1 W (‵ (OwnBytes κ s) ⊛ ‵ (OwnBytes κ s)) (shr-slice-copy 𝓤 H A W (named 0) κ u8 .twice s (bytesVal s ∷ [])) $ split ! $
@@ -57,9 +57,9 @@ module _ {M : Type 1} (𝓤 : URA M) (H : Heap 𝓤) (A : Atoms 𝓤) (W : Given
   abbrev pub to-moved : LineReader → Val → Moved 𝓤 H A mem run .Ghost
   to-moved r u = (((κ, tt), (q, tt), tt, (r, (n, tt)), (u ∷ [], (vint w64 n ∷ [], tt))), tt)
 
-  pub goes-moved : (r : LineReader) (u : Val) → ent 𝓤 (⋆ 𝓤 H A (‵ (B (κ, tt) .own r (u ∷ [])) ∷ (‵ (flft κ q) ⊛ ‵ ftrue) ∷ [])) (Moved 𝓤 H A mem run .pre (to-moved r u))
+  pub goes-moved : (r : LineReader) (u : Val) → ent 𝓤 (⋆ 𝓤 H A (‵ (Reader (κ, tt) .own r (u ∷ [])) ∷ (‵ (flft κ q) ⊛ ‵ ftrue) ∷ [])) (Moved 𝓤 H A mem run .pre (to-moved r u))
   goes-moved r u =
-      qed W (‵ (B (κ, tt) .own r (u ∷ [])) ∷ (‵ (flft κ q) ⊛ ‵ ftrue) ∷ []) ∵
+      qed W (‵ (Reader (κ, tt) .own r (u ∷ [])) ∷ (‵ (flft κ q) ⊛ ‵ ftrue) ∷ []) ∵
       nothing ! $ owned ! usize (Is usize) (uint-makes 𝓤 H A W w64) n _ (refl, ok) $ fjoin ! $ move ! (1 ∷ 0 ∷ []) $ fjoin ! $ move ! (1 ∷ 0 ∷ []) $ join ! $ frame ! $ done !
 
   pub moved-said : (r t : LineReader) → ent 𝓤 (ensured 𝓤 H A moved.ended (moved.clauses 𝓤 H A mem run) (κ, tt) (r, (n, tt)) tt t) (fact 𝓤 (t ≡ readerAt (r .line) n))

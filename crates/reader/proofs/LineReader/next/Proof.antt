@@ -34,7 +34,7 @@ use denote.Triple.Clauses.{ensured, lasts}
 use Rattle.reader.specs.Line.{fieldAt}
 use Rattle.reader.specs.declared.LineReader.{LineReader}
 use Rattle.reader.specs.declared.Field.{Field}
-use Rattle.reader.proofs.Look.{B, D, L, OwnReader, OwnTwo, twoVals, apart}
+use Rattle.reader.proofs.Look.{Reader, Decl, Laws, OwnReader, OwnTwo, twoVals, apart}
 use Rattle.reader.proofs.LineReader.Laws as T′
 use Rattle.reader.proofs.Field as S
 use Rattle.reader.proofs.Field.Laws as S′
@@ -48,7 +48,7 @@ use Rattle.reader.proofs.LineReader.next.Statement as stated
 use Rattle.reader.proofs.LineReader.next.Code as code
 
 abbrev stayed : Stays (next.ended .signature .params) (next.ended .kept)
-stayed = (stay-none B yes, tt)
+stayed = (stay-none Reader yes, tt)
 
 module _ {M : Type 1} (𝓤 : URA M) (H : Heap 𝓤) (A : Atoms 𝓤) (mem : Memory → SProp 𝓤) (run : Routine → Fun 𝓤) where
   abbrev FieldIn : Contract 𝓤
@@ -101,13 +101,13 @@ module _ {M : Type 1} (𝓤 : URA M) (H : Heap 𝓤) (A : Atoms 𝓤) (W : Given
 module _ {M : Type 1} (𝓤 : URA M) (H : Heap 𝓤) (A : Atoms 𝓤) (W : Given 𝓤 H A) (mem : Memory → SProp 𝓤) (run : Routine → Fun 𝓤) where
   next-walks : (C : Calls 𝓤 H) (Λ : Loops 𝓤 H) → FmC 𝓤 H (W .laws) C → Triple 𝓤 (C #field-in) (FieldIn 𝓤 H A mem run)
       → Walks 𝓤 H A next.ended stayed (WpFn 𝓤 H C Λ code.function) (next.clauses 𝓤 H A mem run)
-  next-walks C Λ fm known = walked 𝓤 H A next.ended stayed (next.clauses 𝓤 H A mem run) (WpFn 𝓤 H C Λ code.function) (λ κs. (LL.vals (D κs) (L κs), tt)) (λ κs. (LL.tells (D κs) (L κs), tt))
-      (λ κs qs bounds a g are. via 𝓤 _ (fst∗ 𝓤 _ (emp 𝓤)) (walk 𝓤 H A W mem run (κs .0) (qs .0) (a .0) C Λ fm known (LL.lawful (D κs) (L κs) 𝓤 H A W .typed (a .0) _ (are .0) .0)))
+  next-walks C Λ fm known = walked 𝓤 H A next.ended stayed (next.clauses 𝓤 H A mem run) (WpFn 𝓤 H C Λ code.function) (λ κs. (LL.vals (Decl κs) (Laws κs), tt)) (λ κs. (LL.tells (Decl κs) (Laws κs), tt))
+      (λ κs qs bounds a g are. via 𝓤 _ (fst∗ 𝓤 _ (emp 𝓤)) (walk 𝓤 H A W mem run (κs .0) (qs .0) (a .0) C Λ fm known (LL.lawful (Decl κs) (Laws κs) 𝓤 H A W .typed (a .0) _ (are .0) .0)))
 
 next-meets : {M : Type 1} (𝓤 : URA M) (H : Heap 𝓤) (A : Atoms 𝓤) (W : Given 𝓤 H A) (mem : Memory → SProp 𝓤) (run : Routine → Fun 𝓤) (𝓣 : Tables 𝓤 H)
     → Triple 𝓤 (𝓣 .C #field-in) (FieldIn 𝓤 H A mem run)
     → Meets 𝓤 H A next.signature (WpFn 𝓤 H (𝓣 .C) (𝓣 .Λ) code.function) (next.spec 𝓤 H A mem run)
-next-meets 𝓤 H A W mem run 𝓣 known = walk-meets 𝓤 H A next.ended stayed W (goes-none 𝓤 H A W 1 B yes (λ κs x f. refl), tt) (next.clauses 𝓤 H A mem run) (WpFn 𝓤 H (𝓣 .C) (𝓣 .Λ) code.function) (WpFn-mono 𝓤 H (W .laws) 𝓣 code.function)
+next-meets 𝓤 H A W mem run 𝓣 known = walk-meets 𝓤 H A next.ended stayed W (goes-none 𝓤 H A W 1 Reader yes (λ κs x f. refl), tt) (next.clauses 𝓤 H A mem run) (WpFn 𝓤 H (𝓣 .C) (𝓣 .Λ) code.function) (WpFn-mono 𝓤 H (W .laws) 𝓣 code.function)
     (next-walks 𝓤 H A W mem run (𝓣 .C) (𝓣 .Λ) (fmOf 𝓤 H (W .laws) 𝓣) known)
 
 pub next-spec : {M : Type 1} → stated.statement M

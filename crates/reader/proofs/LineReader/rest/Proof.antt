@@ -35,7 +35,7 @@ use denote.Triple.Walked.{says, Stays, stay-none, walkOf, goes-none, Walks, ends
 use denote.Exit.{yes}
 use denote.Triple.Clauses.{ensured, lasts}
 use Rattle.reader.specs.declared.LineReader.{LineReader}
-use Rattle.reader.proofs.Look.{B, D, L, Bytes, OwnReader, OwnTwo, twoVals, apart}
+use Rattle.reader.proofs.Look.{Reader, Decl, Laws, Bytes, OwnReader, OwnTwo, twoVals, apart}
 use Rattle.reader.proofs.LineReader.Laws as T′
 use Rattle.reader.proofs.part_from as part-from
 use Rattle.reader.proofs.part_from.Symbol as part-from-def
@@ -47,7 +47,7 @@ use Rattle.reader.proofs.LineReader.rest.Statement as stated
 use Rattle.reader.proofs.LineReader.rest.Code as code
 
 abbrev stayed : Stays (rest-of.ended .signature .params) (rest-of.ended .kept)
-stayed = (stay-none B yes, tt)
+stayed = (stay-none Reader yes, tt)
 
 module _ {M : Type 1} (𝓤 : URA M) (H : Heap 𝓤) (A : Atoms 𝓤) (mem : Memory → SProp 𝓤) (run : Routine → Fun 𝓤) where
   abbrev PartFrom : Contract 𝓤
@@ -101,13 +101,13 @@ module _ {M : Type 1} (𝓤 : URA M) (H : Heap 𝓤) (A : Atoms 𝓤) (W : Given
 module _ {M : Type 1} (𝓤 : URA M) (H : Heap 𝓤) (A : Atoms 𝓤) (W : Given 𝓤 H A) (mem : Memory → SProp 𝓤) (run : Routine → Fun 𝓤) where
   rest-walks : (C : Calls 𝓤 H) (Λ : Loops 𝓤 H) → FmC 𝓤 H (W .laws) C → Triple 𝓤 (C #part-from) (PartFrom 𝓤 H A mem run)
       → Walks 𝓤 H A rest-of.ended stayed (WpFn 𝓤 H C Λ code.function) (rest-of.clauses 𝓤 H A mem run)
-  rest-walks C Λ fm known = walked 𝓤 H A rest-of.ended stayed (rest-of.clauses 𝓤 H A mem run) (WpFn 𝓤 H C Λ code.function) (λ κs. (LL.vals (D κs) (L κs), tt)) (λ κs. (LL.tells (D κs) (L κs), tt))
-      (λ κs qs bounds a g are. via 𝓤 _ (fst∗ 𝓤 _ (emp 𝓤)) (walk 𝓤 H A W mem run (κs .0) (qs .0) (a .0) C Λ fm known (LL.lawful (D κs) (L κs) 𝓤 H A W .typed (a .0) _ (are .0) .0)))
+  rest-walks C Λ fm known = walked 𝓤 H A rest-of.ended stayed (rest-of.clauses 𝓤 H A mem run) (WpFn 𝓤 H C Λ code.function) (λ κs. (LL.vals (Decl κs) (Laws κs), tt)) (λ κs. (LL.tells (Decl κs) (Laws κs), tt))
+      (λ κs qs bounds a g are. via 𝓤 _ (fst∗ 𝓤 _ (emp 𝓤)) (walk 𝓤 H A W mem run (κs .0) (qs .0) (a .0) C Λ fm known (LL.lawful (Decl κs) (Laws κs) 𝓤 H A W .typed (a .0) _ (are .0) .0)))
 
 rest-meets : {M : Type 1} (𝓤 : URA M) (H : Heap 𝓤) (A : Atoms 𝓤) (W : Given 𝓤 H A) (mem : Memory → SProp 𝓤) (run : Routine → Fun 𝓤) (𝓣 : Tables 𝓤 H)
     → Triple 𝓤 (𝓣 .C #part-from) (PartFrom 𝓤 H A mem run)
     → Meets 𝓤 H A rest-of.signature (WpFn 𝓤 H (𝓣 .C) (𝓣 .Λ) code.function) (rest-of.spec 𝓤 H A mem run)
-rest-meets 𝓤 H A W mem run 𝓣 known = walk-meets 𝓤 H A rest-of.ended stayed W (goes-none 𝓤 H A W 1 B yes (λ κs x f. refl), tt) (rest-of.clauses 𝓤 H A mem run) (WpFn 𝓤 H (𝓣 .C) (𝓣 .Λ) code.function) (WpFn-mono 𝓤 H (W .laws) 𝓣 code.function)
+rest-meets 𝓤 H A W mem run 𝓣 known = walk-meets 𝓤 H A rest-of.ended stayed W (goes-none 𝓤 H A W 1 Reader yes (λ κs x f. refl), tt) (rest-of.clauses 𝓤 H A mem run) (WpFn 𝓤 H (𝓣 .C) (𝓣 .Λ) code.function) (WpFn-mono 𝓤 H (W .laws) 𝓣 code.function)
     (rest-walks 𝓤 H A W mem run (𝓣 .C) (𝓣 .Λ) (fmOf 𝓤 H (W .laws) 𝓣) known)
 
 pub rest-spec : {M : Type 1} → stated.statement M
