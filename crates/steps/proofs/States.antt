@@ -18,7 +18,7 @@ use Rattle.terms.specs.Tree as tree
 use Rattle.criteria.specs.Design.{Parameter, Row, values, sizes, initialState, mapped, measureAt}
 use Rattle.criteria.specs.Step.{nextState}
 use Rattle.criteria.specs.Rows.{noRow, rowAt}
-use Rattle.decision.specs.Tests.{enabledB, invariantB, insideB, rowFrom, rowOf}
+use Rattle.decision.specs.Tests.{enabledB, invariantB, invariantStateB, rowFrom, rowOf}
 use Rattle.decision.specs.Examine.{stateAt}
 use Rattle.design.specs.Line as line
 use Rattle.design.specs.Line.{valuesIn}
@@ -202,7 +202,7 @@ module _ (f s : List ℕ) (c : Counts) where
     measure-held = value-held x short (designIn f s c .measure) 0
 
   module _ (fits : Fit c) where
-    pub inside-held : (x : List ℕ) → length x ≡ c .kind1 → insideIn f s c (padded x) ≡ insideB (designIn f s c) x
+    pub inside-held : (x : List ℕ) → length x ≡ c .kind1 → insideIn f s c (padded x) ≡ invariantStateB (designIn f s c) x
     unfolding insideIn belowIn
     inside-held x e =
         let q = fits .kind1 in
