@@ -1,12 +1,15 @@
 -- The fields of a line's bytes, from the left (01, "Design text": "A line is one or more fields of six columns").
 -- Of bytes that are not whole fields `fieldsOf` gives those that they begin with. A part of a line that starts after its k-th field
 -- has just the later fields (proofs/Line): so the rest of a line after a term can be handed on as a part.
+-- Last, the reader of a line at one of its fields.
 use Prim.Native.Nat.{ℕ, zero, suc, _+_, _*_, _/_, _<_}
 use mathlib.Core.Path.{_≡_}
 use mathlib.Core.Logic.{_≢_}
 use mathlib.Core.List.{List, [], _∷_, _++_}
 use lib.ListN.{length, take, drop}
 use Rattle.reader.specs.Columns.{columnsOf, fieldOf}
+use denote.Ref.{RefT}
+use Rattle.reader.specs.declared.LineReader.{LineReader}
 use Rattle.reader.specs.declared.Field.{Field}
 use Rattle.reader.specs.declared.Field.the-variants.{Number, Malformed}
 
@@ -44,3 +47,8 @@ fieldsFrom (suc k) bytes = let later = fieldsFrom k (drop 6 bytes) in andThen (f
 -- the fields that bytes begin with
 unfoldable pub fieldsOf : List ℕ → List ℕ
 fieldsOf bytes = fieldsFrom (length bytes / 6) bytes
+
+-- "While a line is checked, the reader is a read-only look at one line of the lent text, which advances field by field": the reader of
+-- a line whose next field is the k-th
+abbrev pub readerAt : RefT (List ℕ) → ℕ → LineReader
+readerAt line k = record { line = line; at = k }

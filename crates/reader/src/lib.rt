@@ -1,10 +1,12 @@
 // From bytes to fields and lines: what six columns are a field, the fields of a line, and whether a text's columns are at fault.
-// Every public function answers any bytes. The definitions are in specs/Columns, specs/Line and specs/Text.
+// Every field is read through a `LineReader`. Callers use `field_at` and `rest`, whose parameters are plain: a function that has a
+// reader in its hands is proved step by step. Every public function answers any bytes. The definitions are in specs/Columns,
+// specs/Line and specs/Text.
 ghost use mathlib.Core.Path.{_≡_};
 ghost use Prim.Native.Nat.{_+_, _*_, _≤_};
 ghost use lib.ListN.{length, take, drop};
 ghost use Rattle.reader.specs.Columns.{fieldOf};
-ghost use Rattle.reader.specs.Line.{fieldAt, fieldsOf};
+ghost use Rattle.reader.specs.Line.{fieldAt, fieldsOf, readerAt};
 ghost use Rattle.reader.specs.Text.{columnsFault, linesFault};
 ghost use Rattle.reader.specs.Scan.{blanksOf, digitsFrom};
 
@@ -31,28 +33,58 @@ const DIGIT_9: u8 = 57;
 
 const LINE_END: u8 = 10;
 
+// A read-only look at one line of the lent text, or at a part of one: its bytes, and the number of the field that is next.
+pub struct LineReader<'a> {
+    pub line: &'a [u8],
+    pub at: usize,
+}
+
+// Thin functions: each takes the reader apart, and `field_in` and `part_from` do the work on the bytes and the number.
+impl<'a> LineReader<'a> {
+    // The reader of a line, at its first field.
+    pub fn new(line: &'a [u8]) -> LineReader<'a>
+        ensures { λ r. ⌜ r ≡ readerAt (line .entry) 0 ⌝ }
+    {
+        LineReader { line, at: 0 }
+    }
+
+    // The reader moved on to field k.
+    pub fn moved(self, k: usize) -> LineReader<'a>
+        ensures { λ r. ⌜ r ≡ readerAt (self .entry .line) k ⌝ }
+    {
+        LineReader {
+            line: self.line,
+            at: k,
+        }
+    }
+
+    // The next field.
+    pub fn next(self) -> Field
+        ensures { λ r. ⌜ r ≡ fieldAt (now (self .entry .line)) (self .entry .at) ⌝ }
+    {
+        field_in(self.line, self.at)
+    }
+
+    // What is left of the line from the next field on, as a part.
+    pub fn rest(self) -> &'a [u8]
+        ensures { λ r. ⌜ now r ≡ drop (6 * self .entry .at) (now (self .entry .line)) ⌝ }
+    {
+        part_from(self.line, self.at)
+    }
+}
+
 // The k-th field of a part of a line, counted from 0; malformed also where the part has no k-th six columns.
 pub fn field_at(part: &[u8], k: usize) -> Field
     ensures { λ r. ⌜ r ≡ fieldAt (now (part .entry)) k ⌝ }
 {
-    if k < part.len() / COLUMNS {
-        let at = COLUMNS * k;
-        first_field(&part[at..])
-    } else {
-        Field::Malformed
-    }
+    LineReader::new(part).moved(k).next()
 }
 
 // What is left of a part after its first k fields.
 pub fn rest(part: &[u8], k: usize) -> &[u8]
     ensures { λ r. ⌜ now r ≡ drop (6 * k) (now (part .entry)) ⌝ }
 {
-    if k <= part.len() / COLUMNS {
-        let at = COLUMNS * k;
-        &part[at..]
-    } else {
-        &part[part.len()..]
-    }
+    LineReader::new(part).moved(k).rest()
 }
 
 // How many fields a part begins with.
@@ -112,6 +144,30 @@ fn lines_fault(text: &[u8]) -> u16
         return 3;
     }
     0
+}
+
+// The field in the k-th six columns of a line.
+fn field_in(line: &[u8], k: usize) -> Field
+    ensures { λ r. ⌜ r ≡ fieldAt (now (line .entry)) k ⌝ }
+{
+    if k < line.len() / COLUMNS {
+        let at = COLUMNS * k;
+        first_field(&line[at..])
+    } else {
+        Field::Malformed
+    }
+}
+
+// The bytes of a line from its k-th six columns on.
+fn part_from(line: &[u8], k: usize) -> &[u8]
+    ensures { λ r. ⌜ now r ≡ drop (6 * k) (now (line .entry)) ⌝ }
+{
+    if k <= line.len() / COLUMNS {
+        let at = COLUMNS * k;
+        &line[at..]
+    } else {
+        &line[line.len()..]
+    }
 }
 
 // The field in the first six columns: blanks, then digits, of which only a single one may begin with 0.
