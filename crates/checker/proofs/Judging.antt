@@ -13,11 +13,12 @@ use Rattle.writer.specs.declared.Report.{Report}
 use Rattle.writer.specs.Report as bytes
 use Rattle.criteria.specs.Design.{states}
 use Rattle.criteria.specs.Verdict.{accepted, failed}
+use Rattle.criteria.specs.Verdict as criteria
 use Rattle.decision.specs.Verdict.{verdictOf}
 use Rattle.design.specs.Lines.{designOf}
 use Rattle.loader.specs.declared.Loaded.{Loaded}
 use Rattle.loader.specs.Load.{faultOf, refusedBy, heldBy, loadedOf}
-use Rattle.checker.specs.Said.{saidFailure}
+use Rattle.checker.specs.Said.{saidFailure, saidVerdict}
 use Rattle.checker.specs.declared.Phase.{Phase}
 use Rattle.checker.specs.declared.Phase.the-variants as phase
 use Rattle.checker.specs.declared.Done.{Done}
@@ -56,12 +57,19 @@ tell-at : (desk : Desk) {p : Phase} → desk .phase ≡ p → tellOf desk .answe
 unfolding tellOf
 tell-at desk e = ap (λ p. tellBy p desk .answer) e
 
-pub decided-report : (text : List ℕ) (desk : Desk) → Stage text desk → desk .phase ≢ phase.Open
+pub decided-answer : (text : List ℕ) (desk : Desk) → Stage text desk → desk .phase ≢ phase.Open → tellOf desk .answer ≡ saidVerdict (verdictOf (designText text))
+decided-answer text desk (fresh h e z) o = absurd (o e)
+decided-answer text desk (going h e l u p) o = absurd (o e)
+decided-answer text desk (accepts h e v) o = rw (tell-at desk e, v)
+decided-answer text desk (fails x h e v) o = rw (tell-at desk e, v)
+
+decided-report : (text : List ℕ) (desk : Desk) → Stage text desk → desk .phase ≢ phase.Open
     → verdictReport (tellOf desk .answer) ≡ designReport (verdictOf (designText text))
-decided-report text desk (fresh h e z) o = absurd (o e)
-decided-report text desk (going h e l u p) o = absurd (o e)
-decided-report text desk (accepts h e v) o = rw (tell-at desk e, v)
-decided-report text desk (fails x h e v) o = rw (tell-at desk e, v)
+decided-report text desk s o = rw (decided-answer text desk s o) (same-report (verdictOf (designText text)))
+  where
+    same-report : (v : criteria.Verdict) → verdictReport (saidVerdict v) ≡ designReport v
+    same-report accepted = refl
+    same-report (failed x) = refl
 
 -- ---- the check
 

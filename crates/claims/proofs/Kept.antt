@@ -1,6 +1,6 @@
 -- What every list of desk calls keeps: the desk is empty, or it holds the text of the last load that returned 0 and has come to a
 -- stage of its check (`kept`). So where an advance answers accepted, the verdict on that text's design is acceptance
--- (`accepted-verdict`), and what a verdict answers is the verdict on it (`told-verdict`).
+-- (`accepted-verdict`).
 use Prim.Native.Nat.{ℕ, suc, _+_, _≤_, _<_}
 use mathlib.Core.Path.{_≡_, refl, sym, ap, _∙_}
 use mathlib.Core.Logic.{_≢_}
@@ -61,7 +61,7 @@ keeps n l s = holds (before n l) s
 
 -- ---- load
 
-load-at : (d : Desk) (text : List ℕ) {p : Phase} → d .phase ≡ p → loadOf d text ≡ loadBy p d text
+pub load-at : (d : Desk) (text : List ℕ) {p : Phase} → d .phase ≡ p → loadOf d text ≡ loadBy p d text
 unfolding loadOf
 load-at d text e = ap (λ p. loadBy p d text) e
 
@@ -79,11 +79,11 @@ load-kept {d = d} text (holds l (fails x h e v)) = rw (load-at d text e) (keeps 
 
 -- ---- advance
 
-advance-at : (d : Desk) (n : ℕ) {p : Phase} → d .phase ≡ p → advanceOf d n ≡ advanceBy p d n
+pub advance-at : (d : Desk) (n : ℕ) {p : Phase} → d .phase ≡ p → advanceOf d n ≡ advanceBy p d n
 unfolding advanceOf
 advance-at d n e = ap (λ p. advanceBy p d n) e
 
-by-none : (d : Desk) (n : ℕ) → n ≡ 0 → advanceOpen d n ≡ notAdvanced 8 d
+pub by-none : (d : Desk) (n : ℕ) → n ≡ 0 → advanceOpen d n ≡ notAdvanced 8 d
 unfolding advanceOpen
 by-none d n z = rw (eq-eqb n 0 z)
 
@@ -118,7 +118,7 @@ advance-kept {d = d} n (holds {text = text} l s) = keeps advanced l (advance-sta
 
 -- ---- verdict and drop
 
-tell-desk : (d : Desk) (p : Phase) → tellBy p d .desk ≡ d
+pub tell-desk : (d : Desk) (p : Phase) → tellBy p d .desk ≡ d
 tell-desk d phase.Empty = refl
 tell-desk d phase.Open = refl
 tell-desk d phase.Accepted = refl
