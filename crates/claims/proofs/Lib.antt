@@ -4,3 +4,5 @@ pub mod Reached
 pub mod OneCall
 pub mod Among
 pub mod Demand3
+pub mod Demand1
+pub mod Demand2
