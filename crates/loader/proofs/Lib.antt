@@ -5,3 +5,4 @@ pub mod Table
 pub mod Loading
 pub mod Lowest
 pub mod Admitted
+pub mod Passed

@@ -39,7 +39,7 @@ pub record Allows (lines : List (List ℕ)) : Type 0 where
   pub kind3 : countOf 3 lines ≤ 32
   pub kind4 : countOf 4 lines ≤ 32
 
-allows : (lines : List (List ℕ)) → Layout lines → Allows lines
+pub allows : (lines : List (List ℕ)) → Layout lines → Allows lines
 allows lines l =
     record {
       kind1 = l .counts 1 (omega arith) (omega arith) .1;

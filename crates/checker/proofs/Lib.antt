@@ -1,0 +1,5 @@
+pub mod Said
+pub mod Answers
+pub mod Opened
+pub mod Stages
+pub mod Judging

@@ -1,0 +1,105 @@
+-- What a desk that holds a text's lines comes to, in the words of the text's design: the start, the number of states, the number of
+-- the initial state, and a walk. From here on nothing speaks of arrays.
+use Prim.Native.Nat.{ℕ, _+_, _-_, _≤_, _<_, min}
+use mathlib.Core.Path.{_≡_, refl, sym, ap, _∙_}
+use mathlib.Core.Bool.{Bool, true, false, _&&_}
+use mathlib.Core.List.{List}
+use native.Mathlib.Omega.{arith}
+use borrow.Author.Tests.{le-leb}
+use lib.Dec.{leb}
+use Rattle.foundation.specs.Walk.{walk}
+use Rattle.foundation.proofs.Radix.{number-below}
+use Rattle.reader.specs.Text.{fieldsByLine}
+use Rattle.criteria.specs.Design.{Design, Admitted, sizes, states, stateNumber, initialState}
+use Rattle.criteria.specs.Failure.{startFailure}
+use Rattle.criteria.proofs.Parameters.{initial-in-size}
+use Rattle.decision.specs.Tests.{holds1}
+use Rattle.decision.specs.Examine.{examine}
+use Rattle.design.specs.Lines.{countsOf, designOf}
+use Rattle.design.specs.Loaded.{fieldsHeld, startsHeld, designIn}
+use Rattle.design.specs.declared.Counts.{Counts}
+use Rattle.terms.specs.Tree.{pick}
+use Rattle.layout.specs.Sizes.{countsFit, stateCountIn, initialNumberIn}
+use Rattle.loader.specs.Load.{faultOf}
+use Rattle.loader.proofs.Passed.{admitted, design-in, counts-allowed}
+use Rattle.walk.specs.Told.{noWalk}
+use Rattle.walk.specs.Walk.{startIn, walkIn}
+use Rattle.checker.specs.Said.{saidFailure, saidWalked, walkedIn}
+use Rattle.checker.specs.declared.Desk.{Desk}
+
+-- the design of a text
+abbrev pub designText : List ℕ → Design
+designText text = designOf (fieldsByLine text)
+
+-- the desk's arrays hold the lines of a text without fault
+pub record HoldsText (text : List ℕ) (desk : Desk) : Type 0 where
+  pub free : faultOf text ≡ 0
+  pub fields-are : desk .fields ≡ fieldsHeld (fieldsByLine text)
+  pub starts-are : desk .starts ≡ startsHeld (fieldsByLine text)
+  pub counts-are : desk .counts ≡ countsOf (fieldsByLine text)
+
+-- ---- arrays that hold a design
+
+module _ (f s : List ℕ) (c : Counts) (fit : countsFit c ≡ true) (d : Design) (e : designIn f s c ≡ d) where
+  start-of : startIn f s c ≡ holds1 d
+  unfolding startIn
+  start-of = rw fit (ap holds1 e)
+
+  total-of : states d ≤ 65536 → stateCountIn f s c ≡ states d
+  unfolding stateCountIn
+  total-of l = rw fit (ap (λ x. min (states x) 65537) e ∙ least)
+    where
+      least : min (states d) 65537 ≡ states d
+      least = omega arith
+
+  initial-of : stateNumber d (initialState (d .impl)) ≤ 65535 → initialNumberIn f s c ≡ stateNumber d (initialState (d .impl))
+  unfolding initialNumberIn
+  initial-of l = rw fit (ap (λ x. min (stateNumber x (initialState (x .impl))) 65535) e ∙ least)
+    where
+      least : min (stateNumber d (initialState (d .impl))) 65535 ≡ stateNumber d (initialState (d .impl))
+      least = omega arith
+
+  walk-of : (n from : ℕ) → from + n ≤ states d → states d ≤ 65536 → walkedIn f s c n from ≡ saidWalked (walk (examine d) n from)
+  unfolding walkedIn walkIn
+  walk-of n from l few = ap saidWalked (there ∙ ap (λ x. walk (examine x) n from) e)
+    where
+      enough : leb (from + n) (min (states (designIn f s c)) 65536) ≡ true
+      enough = ap (λ x. leb (from + n) (min (states x) 65536)) e ∙ le-leb (from + n) (min (states d) 65536) (omega arith)
+
+      there : pick (countsFit c && leb (from + n) (min (states (designIn f s c)) 65536)) (walk (examine (designIn f s c)) n from) noWalk ≡ walk (examine (designIn f s c)) n from
+      there = ap (λ b. pick b (walk (examine (designIn f s c)) n from) noWalk) (ap (λ b. b && leb (from + n) (min (states (designIn f s c)) 65536)) fit ∙ enough)
+
+-- ---- a desk that holds a text
+
+module _ (text : List ℕ) (desk : Desk) (h : HoldsText text desk) where
+  abbrev lines : List (List ℕ)
+  lines = fieldsByLine text
+
+  abbrev d : Design
+  d = designText text
+
+  pub few : states d ≤ 65536
+  few = admitted text (h .free) .few-states
+
+  pub start-is : startIn (desk .fields) (desk .starts) (desk .counts) ≡ holds1 d
+  start-is =
+      rw (h .fields-are, h .starts-are, h .counts-are)
+      (start-of (fieldsHeld lines) (startsHeld lines) (countsOf lines) (counts-allowed text (h .free)) d (design-in text (h .free)))
+
+  pub total-is : stateCountIn (desk .fields) (desk .starts) (desk .counts) ≡ states d
+  total-is =
+      rw (h .fields-are, h .starts-are, h .counts-are)
+      (total-of (fieldsHeld lines) (startsHeld lines) (countsOf lines) (counts-allowed text (h .free)) d (design-in text (h .free)) few)
+
+  pub initial-is : initialNumberIn (desk .fields) (desk .starts) (desk .counts) ≡ stateNumber d (initialState (d .impl))
+  initial-is =
+      let f = few in
+      let b = number-below (sizes (d .impl)) (initialState (d .impl)) (initial-in-size (d .impl) (admitted text (h .free) .impl-sizes)) in
+      let small : stateNumber d (initialState (d .impl)) ≤ 65535 = omega arith in
+      rw (h .fields-are, h .starts-are, h .counts-are)
+      (initial-of (fieldsHeld lines) (startsHeld lines) (countsOf lines) (counts-allowed text (h .free)) d (design-in text (h .free)) small)
+
+  pub walk-is : (n from : ℕ) → from + n ≤ states d → walkedIn (desk .fields) (desk .starts) (desk .counts) n from ≡ saidWalked (walk (examine d) n from)
+  walk-is n from l =
+      rw (h .fields-are, h .starts-are, h .counts-are)
+      (walk-of (fieldsHeld lines) (startsHeld lines) (countsOf lines) (counts-allowed text (h .free)) d (design-in text (h .free)) n from l few)

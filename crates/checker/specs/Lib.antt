@@ -1,0 +1,4 @@
+pub mod Said
+pub mod Desk
+pub mod OneCall
+pub mod Count

@@ -1,0 +1,34 @@
+-- What the crates foundation and criteria say of a walk and of a design, in the code's own types: the other way round than
+-- walk/specs/Told.
+use mathlib.Core.List.{List}
+use Prim.Native.Nat.{ℕ}
+use Rattle.foundation.specs.First.{Outcome, pass, fail}
+use Rattle.foundation.specs.Walk.{Walked}
+use Rattle.criteria.specs.Failure.{Failure}
+use Rattle.criteria.specs.Verdict as criteria
+use Rattle.design.specs.declared.Counts.{Counts}
+use Rattle.walk.specs.Walk.{walkIn}
+use Rattle.walk.specs.declared.Failure.{Failure as Said}
+use Rattle.walk.specs.declared.Outcome.{Outcome as Answer}
+use Rattle.walk.specs.declared.Outcome.the-variants.{Pass, Fail}
+use Rattle.walk.specs.declared.Walked.{Walked as WalkAnswer}
+use Rattle.checker.specs.declared.Verdict.{Verdict}
+use Rattle.checker.specs.declared.Verdict.the-variants as verdict
+
+abbrev pub saidFailure : Failure → Said
+saidFailure x = record { criterion = x .criterion; state = x .state; row = x .row; sum = x .sum }
+
+abbrev pub said : Outcome Failure → Answer
+said pass = Pass
+said (fail x) = Fail (saidFailure x)
+
+abbrev pub saidVerdict : criteria.Verdict → Verdict
+saidVerdict criteria.accepted = verdict.Accepted
+saidVerdict (criteria.failed x) = verdict.Failed (saidFailure x)
+
+abbrev pub saidWalked : Walked Failure → WalkAnswer
+saidWalked w = record { outcome = said (w .outcome); count = w .count }
+
+-- the walk over n states from a number on, in the design that a desk's arrays hold
+unfoldable pub walkedIn : List ℕ → List ℕ → Counts → ℕ → ℕ → WalkAnswer
+walkedIn f s c n from = saidWalked (walkIn f s c n from)

@@ -1,0 +1,59 @@
+-- Demand 2 (00), over the contracts of the functions: however the walk is divided among calls, the verdict is that of the nine
+-- criteria, it is there once the advances add up to the states, and the counts are those of one walk.
+use Prim.Native.Nat.{ℕ, _≤_}
+use mathlib.Core.Path.{_≡_, refl, sym, ap, _∙_}
+use mathlib.Core.List.{List, _++_}
+use lib.ListN.{length, drop}
+use Rattle.writer.specs.Report as bytes
+use Rattle.criteria.specs.Design.{states}
+use Rattle.criteria.specs.Verdict.{Verdict, Demand2}
+use Rattle.decision.specs.Verdict.{verdictOf}
+use Rattle.decision.proofs.Demand2.{demand2}
+use Rattle.design.specs.Faults.{DesignText}
+use Rattle.loader.specs.Load.{faultOf}
+use Rattle.loader.proofs.Lowest.{free-exactly}
+use Rattle.loader.proofs.Passed.{is-design-text, admitted}
+use Rattle.checker.specs.declared.Desk.{Desk}
+use Rattle.checker.specs.declared.AfterVerdict.{AfterVerdict}
+use Rattle.checker.specs.Said.{saidVerdict}
+use Rattle.checker.specs.Count.{examined}
+use Rattle.checker.specs.OneCall.{designReport}
+use Rattle.checker.proofs.Opened.{designText}
+use Rattle.checker.proofs.Judging.{decided-answer}
+use Rattle.checker.proofs.Desk.verdict.Reads as verdict-reads
+use Rattle.claims.specs.Calls.{Called, Walked}
+use Rattle.claims.proofs.Lists.{Calls}
+use Rattle.claims.proofs.OneCall.{Checks, answered, written, long-answer, long-buffer, judged-free}
+use Rattle.claims.proofs.Reached.{reached, decided}
+
+-- of a text and a verdict: every check of it comes to that one
+pub record Comes (text : List ℕ) (v : Verdict) : Type 0 where
+  -- a load and advances by m in all, divided anyhow: once m is the states or more, the desk tells it
+  pub tells : {calls : List Called} {desk : Desk} {m k : ℕ} {r : AfterVerdict} → Calls calls desk → Walked calls text m k
+      → states (designText text) ≤ m → verdict-reads.Post tt (desk, tt) r (desk, tt) → r .answer ≡ saidVerdict v
+  -- the answers counted the states that one walk over m examines
+  pub counts : {calls : List Called} {desk : Desk} {m k : ℕ} → Calls calls desk → Walked calls text m k → k ≡ examined (designText text) m
+  -- the one-call check reports it
+  pub answers : {report after : List ℕ} {r : ℕ} → Checks text report r after → 31 ≤ length report → r ≡ designReport v .verdict
+  pub reports : {report after : List ℕ} {r : ℕ} → Checks text report r after → 31 ≤ length report
+      → after ≡ bytes.reportOf (designReport v) ++ drop 31 report
+
+-- of a design text: one verdict, accepted exactly if all nine criteria hold, and else the lowest failure
+pub record Claim2 (text : List ℕ) : Type 0 where
+  pub verdict : Verdict
+  pub is : Demand2 (designText text) verdict
+  pub comes : Comes text verdict
+
+pub claim2 : (text : List ℕ) → DesignText text → Claim2 text
+claim2 text t =
+    let free : faultOf text ≡ 0 = free-exactly text .1 t in
+    record {
+      verdict = verdictOf (designText text);
+      is = demand2 (designText text) (admitted text free);
+      comes = record {
+        tells = λ c w l p. let r = reached c w in ap (λ x. x .answer) p ∙ decided-answer text _ (r .stage) (decided r l);
+        counts = λ c w. reached c w .counts;
+        answers = λ {report} c l. answered c ∙ long-answer text report l ∙ ap (λ j. j .verdict) (judged-free text free);
+        reports = λ {report} c l. written c ∙ long-buffer text report l ∙ ap (λ j. bytes.reportOf j ++ drop 31 report) (judged-free text free);
+      };
+    }

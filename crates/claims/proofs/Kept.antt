@@ -1,0 +1,192 @@
+-- What every list of desk calls keeps: the desk is empty, or it holds the text of the last load that returned 0 and has come to a
+-- stage of its check (`kept`). So where an advance answers accepted, the verdict on that text's design is acceptance
+-- (`accepted-verdict`).
+use Prim.Native.Nat.{ℕ, suc, _+_, _≤_, _<_}
+use mathlib.Core.Path.{_≡_, refl, sym, ap, _∙_}
+use mathlib.Core.Logic.{_≢_}
+use mathlib.Core.Bool.{Bool, true, false}
+use mathlib.Core.List.{List, [], _∷_, nil≢cons}
+use native.Mathlib.Omega.{arith}
+use borrow.Author.Tests.{eqb-true, eqb-false, eq-eqb}
+use lib.Dec.{eqb}
+use denote.Ref.{now}
+use Rattle.criteria.specs.Verdict.{accepted}
+use Rattle.decision.specs.Verdict.{verdictOf}
+use Rattle.loader.specs.Load.{faultOf, loadedOf}
+use Rattle.walk.specs.declared.Failure.{Failure}
+use Rattle.checker.specs.declared.Phase.{Phase}
+use Rattle.checker.specs.declared.Phase.the-variants as phase
+use Rattle.checker.specs.declared.Done.{Done}
+use Rattle.checker.specs.declared.Done.the-variants as done
+use Rattle.checker.specs.declared.Advance.the-variants as progress
+use Rattle.checker.specs.declared.Desk.{Desk}
+use Rattle.checker.specs.declared.AfterLoad.{AfterLoad}
+use Rattle.checker.specs.declared.AfterAdvance.{AfterAdvance}
+use Rattle.checker.specs.declared.AfterVerdict.{AfterVerdict}
+use Rattle.checker.specs.declared.AfterDrop.{AfterDrop}
+use Rattle.checker.specs.Desk.{emptyDesk, notLoaded, loadEmpty, loadBy, loadOf, notAdvanced, advanceOpen, advanceBy, advanceOf, tellBy, tellOf, dropBy, dropOf}
+use Rattle.checker.proofs.Opened.{designText, HoldsText}
+use Rattle.checker.proofs.Stages.{Stage, fresh, going, accepts, fails, Advances, advance-fresh, advance-going}
+use Rattle.checker.proofs.Judging.{opened-stage, loaded-free, loaded-fault}
+use Rattle.claims.specs.Calls.{Called, load, advance, verdict, drop, NoLoad, refused, advanced, told, dropped, LastLoad, here, before, AcceptedIn}
+use Rattle.claims.specs.Calls as calls
+use Rattle.claims.proofs.Lists.{Calls, new, then-load, then-advance, then-verdict, then-drop}
+
+-- ---- the last load is one
+
+no-done : {call : Called} {text : List ℕ} → NoLoad call → call ≡ load text done.Done → ⊥
+no-done refused e = let z : _≡_ {A = ℕ} 0 1 = cc in omega arith
+no-done advanced e = let z : _≡_ {A = ℕ} 0 1 = cc in omega arith
+no-done told e = let z : _≡_ {A = ℕ} 0 1 = cc in omega arith
+no-done dropped e = let z : _≡_ {A = ℕ} 0 1 = cc in omega arith
+
+last-same : {cs ds : List Called} {t u : List ℕ} → LastLoad cs t → LastLoad ds u → cs ≡ ds → t ≡ u
+last-same here here e = cc
+last-same {t = t} here (before {call = c} n l) e = let q : c ≡ load t done.Done = cc in absurd (no-done n q)
+last-same {u = u} (before {call = c} n l) here e = let q : c ≡ load u done.Done = cc in absurd (no-done n q)
+last-same (before {calls = cs} n l) (before {calls = ds} m k) e = let q : cs ≡ ds = cc in last-same l k q
+
+pub last-one : {cs : List Called} {t u : List ℕ} → LastLoad cs t → LastLoad cs u → t ≡ u
+last-one l k = last-same l k refl
+
+-- ---- what is kept
+
+pub data Kept (cs : List Called) (d : Desk) : Type 0 where
+  empty : d .phase ≡ phase.Empty → Kept cs d
+  holds : {text : List ℕ} → LastLoad cs text → Stage text d → Kept cs d
+
+-- any call but a done load keeps the last load
+keeps : {cs : List Called} {c : Called} {text : List ℕ} {d : Desk} → NoLoad c → LastLoad cs text → Stage text d → Kept (c ∷ cs) d
+keeps n l s = holds (before n l) s
+
+-- ---- load
+
+pub load-at : (d : Desk) (text : List ℕ) {p : Phase} → d .phase ≡ p → loadOf d text ≡ loadBy p d text
+unfolding loadOf
+load-at d text e = ap (λ p. loadBy p d text) e
+
+load-empty : (cs : List Called) (d : Desk) (text : List ℕ) → d .phase ≡ phase.Empty → (free : Bool) → eqb (faultOf text) 0 ≡ free
+    → Kept (load text (loadEmpty d (loadedOf text) .answer) ∷ cs) (loadEmpty d (loadedOf text) .desk)
+load-empty cs d text e true z = let ok = eqb-true (faultOf text) 0 z in rw (loaded-free d text ok) (holds here (opened-stage text ok))
+load-empty cs d text e false z = rw (loaded-fault d text (eqb-false (faultOf text) 0 z)) (empty e)
+
+load-kept : {cs : List Called} {d : Desk} (text : List ℕ) → Kept cs d → Kept (load text (loadOf d text .answer) ∷ cs) (loadOf d text .desk)
+load-kept {cs} {d} text (empty e) = rw (load-at d text e) (load-empty cs d text e _ refl)
+load-kept {d = d} text (holds l (fresh h e z)) = rw (load-at d text e) (keeps refused l (fresh h e z))
+load-kept {d = d} text (holds l (going h e a b p)) = rw (load-at d text e) (keeps refused l (going h e a b p))
+load-kept {d = d} text (holds l (accepts h e v)) = rw (load-at d text e) (keeps refused l (accepts h e v))
+load-kept {d = d} text (holds l (fails x h e v)) = rw (load-at d text e) (keeps refused l (fails x h e v))
+
+-- ---- advance
+
+pub advance-at : (d : Desk) (n : ℕ) {p : Phase} → d .phase ≡ p → advanceOf d n ≡ advanceBy p d n
+unfolding advanceOf
+advance-at d n e = ap (λ p. advanceBy p d n) e
+
+pub by-none : (d : Desk) (n : ℕ) → n ≡ 0 → advanceOpen d n ≡ notAdvanced 8 d
+unfolding advanceOpen
+by-none d n z = rw (eq-eqb n 0 z)
+
+refused-none : {k j : ℕ} → progress.TurnedDown k ≡ progress.Accepted j → ⊥
+refused-none e = let z : _≡_ {A = ℕ} 0 1 = cc in omega arith
+
+-- what an advance leaves, and that accepted is answered only for an accepted design
+pub record Advanced (text : List ℕ) (r : AfterAdvance) : Type 0 where
+  pub stage : Stage text (r .desk)
+  pub accepted-is : (k : ℕ) → r .answer ≡ progress.Accepted k → verdictOf (designText text) ≡ accepted
+
+stays : (text : List ℕ) (d : Desk) (k : ℕ) → Stage text d → Advanced text (notAdvanced k d)
+stays text d k s = record { stage = s; accepted-is = λ j e. absurd (refused-none e) }
+
+goes : {text : List ℕ} {d : Desk} {n : ℕ} {r : AfterAdvance} → Advances text d n r → Advanced text r
+goes a = record { stage = a .stage; accepted-is = a .accepted-is }
+
+open-by : (text : List ℕ) (d : Desk) (n : ℕ) (none : Bool) → eqb n 0 ≡ none → d .phase ≡ phase.Open → Stage text d
+    → (n ≢ 0 → Advances text d n (advanceOf d n)) → Advanced text (advanceOf d n)
+open-by text d n true z e s go = rw (advance-at d n e, by-none d n (eqb-true n 0 z)) (stays text d 8 s)
+open-by text d n false z e s go = goes (go (eqb-false n 0 z))
+
+pub advance-stage : (text : List ℕ) (d : Desk) (n : ℕ) → Stage text d → Advanced text (advanceOf d n)
+advance-stage text d n (fresh h e z) = open-by text d n _ refl e (fresh h e z) (λ some. advance-fresh text d n some h e z)
+advance-stage text d n (going h e a b p) = open-by text d n _ refl e (going h e a b p) (λ some. advance-going text d n some h e a b p)
+advance-stage text d n (accepts h e v) = rw (advance-at d n e) (stays text d 14 (accepts h e v))
+advance-stage text d n (fails x h e v) = rw (advance-at d n e) (stays text d 14 (fails x h e v))
+
+advance-kept : {cs : List Called} {d : Desk} (n : ℕ) → Kept cs d → Kept (advance n (advanceOf d n .answer) ∷ cs) (advanceOf d n .desk)
+advance-kept {d = d} n (empty e) = rw (advance-at d n e) (empty e)
+advance-kept {d = d} n (holds {text = text} l s) = keeps advanced l (advance-stage text d n s .stage)
+
+-- ---- verdict and drop
+
+pub tell-desk : (d : Desk) (p : Phase) → tellBy p d .desk ≡ d
+tell-desk d phase.Empty = refl
+tell-desk d phase.Open = refl
+tell-desk d phase.Accepted = refl
+tell-desk d (phase.Failed f) = refl
+
+verdict-kept : {cs : List Called} {d : Desk} → Kept cs d → Kept (verdict (tellOf d .answer) ∷ cs) (tellOf d .desk)
+unfolding tellOf
+verdict-kept {d = d} (empty e) = rw (tell-desk d (d .phase)) (empty e)
+verdict-kept {d = d} (holds l s) = rw (tell-desk d (d .phase)) (keeps told l s)
+
+drop-empty : (d : Desk) (p : Phase) → d .phase ≡ p → dropBy p d .desk .phase ≡ phase.Empty
+drop-empty d phase.Empty e = e
+drop-empty d phase.Open e = refl
+drop-empty d phase.Accepted e = refl
+drop-empty d (phase.Failed f) e = refl
+
+drop-kept : {cs : List Called} (d : Desk) → Kept (drop (dropOf d .answer) ∷ cs) (dropOf d .desk)
+unfolding dropOf
+drop-kept d = empty (drop-empty d (d .phase) refl)
+
+-- ---- every list
+
+pub kept : {cs : List Called} {d : Desk} → Calls cs d → Kept cs d
+kept (new e) = empty (ap (λ x. x .phase) e)
+kept (then-load κs text c e) = rw e (load-kept (now text) (kept c))
+kept (then-advance n c e) = rw e (advance-kept n (kept c))
+kept (then-verdict c e) = rw e (verdict-kept (kept c))
+kept (then-drop {d = d} c e) = rw e (drop-kept d)
+
+-- ---- a text accepted in a list
+
+-- the text was loaded without fault, and the verdict on its design is acceptance
+pub record Accepts (text : List ℕ) : Type 0 where
+  pub free : faultOf text ≡ 0
+  pub verdict-is : verdictOf (designText text) ≡ accepted
+
+free-of : {text : List ℕ} {d : Desk} → Stage text d → faultOf text ≡ 0
+free-of (fresh h e z) = h .free
+free-of (going h e a b p) = h .free
+free-of (accepts h e v) = h .free
+free-of (fails x h e v) = h .free
+
+accepted-at : {cs : List Called} {d : Desk} {text : List ℕ} (n k : ℕ) → Kept cs d → LastLoad cs text → advanceOf d n .answer ≡ progress.Accepted k → Accepts text
+accepted-at {d = d} n k (empty e) l a = absurd (refused-none (sym (ap (λ r. r .answer) (advance-at d n e)) ∙ a))
+accepted-at {d = d} n k (holds {text = t} m s) l a =
+    rw (last-one l m) (record { free = free-of s; verdict-is = advance-stage t d n s .accepted-is k a })
+
+-- the tails of two lists
+tail-same : {c e : Called} {cs ds : List Called} → c ∷ cs ≡ e ∷ ds → cs ≡ ds
+tail-same q = cc
+
+not-advance : {c : Called} {n k : ℕ} {cs ds : List Called} → c ∷ cs ≡ advance n (progress.Accepted k) ∷ ds → c ≡ advance n (progress.Accepted k)
+not-advance q = cc
+
+accepted-in : {cs ds : List Called} {d : Desk} {text : List ℕ} → Calls cs d → AcceptedIn ds text → cs ≡ ds → Accepts text
+accepted-in (new e) (calls.here l) q = absurd (nil≢cons q)
+accepted-in (new e) (calls.before a) q = absurd (nil≢cons q)
+accepted-in (then-load κs t c e) (calls.here l) q = let p = not-advance q in let z : _≡_ {A = ℕ} 0 1 = cc in absurd (omega arith)
+accepted-in (then-load κs t c e) (calls.before a) q = accepted-in c a (tail-same q)
+accepted-in (then-advance {r = r} n c e) (calls.here {n = m} {k = k} l) q =
+    let p = not-advance q in
+    let answer : r .answer ≡ progress.Accepted k = cc in
+    accepted-at n k (kept c) (rw (tail-same q) l) (sym (ap (λ x. x .answer) e) ∙ answer)
+accepted-in (then-advance n c e) (calls.before a) q = accepted-in c a (tail-same q)
+accepted-in (then-verdict c e) (calls.here l) q = let p = not-advance q in let z : _≡_ {A = ℕ} 0 1 = cc in absurd (omega arith)
+accepted-in (then-verdict c e) (calls.before a) q = accepted-in c a (tail-same q)
+accepted-in (then-drop c e) (calls.here l) q = let p = not-advance q in let z : _≡_ {A = ℕ} 0 1 = cc in absurd (omega arith)
+accepted-in (then-drop c e) (calls.before a) q = accepted-in c a (tail-same q)
+
+pub accepted-verdict : {cs : List Called} {d : Desk} {text : List ℕ} → Calls cs d → AcceptedIn cs text → Accepts text
+accepted-verdict c a = accepted-in c a refl

@@ -1,0 +1,77 @@
+-- The one-call check, by its own contract: `Checks` is what it ensures of a text, a report buffer, its answer and the buffer after.
+-- What it answers, by the length of the buffer and the text.
+use Prim.Native.Nat.{ℕ, _<_, _≤_}
+use mathlib.Core.Path.{_≡_, refl, sym, ap, _∙_}
+use mathlib.Core.Logic.{_≢_}
+use mathlib.Core.Bool.{Bool, true, false}
+use mathlib.Core.List.{List, _++_}
+use native.Mathlib.Omega.{arith}
+use borrow.Author.Tests.{eq-eqb, ne-eqb, eqb-true, eqb-false, lt-ltb, le-ltb, ltb-true, ltb-false}
+use lib.Dec.{eqb, ltb}
+use lib.ListN.{length, drop}
+use denote.Ref.{RefT, now}
+use contract.Lifetimes.{Lfts}
+use Rattle.writer.specs.Report as bytes
+use Rattle.criteria.specs.Verdict.{Verdict, accepted, failed}
+use Rattle.decision.specs.Verdict.{verdictOf}
+use Rattle.loader.specs.Load.{faultOf}
+use Rattle.checker.specs.OneCall.{refusedReport, designReport, judgedOf, answerOf, bufferAfter}
+use Rattle.checker.proofs.Opened.{designText}
+use Rattle.checker.proofs.check_design.Reads as check-reads
+use Rattle.claims.proofs.Kept.{Accepts}
+
+-- a check of this text with this buffer answers so and leaves the buffer so
+pub data Checks : List ℕ → List ℕ → ℕ → List ℕ → Type 0 where
+  checks : (κs : Lfts 2) (text report after : RefT (List ℕ)) (r : ℕ) → check-reads.Post κs (text, (report, tt)) r (text, (after, tt))
+      → Checks (now text) (now report) r (now after)
+
+-- its contract's two equations
+pub answered : {text report after : List ℕ} {r : ℕ} → Checks text report r after → r ≡ answerOf text report
+answered (checks κs text report after r p) = p .0
+
+pub written : {text report after : List ℕ} {r : ℕ} → Checks text report r after → after ≡ bufferAfter text report
+written (checks κs text report after r p) = p .1
+
+module _ (text report : List ℕ) where
+  pub short-answer : length report < 31 → answerOf text report ≡ 9
+  unfolding answerOf
+  short-answer l = rw (lt-ltb (length report) 31 l)
+
+  pub short-buffer : length report < 31 → bufferAfter text report ≡ report
+  unfolding bufferAfter
+  short-buffer l = rw (lt-ltb (length report) 31 l)
+
+  pub long-answer : 31 ≤ length report → answerOf text report ≡ judgedOf text .verdict
+  unfolding answerOf
+  long-answer l = rw (le-ltb (length report) 31 l)
+
+  pub long-buffer : 31 ≤ length report → bufferAfter text report ≡ bytes.reportOf (judgedOf text) ++ drop 31 report
+  unfolding bufferAfter
+  long-buffer l = rw (le-ltb (length report) 31 l)
+
+module _ (text : List ℕ) where
+  pub judged-free : faultOf text ≡ 0 → judgedOf text ≡ designReport (verdictOf (designText text))
+  unfolding judgedOf
+  judged-free e = rw (eq-eqb (faultOf text) 0 e)
+
+  pub judged-fault : faultOf text ≢ 0 → judgedOf text ≡ refusedReport (faultOf text)
+  unfolding judgedOf
+  judged-fault e = rw (ne-eqb (faultOf text) 0 e)
+
+  -- 0 is answered only for an accepted design
+  judged-by : (free : Bool) → eqb (faultOf text) 0 ≡ free → judgedOf text .verdict ≡ 0 → Accepts text
+  judged-by true e z = let ok = eqb-true (faultOf text) 0 e in record { free = ok; verdict-is = by-verdict (verdictOf (designText text)) (ap (λ r. r .verdict) (sym (judged-free ok)) ∙ z) }
+    where
+      by-verdict : (v : Verdict) → designReport v .verdict ≡ 0 → v ≡ accepted
+      by-verdict accepted _ = refl
+      by-verdict (failed x) q = absurd (omega arith)
+  judged-by false e z =
+      let q : _≡_ {A = ℕ} 2 0 = ap (λ r. r .verdict) (sym (judged-fault (eqb-false (faultOf text) 0 e))) ∙ z in
+      absurd (omega arith)
+
+  answer-by : (report : List ℕ) (short : Bool) → ltb (length report) 31 ≡ short → answerOf text report ≡ 0 → Accepts text
+  answer-by report true e z = let q : _≡_ {A = ℕ} 9 0 = sym (short-answer text report (ltb-true (length report) 31 e)) ∙ z in absurd (omega arith)
+  answer-by report false e z = judged-by _ refl (sym (long-answer text report (ltb-false (length report) 31 e)) ∙ z)
+
+pub check-accepts : {text report after : List ℕ} → Checks text report 0 after → Accepts text
+check-accepts {text} {report} c = answer-by text report _ refl (sym (answered c))

@@ -1,0 +1,228 @@
+-- Where a load and advances have come (`reached`): how many states were examined, that the last one is reached once the advances
+-- add up to it, and that accepted was answered if the desk is so.
+use Prim.Native.Nat.{ℕ, _+_, _≤_, _<_, min}
+use mathlib.Core.Path.{_≡_, refl, sym, ap, _∙_}
+use mathlib.Core.Logic.{_≢_, _⊎_, inl, inr}
+use mathlib.Core.Bool.{Bool, true, false}
+use mathlib.Core.List.{List, [], _∷_, nil≢cons}
+use native.Mathlib.Omega.{arith}
+use borrow.Author.Tests.{eqb-true, eqb-false}
+use lib.Dec.{eqb}
+use denote.Ref.{now}
+use Rattle.foundation.specs.Walk.{walk}
+use Rattle.terms.specs.Tree.{pick}
+use Rattle.criteria.specs.Design.{Design, states}
+use Rattle.decision.specs.Tests.{holds1}
+use Rattle.decision.specs.Examine.{examine}
+use Rattle.reader.specs.Text.{fieldsByLine}
+use Rattle.loader.specs.Load.{faultOf, heldBy, loadedOf}
+use Rattle.checker.specs.declared.Phase.{Phase}
+use Rattle.checker.specs.declared.Phase.the-variants as phase
+use Rattle.checker.specs.declared.Done.{Done}
+use Rattle.checker.specs.declared.Done.the-variants as done
+use Rattle.checker.specs.declared.Advance.the-variants as progress
+use Rattle.checker.specs.declared.Desk.{Desk}
+use Rattle.checker.specs.declared.AfterLoad.{AfterLoad}
+use Rattle.checker.specs.declared.AfterAdvance.{AfterAdvance}
+use Rattle.checker.specs.declared.AfterVerdict.{AfterVerdict}
+use Rattle.checker.specs.declared.AfterDrop.{AfterDrop}
+use Rattle.checker.specs.Count.{countSaid, examined}
+use Rattle.checker.specs.Desk.{emptyDesk, opened, loadEmpty, loadBy, loadOf, notAdvanced, advanceOf, tellOf, dropOf}
+use Rattle.checker.proofs.Opened.{designText, HoldsText}
+use Rattle.checker.proofs.Stages.{Stage, fresh, going, accepts, fails, Advances, advance-fresh, advance-going, some-states}
+use Rattle.checker.proofs.Judging.{opened-stage, loaded-free, loaded-fault}
+use Rattle.claims.specs.Calls.{Called, load, advance, verdict, drop, NoLoad, LastLoad, here, before, AcceptedIn, Walked}
+use Rattle.claims.specs.Calls as calls
+use Rattle.claims.proofs.Lists.{Calls, new, then-load, then-advance, then-verdict, then-drop}
+use Rattle.claims.proofs.Kept.{Kept, empty, holds, kept, load-at, advance-at, by-none, tell-desk}
+
+-- after advances by m in all, whose answers counted k
+pub record Reached (cs : List Called) (text : List ℕ) (d : Desk) (m k : ℕ) : Type 0 where
+  pub last : LastLoad cs text
+  pub stage : Stage text d
+  pub at : d .phase ≡ phase.Open → m ≡ d .next
+  pub counts : k ≡ examined (designText text) m
+  pub rests : d .phase ≢ phase.Open → (j : ℕ) → examined (designText text) (m + j) ≡ examined (designText text) m
+  pub accepted-in : d .phase ≡ phase.Accepted → AcceptedIn cs text
+
+-- ---- the phases of a stage
+
+opens-not : {p : Phase} {f : _} → p ≡ phase.Failed f → p ≡ phase.Open → ⊥
+opens-not a b = let z : _≡_ {A = ℕ} 0 1 = cc in omega arith
+
+accepts-not : {p : Phase} → p ≡ phase.Accepted → p ≡ phase.Open → ⊥
+accepts-not a b = let z : _≡_ {A = ℕ} 0 1 = cc in omega arith
+
+-- ---- a load that is done
+
+load-done : {cs : List Called} {d : Desk} (text : List ℕ) → Kept cs d → loadOf d text .answer ≡ done.Done
+    → (faultOf text ≡ 0) × (loadOf d text .desk ≡ opened (heldBy (fieldsByLine text)))
+load-done {d = d} text (empty e) a = go _ refl
+  where
+    done-empty : loadEmpty d (loadedOf text) .answer ≡ done.Done
+    done-empty = ap (λ r. r .answer) (sym (load-at d text e)) ∙ a
+
+    go : (free : Bool) → eqb (faultOf text) 0 ≡ free → (faultOf text ≡ 0) × (loadOf d text .desk ≡ opened (heldBy (fieldsByLine text)))
+    go true z = let ok = eqb-true (faultOf text) 0 z in (ok, ap (λ r. r .desk) (load-at d text e ∙ loaded-free d text ok))
+    go false z =
+        let q : done.TurnedDown (faultOf text) ≡ done.Done = ap (λ r. r .answer) (sym (loaded-fault d text (eqb-false (faultOf text) 0 z))) ∙ done-empty in
+        let w : _≡_ {A = ℕ} 0 1 = cc in
+        absurd (omega arith)
+load-done {d = d} text (holds l (fresh h e z)) a =
+    let q : done.TurnedDown 12 ≡ done.Done = ap (λ r. r .answer) (sym (load-at d text e)) ∙ a in
+    let w : _≡_ {A = ℕ} 0 1 = cc in
+    absurd (omega arith)
+load-done {d = d} text (holds l (going h e u v p)) a =
+    let q : done.TurnedDown 12 ≡ done.Done = ap (λ r. r .answer) (sym (load-at d text e)) ∙ a in
+    let w : _≡_ {A = ℕ} 0 1 = cc in
+    absurd (omega arith)
+load-done {d = d} text (holds l (accepts h e v)) a =
+    let q : done.TurnedDown 12 ≡ done.Done = ap (λ r. r .answer) (sym (load-at d text e)) ∙ a in
+    let w : _≡_ {A = ℕ} 0 1 = cc in
+    absurd (omega arith)
+load-done {d = d} text (holds l (fails x h e v)) a =
+    let q : done.TurnedDown 12 ≡ done.Done = ap (λ r. r .answer) (sym (load-at d text e)) ∙ a in
+    let w : _≡_ {A = ℕ} 0 1 = cc in
+    absurd (omega arith)
+
+none-yet : (d : Design) → examined d 0 ≡ 0
+unfolding examined walk
+none-yet d = let e : min 0 (states d) ≡ 0 = omega arith in rw e (either (holds1 d))
+  where
+    either : (b : Bool) → _≡_ {A = ℕ} (pick b 0 0) 0
+    either true = refl
+    either false = refl
+
+loaded-reached : (cs : List Called) (text : List ℕ) (d : Desk) → faultOf text ≡ 0 → d ≡ opened (heldBy (fieldsByLine text)) → Reached (load text done.Done ∷ cs) text d 0 0
+loaded-reached cs text d ok e =
+    rw e (record {
+      last = here;
+      stage = opened-stage text ok;
+      at = λ _. refl;
+      counts = sym (none-yet (designText text));
+      rests = λ o. absurd (o refl);
+      accepted-in = λ o. absurd (accepts-not o refl);
+    })
+
+-- ---- a call that leaves the desk
+
+unmoved : {cs : List Called} {text : List ℕ} {d : Desk} {m k : ℕ} (c : Called) (n : ℕ) → NoLoad c → Reached cs text d m k → (n ≡ 0) ⊎ (d .phase ≢ phase.Open)
+    → Reached (c ∷ cs) text d (m + n) (k + 0)
+unmoved {text = text} {d = d} {m = m} {k = k} c n quiet r (inl z) =
+    let e : m + n ≡ m = omega arith in
+    let f : k + 0 ≡ k = omega arith in
+    rw (e, f) (record { last = before quiet (r .last); stage = r .stage; at = r .at; counts = r .counts; rests = r .rests; accepted-in = λ o. calls.before (r .accepted-in o) })
+unmoved {text = text} {d = d} {m = m} {k = k} c n quiet r (inr o) =
+    let f : k + 0 ≡ k = omega arith in
+    record {
+      last = before quiet (r .last);
+      stage = r .stage;
+      at = λ p. absurd (o p);
+      counts = f ∙ r .counts ∙ sym (r .rests o n);
+      rests = λ p j. let e : m + n + j ≡ m + (n + j) = omega arith in rw e (r .rests o (n + j) ∙ sym (r .rests o n));
+      accepted-in = λ p. calls.before (r .accepted-in p);
+    }
+
+same : {cs : List Called} {text : List ℕ} {d : Desk} {m k : ℕ} (c : Called) → NoLoad c → Reached cs text d m k → Reached (c ∷ cs) text d m k
+same c quiet r =
+    record { last = before quiet (r .last); stage = r .stage; at = r .at; counts = r .counts; rests = r .rests; accepted-in = λ o. calls.before (r .accepted-in o) }
+
+tells : {cs : List Called} {text : List ℕ} (d : Desk) {m k : ℕ} → Reached cs text d m k → Reached (verdict (tellOf d .answer) ∷ cs) text (tellOf d .desk) m k
+unfolding tellOf
+tells d r = rw (tell-desk d (d .phase)) (same _ calls.told r)
+
+-- ---- an advance
+
+moves : {cs : List Called} {text : List ℕ} {d : Desk} {m k n : ℕ} {r : AfterAdvance} → Reached cs text d m k → d .phase ≡ phase.Open → Advances text d n r
+    → Reached (advance n (r .answer) ∷ cs) text (r .desk) (m + n) (k + countSaid (r .answer))
+moves {cs} {text} {d} {m} {k} {n} {r} q e a =
+    let there : m ≡ d .next = q .at e in
+    record {
+      last = before calls.advanced (q .last);
+      stage = a .stage;
+      at = λ o. let s = a .opens o in omega arith;
+      counts = rw (q .counts, there) (a .counts);
+      rests = λ o j. rw there (a .rests o j);
+      accepted-in = λ o. let s = a .says-accepted o in rw (s .1) (calls.here (q .last));
+    }
+
+module _ {cs : List Called} {text : List ℕ} {d : Desk} {m k : ℕ} (n : ℕ) (q : Reached cs text d m k) where
+  advance-open : (none : Bool) → eqb n 0 ≡ none → d .phase ≡ phase.Open → (n ≢ 0 → Advances text d n (advanceOf d n))
+      → Reached (advance n (advanceOf d n .answer) ∷ cs) text (advanceOf d n .desk) (m + n) (k + countSaid (advanceOf d n .answer))
+  advance-open true z e go =
+      let none = eqb-true n 0 z in
+      rw (advance-at d n e, by-none d n none) (unmoved (advance n (progress.TurnedDown 8)) n calls.advanced q (inl none))
+  advance-open false z e go = moves q e (go (eqb-false n 0 z))
+
+  advance-reached : Stage text d → Reached (advance n (advanceOf d n .answer) ∷ cs) text (advanceOf d n .desk) (m + n) (k + countSaid (advanceOf d n .answer))
+  advance-reached (fresh h e z) = advance-open _ refl e (λ some. advance-fresh text d n some h e z)
+  advance-reached (going h e a b p) = advance-open _ refl e (λ some. advance-going text d n some h e a b p)
+  advance-reached (accepts h e v) =
+      rw (advance-at d n e) (unmoved (advance n (progress.TurnedDown 14)) n calls.advanced q (inr (accepts-not e)))
+  advance-reached (fails x h e v) =
+      rw (advance-at d n e) (unmoved (advance n (progress.TurnedDown 14)) n calls.advanced q (inr (opens-not e)))
+
+  -- a load there is refused
+  load-stays : (other : List ℕ) → Stage text d → loadOf d other .desk ≡ d
+  load-stays other (fresh h e z) = ap (λ r. r .desk) (load-at d other e)
+  load-stays other (going h e a b p) = ap (λ r. r .desk) (load-at d other e)
+  load-stays other (accepts h e v) = ap (λ r. r .desk) (load-at d other e)
+  load-stays other (fails x h e v) = ap (λ r. r .desk) (load-at d other e)
+
+-- ---- every list
+
+tail-same : {c e : Called} {cs ds : List Called} → c ∷ cs ≡ e ∷ ds → cs ≡ ds
+tail-same q = cc
+
+head-same : {c e : Called} {cs ds : List Called} → c ∷ cs ≡ e ∷ ds → c ≡ e
+head-same q = cc
+
+reached-in : {cs ds : List Called} {d : Desk} {text : List ℕ} {m k : ℕ} → Calls cs d → Walked ds text m k → cs ≡ ds → Reached cs text d m k
+reached-in (new e) calls.loaded q = absurd (nil≢cons q)
+reached-in (new e) (calls.on w) q = absurd (nil≢cons q)
+reached-in (new e) (calls.told w) q = absurd (nil≢cons q)
+reached-in (new e) (calls.refused w) q = absurd (nil≢cons q)
+reached-in {text = text} (then-load {d = d} {r = r} κs t c e) calls.loaded q =
+    let p = head-same q in
+    let same-text : now t ≡ text = cc in
+    let answered : r .answer ≡ done.Done = cc in
+    let l = load-done (now t) (kept c) (ap (λ x. x .answer) (sym e) ∙ answered) in
+    rw (← same-text, answered) (loaded-reached _ (now t) (r .desk) (l .0) (ap (λ x. x .desk) e ∙ l .1))
+reached-in (then-load κs t c e) (calls.on w) q = let p = head-same q in let z : _≡_ {A = ℕ} 0 1 = cc in absurd (omega arith)
+reached-in (then-load κs t c e) (calls.told w) q = let p = head-same q in let z : _≡_ {A = ℕ} 0 1 = cc in absurd (omega arith)
+reached-in (then-load {d = d} {r = r} κs t c e) (calls.refused {j = j} w) q =
+    let p = head-same q in
+    let answered : r .answer ≡ done.TurnedDown j = cc in
+    let ih = reached-in c w (tail-same q) in
+    let stays : r .desk ≡ d = ap (λ x. x .desk) e ∙ load-stays 0 ih (now t) (ih .stage) in
+    rw (stays, answered) (same (load (now t) (done.TurnedDown j)) calls.refused ih)
+reached-in (then-advance n c e) calls.loaded q = let p = head-same q in let z : _≡_ {A = ℕ} 0 1 = cc in absurd (omega arith)
+reached-in (then-advance {r = r} n c e) (calls.on {n = i} {a = a} w) q =
+    let p = head-same q in
+    let many : i ≡ n = cc in
+    let answered : a ≡ r .answer = cc in
+    let ih = reached-in c w (tail-same q) in
+    rw (many, answered, e) (advance-reached n ih (ih .stage))
+reached-in (then-advance n c e) (calls.told w) q = let p = head-same q in let z : _≡_ {A = ℕ} 0 1 = cc in absurd (omega arith)
+reached-in (then-advance n c e) (calls.refused w) q = let p = head-same q in let z : _≡_ {A = ℕ} 0 1 = cc in absurd (omega arith)
+reached-in (then-verdict c e) calls.loaded q = let p = head-same q in let z : _≡_ {A = ℕ} 0 1 = cc in absurd (omega arith)
+reached-in (then-verdict c e) (calls.on w) q = let p = head-same q in let z : _≡_ {A = ℕ} 0 1 = cc in absurd (omega arith)
+reached-in (then-verdict {d = d} c e) (calls.told w) q = rw e (tells d (reached-in c w (tail-same q)))
+reached-in (then-verdict c e) (calls.refused w) q = let p = head-same q in let z : _≡_ {A = ℕ} 0 1 = cc in absurd (omega arith)
+reached-in (then-drop c e) calls.loaded q = let p = head-same q in let z : _≡_ {A = ℕ} 0 1 = cc in absurd (omega arith)
+reached-in (then-drop c e) (calls.on w) q = let p = head-same q in let z : _≡_ {A = ℕ} 0 1 = cc in absurd (omega arith)
+reached-in (then-drop c e) (calls.told w) q = let p = head-same q in let z : _≡_ {A = ℕ} 0 1 = cc in absurd (omega arith)
+reached-in (then-drop c e) (calls.refused w) q = let p = head-same q in let z : _≡_ {A = ℕ} 0 1 = cc in absurd (omega arith)
+
+pub reached : {cs : List Called} {d : Desk} {text : List ℕ} {m k : ℕ} → Calls cs d → Walked cs text m k → Reached cs text d m k
+reached c w = reached-in c w refl
+
+-- once the advances add up to the states, the check is decided
+pub decided : {cs : List Called} {text : List ℕ} {d : Desk} {m k : ℕ} → Reached cs text d m k → states (designText text) ≤ m → d .phase ≢ phase.Open
+decided {text = text} {d = d} {m = m} r l o = by-stage (r .stage)
+  where
+    by-stage : Stage text d → ⊥
+    by-stage (fresh h e z) = let a = r .at e in let s = some-states text d h in omega arith
+    by-stage (going h e a b p) = let a = r .at e in omega arith
+    by-stage (accepts h e v) = accepts-not e o
+    by-stage (fails x h e v) = opens-not e o

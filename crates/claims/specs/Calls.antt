@@ -1,0 +1,43 @@
+-- Lists of desk calls (01, "What demand 3 speaks of"): "any operations that take the desk and give it back (load, advance, verdict,
+-- drop), with any arguments and in any order, those turned down included". A list is given by its calls with their answers, the
+-- latest first. How a desk is handed from call to call is in proofs/Lists, by the contracts of the methods themselves.
+use Prim.Native.Nat.{ℕ, _+_}
+use mathlib.Core.List.{List, [], _∷_}
+use Rattle.checker.specs.declared.Done.{Done}
+use Rattle.checker.specs.declared.Done.the-variants as done
+use Rattle.checker.specs.declared.Advance.{Advance}
+use Rattle.checker.specs.declared.Advance.the-variants as progress
+use Rattle.checker.specs.declared.Verdict.{Verdict}
+use Rattle.checker.specs.Count.{countSaid}
+
+-- a call with its argument, and its answer
+pub data Called : Type 0 where
+  load : List ℕ → Done → Called
+  advance : ℕ → Advance → Called
+  verdict : Verdict → Called
+  drop : Done → Called
+
+-- anything but a load that returned 0
+pub data NoLoad : Called → Type 0 where
+  refused : {text : List ℕ} {k : ℕ} → NoLoad (load text (done.TurnedDown k))
+  advanced : {n : ℕ} {a : Advance} → NoLoad (advance n a)
+  told : {v : Verdict} → NoLoad (verdict v)
+  dropped : {a : Done} → NoLoad (drop a)
+
+-- the text "of the last load .. that returned 0"
+pub data LastLoad : List Called → List ℕ → Type 0 where
+  here : {text : List ℕ} {calls : List Called} → LastLoad (load text done.Done ∷ calls) text
+  before : {call : Called} {calls : List Called} {text : List ℕ} → NoLoad call → LastLoad calls text → LastLoad (call ∷ calls) text
+
+-- "A text is accepted in the list where an advance answers accepted and the text, as it stood when it was loaded, is that of the
+-- last load before it that returned 0."
+pub data AcceptedIn : List Called → List ℕ → Type 0 where
+  here : {n k : ℕ} {calls : List Called} {text : List ℕ} → LastLoad calls text → AcceptedIn (advance n (progress.Accepted k) ∷ calls) text
+  before : {call : Called} {calls : List Called} {text : List ℕ} → AcceptedIn calls text → AcceptedIn (call ∷ calls) text
+
+-- "load and then advances": by m states in all, and the answers counted k. Verdicts and refused loads may stand between them.
+pub data Walked : List Called → List ℕ → ℕ → ℕ → Type 0 where
+  loaded : {text : List ℕ} {calls : List Called} → Walked (load text done.Done ∷ calls) text 0 0
+  on : {calls : List Called} {text : List ℕ} {m k n : ℕ} {a : Advance} → Walked calls text m k → Walked (advance n a ∷ calls) text (m + n) (k + countSaid a)
+  told : {calls : List Called} {text : List ℕ} {m k : ℕ} {v : Verdict} → Walked calls text m k → Walked (verdict v ∷ calls) text m k
+  refused : {calls : List Called} {text other : List ℕ} {m k j : ℕ} → Walked calls text m k → Walked (load other (done.TurnedDown j) ∷ calls) text m k
