@@ -31,7 +31,8 @@ use Rattle.checker.specs.declared.Advance.{Advance}
 use Rattle.checker.specs.declared.Advance.the-variants as advance
 use Rattle.checker.specs.declared.Desk.{Desk}
 use Rattle.checker.specs.declared.AfterAdvance.{AfterAdvance}
-use Rattle.checker.specs.Count.{countSaid, examined}
+use Rattle.checker.specs.Answers.{countSaid}
+use Rattle.checker.specs.Count.{examined}
 use Rattle.checker.specs.Desk.{placed, ahead, failStart, afterPass, afterWalk, walkOn, examineNext, advanceOpen, advanceBy, advanceOf}
 use Rattle.checker.proofs.Opened.{designText, HoldsText, few, start-is, total-is, initial-is, walk-is}
 

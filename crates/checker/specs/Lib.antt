@@ -1,4 +1,5 @@
 pub mod Said
 pub mod Desk
 pub mod OneCall
+pub mod Answers
 pub mod Count

@@ -29,6 +29,7 @@ use Rattle.checker.specs.declared.AfterAdvance.{AfterAdvance}
 use Rattle.checker.specs.declared.AfterVerdict.{AfterVerdict}
 use Rattle.checker.specs.declared.AfterDrop.{AfterDrop}
 use Rattle.checker.specs.Desk.{emptyDesk, notLoaded, notAdvanced, loadOf, advanceOf, tellBy, tellOf, dropBy, dropOf}
+use Rattle.checker.specs.Answers.{doneNumber}
 use Rattle.checker.specs.OneCall.{refusedReport}
 use Rattle.checker.proofs.Opened.{designText, HoldsText}
 use Rattle.checker.proofs.Stages.{Stage}
@@ -71,7 +72,7 @@ pub record Refusals (desk : Desk) : Type 0 where
   pub verdict-open : {r : AfterVerdict} → Tells desk r → desk .phase ≡ phase.Open → r ≡ record { answer = verdict.TurnedDown 13; desk = desk }
   -- 14. "Advance when decided."
   pub advance-decided : (n : ℕ) {r : AfterAdvance} → Advances desk n r → desk .phase ≢ phase.Empty → desk .phase ≢ phase.Open → r ≡ notAdvanced 14 desk
-  -- 8. "Advance by 0 states."
+  -- "before the input's": 8. "Advance by 0 states." is given on an open desk
   pub advance-none : {r : AfterAdvance} → Advances desk 0 r → desk .phase ≡ phase.Open → r ≡ notAdvanced 8 desk
 
 -- ---- the parts
@@ -112,6 +113,7 @@ module _ (d : Desk) where
 
 -- a load that is done: the desk is open, at state 0, and holds the text's lines
 pub record Opens (text : List ℕ) (r : AfterLoad) : Type 0 where
+  pub number-is : doneNumber (r .answer) ≡ 0
   pub answer-is : r .answer ≡ done.Done
   pub opens : r .desk .phase ≡ phase.Open
   pub at-first : r .desk .next ≡ 0
@@ -140,7 +142,7 @@ opened-by : {d : Desk} {text : List ℕ} {r : AfterLoad} → DesignText text →
 opened-by {d} {text} t p e =
     let free = free-exactly text .1 t in
     rw (loaded-as p ∙ load-at d text e ∙ loaded-free d text free)
-    (record { answer-is = refl; opens = refl; at-first = refl; holds = record { free = free; fields-are = refl; starts-are = refl; counts-are = refl } })
+    (record { number-is = refl; answer-is = refl; opens = refl; at-first = refl; holds = record { free = free; fields-are = refl; starts-are = refl; counts-are = refl } })
 
 turned-by : (d : Desk) (text : List ℕ) → faultOf text ≢ 0 → TurnsDown d text
 turned-by d text z =

@@ -26,7 +26,8 @@ use Rattle.checker.specs.declared.AfterLoad.{AfterLoad}
 use Rattle.checker.specs.declared.AfterAdvance.{AfterAdvance}
 use Rattle.checker.specs.declared.AfterVerdict.{AfterVerdict}
 use Rattle.checker.specs.declared.AfterDrop.{AfterDrop}
-use Rattle.checker.specs.Count.{countSaid, examined}
+use Rattle.checker.specs.Answers.{countSaid}
+use Rattle.checker.specs.Count.{examined}
 use Rattle.checker.specs.Desk.{emptyDesk, opened, loadEmpty, loadBy, loadOf, notAdvanced, advanceOf, tellOf, dropOf}
 use Rattle.checker.proofs.Opened.{designText, HoldsText}
 use Rattle.checker.proofs.Stages.{Stage, fresh, going, accepts, fails, Advances, advance-fresh, advance-going, some-states}

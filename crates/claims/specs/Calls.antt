@@ -8,7 +8,7 @@ use Rattle.checker.specs.declared.Done.the-variants as done
 use Rattle.checker.specs.declared.Advance.{Advance}
 use Rattle.checker.specs.declared.Advance.the-variants as progress
 use Rattle.checker.specs.declared.Verdict.{Verdict}
-use Rattle.checker.specs.Count.{countSaid}
+use Rattle.checker.specs.Answers.{countSaid}
 
 -- a call with its argument, and its answer
 pub data Called : Type 0 where
