@@ -101,10 +101,12 @@ module _ (d : Design) where
       ++ (ofKind k (map (rowLine 4) ss)
       ++ ofKind k (lastLines d))))
   parts k =
-      rw (of-append k (map (parameterLine 1) ps) (map (parameterLine 2) qs ++ (map (rowLine 3) rs ++ (map (rowLine 4) ss ++ lastLines d))),
+      rw (
+        of-append k (map (parameterLine 1) ps) (map (parameterLine 2) qs ++ (map (rowLine 3) rs ++ (map (rowLine 4) ss ++ lastLines d))),
         of-append k (map (parameterLine 2) qs) (map (rowLine 3) rs ++ (map (rowLine 4) ss ++ lastLines d)),
         of-append k (map (rowLine 3) rs) (map (rowLine 4) ss ++ lastLines d),
-        of-append k (map (rowLine 4) ss) (lastLines d))
+        of-append k (map (rowLine 4) ss) (lastLines d),
+      )
 
   of-1 : ofKind 1 (printLines d) ≡ map (parameterLine 1) ps
   unfolding ofKind
@@ -153,6 +155,22 @@ module _ (d : Design) where
     pub printed : designOf (printLines d) ≡ d
     unfolding designOf
     printed =
-        rw (of-1, of-2, of-3, of-4, the-5, the-6, the-7, length-map (parameterLine 1) ps, length-map (parameterLine 2) qs, parameters-back 1 ps, parameters-back 2 qs,
-          rows-back 3 (length ps) rs (p .impl-rows), rows-back 4 (length qs) ss (p .spec-rows), formula-alone (length ps) (d .invariant) (p .invariant),
-          value-alone (length ps) (d .measure) (p .measure), ← p .all-mapped, values-back (length ps) false (d .mapping) (p .mapping))
+        rw (
+          of-1,
+          of-2,
+          of-3,
+          of-4,
+          the-5,
+          the-6,
+          the-7,
+          length-map (parameterLine 1) ps,
+          length-map (parameterLine 2) qs,
+          parameters-back 1 ps,
+          parameters-back 2 qs,
+          rows-back 3 (length ps) rs (p .impl-rows),
+          rows-back 4 (length qs) ss (p .spec-rows),
+          formula-alone (length ps) (d .invariant) (p .invariant),
+          value-alone (length ps) (d .measure) (p .measure),
+          ← p .all-mapped,
+          values-back (length ps) false (d .mapping) (p .mapping),
+        )
