@@ -6,3 +6,4 @@ pub mod Among
 pub mod Demand3
 pub mod Demand1
 pub mod Demand2
+pub mod Pump

@@ -4,3 +4,4 @@ pub mod Fault5
 pub mod Loaded
 pub mod Terms
 pub mod Same
+pub mod Printed

@@ -3,3 +3,4 @@ pub mod Lines
 pub mod Faults
 pub mod Tests
 pub mod Loaded
+pub mod Print
