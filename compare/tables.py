@@ -115,7 +115,7 @@ def bad_columns():
 def many_fields():
     for n in (255, 256, 257, 258):
         put("t3_line_%d_invariant" % n, changed(PUMP, 9, [5] + wide_formula(n - 1)))
-        put("t3_line_%d_row" % n, changed(PUMP, 4, [3, 1, 4] + wide_formula(n - 8) + [2, 0, 1, 2]))
+        put("t3_line_%d_row" % n, changed(PUMP, 4, [3, 1, 4] + wide_formula(n - 7) + [2, 0, 1, 2]))
         put("t3_line_%d_first" % n, [[1] * n] + PUMP[1:])
         put("t3_line_%d_last" % n, PUMP[:-1] + [[7, 0] + [0] * (n - 2)])
     for total in (4095, 4096, 4097):
