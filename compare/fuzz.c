@@ -244,7 +244,13 @@ static void damage(struct text *t) {
     case 0: splice(t, at, 1, "", 0); break;
     case 1: splice(t, at, 0, &byte, 1); break;
     case 2: t->len = at; break;
-    case 3: splice(t, at, 0, t->bytes, t->len - rnd(t->len + 1)); break;
+    case 3: {
+        uint8_t start[ROOM];
+        size_t n = t->len - rnd(t->len + 1);
+        memcpy(start, t->bytes, n);
+        splice(t, at, 0, start, n);
+        break;
+    }
     default: splice(t, at, 1, &byte, 1);
     }
 }
