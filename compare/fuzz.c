@@ -312,6 +312,8 @@ static void make(const char *dir, int count, int tables, char **names) {
         }
     }
     if (fclose(checks) || fclose(desk) || fclose(calls)) fail("cannot write", dir);
+    free(pool);
+    free(t);
 }
 
 // The comparison.
