@@ -1,0 +1,84 @@
+#!/usr/bin/env bash
+# Compares the checker with the stored reports of compare/reports.tsv: each table by check_table, and by desk_calls in five divisions of
+# its states, every answer of every call. Ends with 1 at the first difference. compare/remake.sh makes the stored reports.
+set -euo pipefail
+cd "$(dirname "$0")/.."
+divisions="1 5 7 1000 18446744073709551615"
+# A table of more states than these is not walked state by state.
+most_calls=5000
+
+work=$(mktemp -d)
+trap 'rm -rf "$work"' EXIT
+rt check check_table desk_calls > "$work/log" 2>&1 || { tail -n 20 "$work/log"; exit 1; }
+
+# The one-call check.
+count=0
+while IFS=$'\t' read -r name report; do
+    got=$(target/bin/check_table < "compare/tables/$name.txt" | od -An -c)
+    want=$(printf '%s\n' "$report" | od -An -c)
+    if [ "$got" != "$want" ]; then
+        echo "compare: $name: check_table writes$got"
+        echo "compare: $name: the report is$want"
+        exit 1
+    fi
+    count=$((count + 1))
+done < compare/reports.tsv
+tables=$(ls compare/tables | wc -l)
+[ "$count" = "$tables" ] || { echo "compare: $tables tables, but $count reports"; exit 1; }
+
+# A line for each list of calls: table, bytes, n, how many advances, how many states are examined, and the report.
+join -t "$(printf '\t')" \
+    <(cd compare/tables; wc -c ./*.txt | awk '$2 != "total" { sub("^./", "", $2); sub(".txt$", "", $2); print $2 "\t" $1 }' | LC_ALL=C sort) \
+    <(LC_ALL=C sort compare/reports.tsv) |
+    LC_ALL=C awk -F '\t' -v divisions="$divisions" -v most="$most_calls" '
+        function states(name,    file, line, product) {
+            file = "compare/tables/" name ".txt"
+            product = 1
+            while ((getline line < file) > 0 && substr(line, 1, 6) == "     1") product *= substr(line, 7, 6)
+            close(file)
+            return product
+        }
+        {
+            split($3, r, " ")
+            examined = r[1] == 2 || (r[1] == 1 && r[2] == 1) ? 0 : r[1] == 1 ? r[3] + 1 : states($1)
+            k = split(divisions, n, " ")
+            for (i = 1; i <= k; i++) {
+                calls = examined / n[i]
+                calls = calls == int(calls) ? calls : int(calls) + 1
+                if (calls <= most) print $1, $2, n[i], (calls > 1 ? calls : 1) + 1, examined, r[1], r[2], r[3], r[4], r[5]
+            }
+        }' > "$work/plan"
+
+# The lists of calls as one, and the answers that are due.
+while read -r name bytes n calls _; do
+    printf 'load %s\n' "$bytes"
+    cat "compare/tables/$name.txt"
+    printf '\n'
+    while [ "$calls" -gt 0 ]; do
+        printf 'advance %s\n' "$n"
+        calls=$((calls - 1))
+    done
+    printf 'verdict\ndrop\n'
+done < "$work/plan" | target/bin/desk_calls > "$work/answers"
+awk '
+    function due(words) { print words "\t" $1 " by " $3 }
+    $6 == 2 { due("turned down " $7); for (i = 0; i < $4 + 2; i++) due("turned down 11"); next }
+    {
+        due("load 0")
+        left = $5
+        decided = 0
+        for (i = 0; i < $4; i++) {
+            if (decided) { due("turned down 14"); continue }
+            decided = left <= $3 + 0
+            here = decided ? left : $3
+            left -= here
+            due((!decided ? "open" : $6 == 0 ? "accepted" : "failed") " " here)
+        }
+        due("verdict " $6 " " $7 " " $8 " " $9 " " $10)
+        due("drop 0")
+    }' "$work/plan" > "$work/due"
+if ! cut -f 1 "$work/due" | cmp -s - "$work/answers"; then
+    paste "$work/due" "$work/answers" | awk -F '\t' '$1 != $3 { print "compare: " $2 ": \"" $1 "\" is due, desk_calls writes \"" $3 "\""; exit }'
+    exit 1
+fi
+echo "compare: $count tables, $(wc -l < "$work/plan") lists of desk calls with $(wc -l < "$work/answers") answers: no difference"

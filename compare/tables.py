@@ -1,0 +1,425 @@
+#!/usr/bin/env python3
+"""Writes the tables of compare/tables that are edges of the rules: each limit, turned-down number and criterion.
+
+Usage: tables.py DIRECTORY. The same files come out each time. The other tables there are kept by hand.
+"""
+import os
+import sys
+
+# A table is a list of lines, a line a list of numbers.
+PUMP = [
+    [1, 3, 0], [1, 4, 0], [2, 2, 0], [2, 4, 0],
+    [3, 1, 4, 12, 1, 0, 0, 0, 2, 0, 1, 2],
+    [3, 0, 1, 12, 1, 0, 0, 1, 0, 0, 0, 2, 1, 1],
+    [3, 2, 1, 12, 1, 0, 0, 2, 1, 1, 0, 0, 1, 1],
+    [4, 1, 4, 12, 1, 0, 0, 0, 2, 0, 1, 2],
+    [4, 2, 1, 12, 1, 0, 0, 1, 1, 1, 0, 0, 1, 1],
+    [5, 10],
+    [6, 6, 12, 1, 0, 0, 0, 0, 0, 0, 1, 1, 1],
+    [7, 6, 12, 1, 0, 0, 1, 0, 1, 0, 0],
+]
+
+made = {}
+
+
+def text(lines):
+    return b"".join(b"".join(b"%6d" % n for n in line) + b"\n" for line in lines)
+
+
+def put(name, table):
+    assert name not in made, name
+    made[name] = table if isinstance(table, bytes) else text(table)
+
+
+def changed(table, at, *lines):
+    """The table with other lines, none or more, in place of the one at a place."""
+    at %= len(table)
+    return table[:at] + [list(line) for line in lines] + table[at + 1:]
+
+
+def spliced(bytes_, at, new):
+    return bytes_[:at] + new + bytes_[at + len(new):]
+
+
+def small(rows=(), spec_rows=(), parameters=((1, 0),), spec_parameters=((1, 0),), invariant=(10,), mapping=None, measure=(0, 0)):
+    if mapping is None:
+        mapping = [0, 0] * len(spec_parameters)
+    return ([[1, *p] for p in parameters] + [[2, *p] for p in spec_parameters] + [[3, *r] for r in rows] + [[4, *r] for r in spec_rows]
+            + [[5, *invariant], [6, *mapping], [7, *measure]])
+
+
+def nested(depth):
+    """A formula of that depth, of negations."""
+    return [14] * (depth - 1) + [10]
+
+
+def nested_value(depth):
+    """A value of that depth, of sums in the second place."""
+    return [3, 0, 1] * (depth - 1) + [0, 1]
+
+
+def wide_formula(fields):
+    """A true formula with that many fields, of depth at most 10."""
+    if fields == 1:
+        return [10]
+    if fields == 2:
+        return [14, 11]
+    left = (fields - 1) // 2
+    return [15] + wide_formula(left) + wide_formula(fields - 1 - left)
+
+
+# Turned-down numbers.
+
+good = text(PUMP)
+
+
+def long_texts():
+    # 4,096 fields on as many lines are 28,672 bytes.
+    put("t1_ones_28672", b"     1\n" * 4096)
+    put("t1_ones_28679", b"     1\n" * 4097)
+    put("t1_blank_28672", b" " * 28672)
+    put("t1_blank_28673", b" " * 28673)
+    put("t1_line_ends_28672", b"\n" * 28672)
+    put("t1_line_ends_28673", b"\n" * 28673)
+    put("t1_pump_and_bytes", good + b"0" * (28673 - len(good)))
+    put("t1_pump_46_times", good * 46)
+    put("t1_far", b"     1\n" * 5000)
+
+
+BAD_COLUMNS = [
+    b" 65536", b"    07", b"    00", b"000000", b"      ", b"    -1", b"    +1", b"1     ", b"   1  ", b"  1  2", b"\t    1", b"     a",
+    b" 99999", b"999999", b"     \r", b"     \0", b"\xff\xff\xff\xff\xff\xff", b"000001", b" 65540", b" 70000", b"     /", b"     :",
+]
+
+
+def bad_columns():
+    middle = good.index(b"\n     3     2") + 1 + 6 * 7
+    for i, columns in enumerate(BAD_COLUMNS):
+        for place, at in (("first", 0), ("middle", middle), ("last", len(good) - 7)):
+            put("t2_columns_%02d_%s" % (i, place), spliced(good, at, columns))
+    line_ends = [i for i, b in enumerate(good) if b == 10]
+    for place, at in (("first", line_ends[0]), ("middle", line_ends[5]), ("last", line_ends[-1])):
+        put("t2_line_short_" + place, good[:at - 1] + good[at:])
+        put("t2_line_long_" + place, good[:at] + b" " + good[at:])
+        put("t2_empty_line_after_" + place, good[:at + 1] + b"\n" + good[at + 1:])
+        put("t2_cut_before_line_end_" + place, good[:at])
+        put("t2_carriage_return_" + place, good[:at] + b"\r" + good[at:])
+    put("t2_empty_line_before", b"\n" + good)
+    put("t2_one_line_end", b"\n")
+    put("t2_one_byte", b"1")
+    put("t2_one_blank", b" ")
+    put("t2_field_without_line_end", b"     1")
+    put("t2_field_65535", changed(PUMP, -1, [7, 0, 65535]))
+
+
+def many_fields():
+    for n in (255, 256, 257, 258):
+        put("t3_line_%d_invariant" % n, changed(PUMP, 9, [5] + wide_formula(n - 1)))
+        put("t3_line_%d_row" % n, changed(PUMP, 4, [3, 1, 4] + wide_formula(n - 7) + [2, 0, 1, 2]))
+        put("t3_line_%d_first" % n, [[1] * n] + PUMP[1:])
+        put("t3_line_%d_last" % n, PUMP[:-1] + [[7, 0] + [0] * (n - 2)])
+    for total in (4095, 4096, 4097):
+        head = small()
+        rest = total - sum(map(len, head))
+        lengths = [256] * (rest // 256 - 1)
+        rest -= 256 * len(lengths)
+        lengths += [rest // 2, rest - rest // 2]
+        put("t3_fields_%d" % total, small(rows=[[0, 1, *wide_formula(n - 7), 0, 0, 0, 0] for n in lengths]))
+    put("t3_fields_4096_no_table", [[1] * 256] * 16)
+    put("t3_fields_4097_no_table", [[1] * 256] * 16 + [[1]])
+
+
+def shapes():
+    for kind in (0, 8, 9, 65535):
+        for place, at in (("first", 0), ("middle", 6), ("last", 11)):
+            put("t4_kind_%d_%s" % (kind, place), changed(PUMP, at, [kind] + PUMP[at][1:]))
+    for i in range(len(PUMP) - 1):
+        if PUMP[i][0] != PUMP[i + 1][0]:
+            put("t4_falling_%02d" % i, PUMP[:i] + [PUMP[i + 1], PUMP[i]] + PUMP[i + 2:])
+    for kind in range(1, 8):
+        put("t4_none_of_kind_%d" % kind, [line for line in PUMP if line[0] != kind])
+        put("t4_only_kind_%d" % kind, [line for line in PUMP if line[0] == kind])
+    for kind in (5, 6, 7):
+        put("t4_two_of_kind_%d" % kind, [line for line in PUMP for _ in range(2 if line[0] == kind else 1)])
+    for n in (1, 8, 9):
+        put("t4_parameters_%d_implementation" % n, small(parameters=[(2 if i < 2 else 1, 0) for i in range(n)]))
+        put("t4_parameters_%d_specification" % n, small(spec_parameters=[(65535, 0)] * n))
+    for n in (0, 1, 32, 33):
+        put("t4_rows_%d_implementation" % n, small(rows=[[i + 1, 1, 11, 0, 0, 0, 0] for i in range(n)]))
+        put("t4_rows_%d_specification" % n, small(spec_rows=[[i + 1, 1, 11, 0, 0, 0, 0] for i in range(n)]))
+        put("t4_rows_%d_both" % n, small(rows=[[i + 1, 1, 10, 0, 7, 0, 0] for i in range(n)], spec_rows=[[n - i, 1, 10, 0, 7, 0, 0] for i in range(n)]))
+    for n in (1, 2, 4, 5):
+        for place, at in (("first", 0), ("middle", 2), ("last", 3)):
+            put("t4_parameter_fields_%d_%s" % (n, place), changed(PUMP, at, (PUMP[at] + [0, 0])[:n]))
+    for n in (1, 2, 3):
+        for place, at in (("first", 4), ("middle", 6), ("last", 8)):
+            put("t4_row_fields_%d_%s" % (n, place), changed(PUMP, at, PUMP[at][:n]))
+    put("t4_empty_text", b"")
+    put("t4_line_of_kind_only", [[5]])
+
+
+def bounds():
+    for place, at in (("first", 0), ("middle", 1), ("third", 2), ("last", 3)):
+        kind = PUMP[at][0]
+        put("t5_size_0_" + place, changed(PUMP, at, [kind, 0, 0]))
+        put("t5_size_1_" + place, changed(PUMP, at, [kind, 1, 0]))
+        put("t5_size_65535_" + place, changed(PUMP, at, [kind, 65535, 65534]))
+        put("t5_initial_is_size_" + place, changed(PUMP, at, [kind, PUMP[at][1], PUMP[at][1]]))
+        put("t5_initial_below_size_" + place, changed(PUMP, at, [kind, PUMP[at][1], PUMP[at][1] - 1]))
+        put("t5_initial_65535_" + place, changed(PUMP, at, [kind, PUMP[at][1], 65535]))
+    for span in (0, 1, 2, 255, 256, 257, 65535):
+        for place, at, other in (("first", 4, 7), ("middle", 5, None), ("last", 8, 6)):
+            table = changed(PUMP, at, PUMP[at][:2] + [span] + PUMP[at][3:])
+            if other is not None:
+                table = changed(table, other, PUMP[other][:2] + [span] + PUMP[other][3:])
+            put("t5_span_%d_%s" % (span, place), table)
+    for sizes in ((256, 256), (257, 256), (256, 257), (65535, 1), (1, 65535), (65535, 2), (2, 32768), (32768, 2), (2, 32769), (65535, 65535),
+                  (4, 4, 4, 4, 4, 4, 4, 4), (4, 4, 4, 4, 4, 4, 4, 5), (65535,) * 8, (16, 16, 16, 16), (17, 16, 16, 16), (256, 256, 0), (0, 65535, 65535),
+                  (65535, 65535, 65535, 65535, 0)):
+        name = "_".join(map(str, sizes))
+        put("t5_sizes_" + name, small(parameters=[(s, 0) for s in sizes]))
+        put("t5_spec_sizes_" + name, small(spec_parameters=[(s, 0) for s in sizes]))
+        put("t5_sizes_%s_last_fails" % name, small(parameters=[(s, 0) for s in sizes], rows=[
+            [0, 1, *all_last(sizes), 0, 0] + [x for i in range(len(sizes)) for x in (1, i)]], measure=(0, 0)))
+
+
+def all_last(sizes):
+    """Holds where each parameter has its last value."""
+    formula = [10]
+    for i, size in enumerate(sizes):
+        formula = [15] + formula + [12, 1, i, 0, max(size, 1) - 1]
+    return formula
+
+
+def terms():
+    lines = {"row": 5, "row_first": 4, "spec_row": 8, "invariant": 9, "mapping": 10, "measure": 11}
+    start = {"row": 3, "row_first": 3, "spec_row": 3, "invariant": 1, "mapping": 1, "measure": 1}
+    for name, at in lines.items():
+        line = PUMP[at]
+        first = start[name]
+        for mark in (7, 8, 9, 17, 18, 100, 65535, 10 if line[first] < 10 else 0):
+            put("t6_mark_%d_%s_first" % (mark, name), changed(PUMP, at, line[:first] + [mark] + line[first + 1:]))
+            put("t6_mark_%d_%s_last" % (mark, name), changed(PUMP, at, line[:-2] + [mark] + line[-1:]))
+        put("t6_early_%s" % name, changed(PUMP, at, line[:-1]))
+        put("t6_early_2_%s" % name, changed(PUMP, at, line[:-2]))
+        put("t6_late_%s" % name, changed(PUMP, at, line + [10]))
+        put("t6_late_term_%s" % name, changed(PUMP, at, line + [0, 0]))
+        put("t6_kind_alone_%s" % name, changed(PUMP, at, line[:first]))
+    for parameter in (1, 2, 7, 8, 65535):
+        put("t6_parameter_%d_row" % parameter, changed(PUMP, 6, [3, 2, 1, 12, 1, parameter, 0, 2, 1, 1, 0, 0, 1, 1]))
+        put("t6_parameter_%d_spec_row" % parameter, changed(PUMP, 8, [4, 2, 1, 12, 1, parameter, 0, 1, 1, 1, 0, 0, 1, 1]))
+        put("t6_parameter_%d_invariant" % parameter, changed(PUMP, 9, [5, 13, 1, parameter, 0, 9]))
+        put("t6_parameter_%d_mapping" % parameter, changed(PUMP, 10, [6, 0, 0, 1, parameter]))
+        put("t6_parameter_%d_measure" % parameter, changed(PUMP, 11, [7, 1, parameter]))
+    put("t6_sum_invariant", changed(PUMP, 9, [5, 12, 2, 2]))
+    put("t6_sum_mapping_first", changed(PUMP, 10, [6, 2, 1, 1]))
+    put("t6_sum_mapping_last", changed(PUMP, 10, [6, 0, 0, 2]))
+    put("t6_sum_measure", changed(PUMP, 11, [7, 2]))
+    for depth in (1, 31, 32, 33, 34, 64):
+        f, v = nested(depth), nested_value(depth)
+        put("t6_depth_%d_condition" % depth, changed(PUMP, 5, [3, 0, 1] + f + [0, 0, 0, 2, 1, 1]))
+        put("t6_depth_%d_data" % depth, changed(changed(PUMP, 6, PUMP[6][:8] + v + PUMP[6][10:]), 8, PUMP[8][:8] + v + PUMP[8][10:]))
+        put("t6_depth_%d_next" % depth, changed(PUMP, 6, PUMP[6][:-2] + v))
+        put("t6_depth_%d_spec_condition" % depth, changed(PUMP, 8, [4, 2, 1] + f + PUMP[8][8:]))
+        put("t6_depth_%d_spec_next" % depth, changed(PUMP, 8, PUMP[8][:-2] + v))
+        put("t6_depth_%d_invariant" % depth, changed(PUMP, 9, [5] + f))
+        put("t6_depth_%d_mapping" % depth, changed(PUMP, 10, PUMP[10][:-2] + v))
+        put("t6_depth_%d_measure" % depth, changed(PUMP, 11, [7] + v))
+    for n in (31, 32, 33):
+        put("t6_depth_%d_left" % n, changed(PUMP, 11, [7] + [3] * (n - 1) + [0, 1] * n))
+        put("t6_depth_%d_mixed" % n, changed(PUMP, 11, [7] + ([6, 12] * n)[:n - 1] + ([0, 1] if n % 2 else [0, 1]) + tail(n)))
+
+
+def tail(n):
+    """What closes n - 1 marks `6 12 6 12 ..` opened before a value, inner ones first."""
+    out = []
+    for mark in reversed(([6, 12] * n)[:n - 1]):
+        out += [0, 1] if mark == 12 else [0, 2, 0, 3]
+    return out
+
+
+def actions():
+    for place, rows, table in (("implementation", [4, 5, 6], PUMP), ("specification", [7, 8], PUMP)):
+        for at in rows:
+            for other in rows:
+                if at < other and PUMP[at][1] and PUMP[other][1]:
+                    put("t7_twice_%s_%d_%d" % (place, at, other), changed(table, other, [PUMP[other][0], PUMP[at][1]] + PUMP[other][2:]))
+        put("t7_row_again_%s" % place, table[:rows[-1] + 1] + [table[rows[-1]]] + table[rows[-1] + 1:])
+    put("t7_internal_again", PUMP[:6] + [PUMP[5]] + PUMP[6:])
+    put("t7_specification_internal_first", changed(PUMP, 7, [4, 0, 1, 11, 0, 0, 1, 0, 1, 1]))
+    put("t7_specification_internal_last", changed(PUMP, 8, [4, 0, 1, 11, 0, 0, 1, 0, 1, 1]))
+    for i, data in enumerate(([0, 1], [0, 65535], [1, 0], [2], [3, 0, 0, 0, 0], [4, 0, 0, 0, 0], [6, 10, 0, 0, 0, 0])):
+        put("t7_internal_data_%d" % i, changed(PUMP, 5, PUMP[5][:8] + data + PUMP[5][10:]))
+    for span in (3, 5, 256):
+        put("t7_span_%d_implementation" % span, changed(PUMP, 4, [3, 1, span] + PUMP[4][3:]))
+        put("t7_span_%d_specification" % span, changed(PUMP, 7, [4, 1, span] + PUMP[7][3:]))
+        put("t7_span_%d_last" % span, changed(PUMP, 8, [4, 2, span] + PUMP[8][3:]))
+    many = [[i, 1, 11, 0, 0, 0, 0] for i in range(1, 33)]
+    for at in (1, 16, 31):
+        rows = many[:at] + [[1] + many[at][1:]] + many[at + 1:]
+        put("t7_first_action_again_at_%d" % at, small(rows=rows))
+        put("t7_first_action_again_at_%d_specification" % at, small(spec_rows=rows))
+        put("t7_last_span_differs_at_%d" % at, small(rows=many, spec_rows=many[:at] + [[at + 1, 2] + many[at][2:]] + many[at + 1:]))
+    put("t7_action_65535", small(rows=[[65535, 1, 10, 0, 1, 0, 0]], spec_rows=[[65535, 1, 10, 0, 1, 0, 0]]))
+    put("t7_alone_with_spans", small(rows=[[1, 2, 11, 0, 0, 0, 0]], spec_rows=[[2, 3, 11, 0, 0, 0, 0]]))
+
+
+def together():
+    """Two faults in one text: the lower number is given."""
+    twice = changed(PUMP, 8, [4, 1, 4] + PUMP[8][3:])
+    bad_map = lambda t: [[6, 2, 1, 1] if line[0] == 6 else line for line in t]
+    bad_initial = lambda t: changed(t, 3, [2, 4, 4])
+    no_measure = lambda t: [line for line in t if line[0] != 7]
+    many = lambda t: t[:-1] + [t[-1] + [0] * 257]
+    put("t67", bad_map(twice))
+    put("t57", bad_initial(twice))
+    put("t56", bad_initial(bad_map(PUMP)))
+    put("t47", no_measure(twice))
+    put("t46", no_measure(bad_map(PUMP)))
+    put("t45", no_measure(bad_initial(PUMP)))
+    put("t37", many(twice))
+    put("t36", many(bad_map(PUMP)))
+    put("t35", many(bad_initial(PUMP)))
+    put("t34", many(PUMP[1:4] + PUMP[4:6] + PUMP[7:] + [[3]]))
+    put("t27", text(twice) + b"\n")
+    put("t26", text(bad_map(PUMP)) + b"\n")
+    put("t25", text(bad_initial(PUMP)) + b"\n")
+    put("t24", text(no_measure(PUMP)) + b"\n")
+    put("t23", text(many(PUMP)) + b" ")
+    put("t234567", text(many(bad_map(bad_initial(twice)))) + b"\n")
+
+
+# Criteria. The wide table: phase (3) and price (8); the mapping keeps the price and takes phases 1 and 2 together.
+#   1  action 7, span 8: phase 0 to 1, takes the price     2  internal, span 5: phase 1 to 2
+#   3  action 9, span 3: phase 2 to 0, tells price + sum   4  action 11, span 2: everywhere, keeps the state
+
+WIDE = [
+    [1, 3, 0], [1, 8, 0], [2, 2, 0], [2, 8, 0],
+    [3, 7, 8, 12, 1, 0, 0, 0, 2, 0, 1, 2],
+    [3, 0, 5, 12, 1, 0, 0, 1, 0, 0, 0, 2, 1, 1],
+    [3, 9, 3, 12, 1, 0, 0, 2, 3, 1, 1, 2, 0, 0, 1, 1],
+    [3, 11, 2, 10, 0, 3, 1, 0, 1, 1],
+    [4, 7, 8, 12, 1, 0, 0, 0, 2, 0, 1, 2],
+    [4, 11, 2, 10, 0, 3, 1, 0, 1, 1],
+    [4, 9, 3, 12, 1, 0, 0, 1, 3, 1, 1, 2, 0, 0, 1, 1],
+    [5, 10],
+    [6, 6, 12, 1, 0, 0, 0, 0, 0, 0, 1, 1, 1],
+    [7, 6, 12, 1, 0, 0, 1, 0, 1, 0, 0],
+]
+# Line, condition, data, next phase, next price.
+ROWS = {
+    1: (4, [12, 1, 0, 0, 0], [2], [0, 1], [2]),
+    2: (5, [12, 1, 0, 0, 1], [0, 0], [0, 2], [1, 1]),
+    3: (6, [12, 1, 0, 0, 2], [3, 1, 1, 2], [0, 0], [1, 1]),
+    4: (7, [10], [0, 3], [1, 0], [1, 1]),
+}
+SPEC_ROWS = {
+    1: (8, [12, 1, 0, 0, 0], [2], [0, 1], [2]),
+    2: (9, [10], [0, 3], [1, 0], [1, 1]),
+    3: (10, [12, 1, 0, 0, 1], [3, 1, 1, 2], [0, 0], [1, 1]),
+}
+
+
+def at_state(phase, price):
+    return [15, 12, 1, 0, 0, phase, 12, 1, 1, 0, price]
+
+
+def at_sum(phase, price, sum_value):
+    return [15, 12, 2, 0, sum_value] + at_state(phase, price)
+
+
+def with_row(rows, row, **parts):
+    line, condition, data, phase, price = rows[row]
+    parts = {"condition": condition, "data": data, "phase": phase, "price": price, **parts}
+    return changed(WIDE, line, WIDE[line][:3] + parts["condition"] + parts["data"] + parts["phase"] + parts["price"])
+
+
+def choice(formula, first, second):
+    return [6] + formula + first + second
+
+
+def criteria():
+    put("c_wide", WIDE)
+    for place, initial in (("first", (0, 0)), ("middle", (1, 4)), ("last", (2, 7))):
+        start = changed(changed(WIDE, 0, [1, 3, initial[0]]), 1, [1, 8, initial[1]])
+        good_start = changed(changed(start, 2, [2, 2, min(initial[0], 1)]), 3, [2, 8, initial[1]])
+        put("c1_start_good_" + place, good_start)
+        put("c1_invariant_" + place, changed(good_start, 11, [5, 14] + at_state(*initial)))
+        put("c1_mapping_phase_" + place, changed(good_start, 2, [2, 2, 1 - min(initial[0], 1)]))
+        put("c1_mapping_price_" + place, changed(good_start, 3, [2, 8, (initial[1] + 1) % 8]))
+    put("c1_invariant_false", changed(WIDE, 11, [5, 11]))
+    places = (("first", (0, 0)), ("middle", (1, 3)), ("last", (2, 7)))
+    for place, state in places:
+        put("c2_phase_" + place, changed(WIDE, 12, [6] + choice(at_state(*state), [0, 2], [6, 12, 1, 0, 0, 0, 0, 0, 0, 1]) + [1, 1]))
+        put("c2_price_" + place, changed(WIDE, 12, [6, 6, 12, 1, 0, 0, 0, 0, 0, 0, 1] + choice(at_state(*state), [0, 8], [1, 1])))
+        put("c2_65535_" + place, changed(WIDE, 12, [6, 6, 12, 1, 0, 0, 0, 0, 0, 0, 1] + choice(at_state(*state), [0, 65535], [1, 1])))
+    for place, initial, out in (("first", 5, 0), ("middle", 0, 6), ("last", 0, 11)):
+        for i, value in enumerate((4, 65535)):
+            put("c2_%d_%s" % (i, place), small(parameters=[(12, initial)], spec_parameters=[(4, 0)], mapping=choice([12, 1, 0, 0, out], [0, value], [0, 0])))
+            put("c2_%d_%s_last_value" % (i, place), small(parameters=[(12, initial)], spec_parameters=[(4, 0)] * 8, mapping=[0, 0] * 7 + choice(
+                [12, 1, 0, 0, out], [0, value], [0, 0])))
+    for place, state in places:
+        put("c3_invariant_cut_" + place, changed(WIDE, 11, [5, 14] + at_state(*state)))
+    for row, phases in ((1, (0,)), (2, (1,)), (3, (2,)), (4, (0, 1, 2))):
+        span = WIDE[ROWS[row][0]][2]
+        for phase in phases:
+            for price in (0, 3, 7):
+                for s in sorted({0, span // 2, span - 1}):
+                    name = "row%d_%d_%d_%d" % (row, phase, price, s)
+                    here = at_sum(phase, price, s)
+                    put("c3_phase_" + name, with_row(ROWS, row, phase=choice(here, [0, 3], ROWS[row][3])))
+                    put("c3_price_" + name, with_row(ROWS, row, price=choice(here, [0, 8], ROWS[row][4])))
+                    if row == 2:
+                        put("c4_price_" + name, with_row(ROWS, row, price=choice(here, [5, 3, 1, 1, 0, 1, 0, 8], [1, 1])))
+                        put("c4_phase_" + name, with_row(ROWS, row, phase=choice(here, [0, 0], [0, 2])))
+                        put("c5_stays_" + name, with_row(ROWS, row, phase=choice(here, [0, 1], [0, 2])))
+                    else:
+                        put("c8_data_" + name, with_row(ROWS, row, data=choice(here, [0, 99], ROWS[row][2])))
+                        put("c9_price_" + name, with_row(ROWS, row, price=choice(here, [5, 3, *ROWS[row][4], 0, 1, 0, 8], ROWS[row][4])))
+                        put("c9_phase_" + name, with_row(ROWS, row, phase=choice(here, [5, 3, *ROWS[row][3], 0, 1, 0, 2] if row != 1 else [0, 0], ROWS[row][3])))
+                        put("c7_" + name, with_row(ROWS, row, condition=[15] + ROWS[row][1] + [14] + here))
+    for row, phase in ((1, 0), (2, 0), (2, 1), (3, 1)):
+        span = WIDE[SPEC_ROWS[row][0]][2]
+        for price in (0, 3, 7):
+            for s in sorted({0, span // 2, span - 1}):
+                name = "row%d_%d_%d_%d" % (row, phase, price, s)
+                here = at_sum(phase, price, s)
+                put("c6_" + name, with_row(SPEC_ROWS, row, condition=[15] + SPEC_ROWS[row][1] + [14] + here))
+                put("c8_spec_data_" + name, with_row(SPEC_ROWS, row, data=choice(here, [0, 99], SPEC_ROWS[row][2])))
+                put("c9_spec_price_" + name, with_row(SPEC_ROWS, row, price=choice(here, [0, 65535], SPEC_ROWS[row][4])))
+    for row in (1, 3, 4):
+        put("c6_no_spec_row_%d" % row, [line for line in WIDE if line[0] != 4 or line[1] != WIDE[ROWS[row][0]][1]])
+        put("c7_no_row_%d" % row, [line for line in WIDE if line[0] != 3 or line[1] != WIDE[ROWS[row][0]][1]])
+    for place, state in places:
+        put("c5_measure_0_from_" + place, changed(WIDE, 13, [7] + choice([13, 1, 1, 0, state[1] + 1], [6, 12, 1, 0, 0, 1, 0, 1, 0, 0], [0, 5])))
+        put("c6_outside_invariant_" + place, changed(with_row(ROWS, 3, condition=[16, 12, 1, 0, 0, 2] + at_state(0, state[1])), 11, [5, 10]))
+    put("c_outside_invariant_all", small(parameters=[(4, 0)], rows=[[0, 1, 13, 0, 0, 1, 0, 0, 0, 1, 0]], invariant=[12, 1, 0, 0, 0]))
+
+
+def many_states():
+    # Accepted after all 65,536 states, and failing at the first, a middle and the last.
+    for state in (0, 32768, 65535):
+        for sizes in ((256, 256), (32768, 2), (2, 32768), (4,) * 8):
+            values = []
+            rest = state
+            for size in reversed(sizes):
+                values.insert(0, rest % size)
+                rest //= size
+            formula = [10]
+            for i, v in enumerate(values):
+                formula = [15] + formula + [12, 1, i, 0, v]
+            table = small(parameters=[(s, 0) for s in sizes], rows=[[1, 1] + formula + [0, 0] + [x for i in range(len(sizes)) for x in (1, i)]])
+            put("s_%d_%s" % (state, "_".join(map(str, sizes))), table)
+    put("s_last_sum_255", small(parameters=[(256, 0)], rows=[[1, 256, 15, 12, 1, 0, 0, 255, 12, 2, 0, 255, 0, 0, 1, 0]]))
+    put("s_wrap_sum", small(parameters=[(2, 0)], rows=[[1, 1, 10, 3, 0, 65535, 0, 2, 1, 0]], spec_rows=[[1, 1, 10, 0, 1, 0, 0]]))
+    put("s_wrap_difference", small(parameters=[(2, 0)], rows=[[1, 1, 10, 4, 0, 1, 0, 2, 1, 0]], spec_rows=[[1, 1, 10, 0, 65535, 0, 0]]))
+    put("s_remainder_by_0", small(parameters=[(2, 0)], rows=[[1, 1, 10, 5, 0, 7, 0, 0, 1, 0]], spec_rows=[[1, 1, 10, 0, 7, 0, 0]]))
+
+
+for part in (long_texts, bad_columns, many_fields, shapes, bounds, terms, actions, together, criteria, many_states):
+    part()
+directory = sys.argv[1]
+for name, table in made.items():
+    with open(os.path.join(directory, name + ".txt"), "wb") as file:
+        file.write(table)
+print("tables.py: %d tables" % len(made))

@@ -1,0 +1,27 @@
+-- The proof of `pass_over`: it is safe and ends, since each read takes at least a byte off what is left.
+use borrow.Author.Needs.{needs}
+use Rattle.desk_calls.proofs.pass_over.Statement.{statement}
+use Rattle.desk_calls.proofs.pass_over.Tie as tie
+use Rattle.desk_calls.proofs.pass_over.Reads as reads
+use Rattle.desk_calls.proofs.pass_over.Lts as lts
+use Rattle.desk_calls.proofs.read_some.Reads as read-some-reads
+
+abbrev Inv-loop : tie.InvT-loop
+Inv-loop n left₀ left = Unit {0}
+
+abbrev μ-loop : tie.MeasureT-loop
+μ-loop n left₀ left = left
+
+pub pass-over-spec : {M : Type 1} → statement M
+pass-over-spec =
+    tie.close
+    (tie.spec
+    Inv-loop
+    μ-loop
+    (λ c. search needs)
+    (λ c κs. search needs)
+    (λ c. search needs)
+    (λ c. search needs)
+    (λ c. search needs)
+    (λ c. search needs)
+    (λ c. search needs))

@@ -1,0 +1,34 @@
+-- The proof of `read_line`: it is safe and ends; what it answers is up to the input.
+use borrow.Author.Needs.{needs}
+use Prim.Native.Nat.{_-_}
+use Rattle.desk_calls.proofs.read_line.Statement.{statement}
+use Rattle.desk_calls.proofs.read_line.Tie as tie
+use Rattle.desk_calls.proofs.read_line.Reads as reads
+use Rattle.desk_calls.proofs.read_line.Lts as lts
+use Rattle.desk_calls.proofs.read_byte.Reads as read-byte-reads
+use Rattle.desk_calls.proofs.ended_after.Reads as ended-after-reads
+
+abbrev Inv-loop : tie.InvT-loop
+Inv-loop bytes₀ n₀ bytes n = Unit {0}
+
+abbrev μ-loop : tie.MeasureT-loop
+μ-loop bytes₀ n₀ bytes n = 29 - n
+
+pub read-line-spec : {M : Type 1} → statement M
+read-line-spec =
+    tie.close
+    (tie.spec
+    Inv-loop
+    μ-loop
+    (λ c. search needs)
+    (λ c κs. search needs)
+    (λ c. search needs)
+    (λ c. search needs)
+    (λ c κs. search needs)
+    (λ c. search needs)
+    (λ c. search needs)
+    (λ c. search needs)
+    (λ c. search needs)
+    (λ c. search needs)
+    (λ c. search needs)
+    (λ c. search needs))
