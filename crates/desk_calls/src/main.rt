@@ -10,6 +10,8 @@ use checker::Desk;
 use checker::Done;
 ghost use mathlib.Core.Path.{_≡_};
 ghost use Prim.Native.Nat.{_≤_};
+ghost use lib.ListN.{take};
+ghost use Rattle.checker.specs.Desk.{loadOf};
 
 const LINE_END: u8 = 10;
 
@@ -113,6 +115,7 @@ fn run_load(desk: Desk, n: u64, line: u64) -> Step {
 // Loads the first n bytes.
 fn load_start(desk: Desk, text: &[u8; ENOUGH], n: usize) -> AfterLoad
     requires { ⌜ n ≤ 28673 ⌝ }
+    ensures { λ r. ⌜ r ≡ loadOf desk (take n (now (text .entry))) ⌝ }
 {
     let bytes: &[u8] = text;
     desk.load(&bytes[0..n])
