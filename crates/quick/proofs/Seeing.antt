@@ -24,7 +24,7 @@ use Rattle.design.specs.declared.Counts.{Counts}
 use Rattle.steps.specs.Arrays.{padded, valuesAt, belowIn, sameIn, insideIn, mappedIn, measureIn, implLine, specLine}
 use Rattle.steps.proofs.All.{all-begin, all-turn, all-fail, all-end}
 use Rattle.quick.specs.Plan.{implBy, specBy, implAt, specAt}
-use Rattle.quick.specs.Quick.{keptIn, answeredIn, stepTo, stepIn, stepOfRow, heldIf, seen, onIn, rowIn, plannedIn, implIn, repliedIf, replyIn, replyPlanned, specIn, passesIn}
+use Rattle.quick.specs.Quick.{keptIn, answeredIn, stepTo, stepIn, stepOfRow, heldIf, seen, onIn, knownIn, lookIn, rowIn, plannedIn, implIn, repliedIf, repliedIn, replyIn, replyPlanned, specIn, passesIn}
 use Rattle.quick.specs.declared.Seen.{Seen}
 
 -- ---- a step
@@ -106,6 +106,17 @@ kept-known keep a b h = rw h
 
 pub not-kept : (keep : Bool) (a b r : Held) → keep ≡ false → r ≡ b → r ≡ pick keep a b
 not-kept keep a b r h er = er ∙ rw h
+
+-- one look
+module _ (f s v t : List ℕ) (c : Counts) (at j m e : ℕ) (free i : Bool) (first h : Held) where
+  pub look-is : (b : Bool) → h ≡ knownIn f v at first free e → b ≡ heldIf (h .holds) (stepIn f s c (h .next) i j v t m e)
+      → record { holds = b; quiet = not (h .holds) } ≡ lookIn f s c at first free i j v t m e
+  unfolding lookIn
+  look-is b eh eb = rw (eb, eh)
+
+  pub replied-is : (b : Bool) → h ≡ knownIn f t at first free e → b ≡ repliedIf (h .holds) f s c j v e → b ≡ repliedIn f s c at first free j v t e
+  unfolding repliedIn
+  replied-is b eh eb = eb ∙ rw eh
 
 -- ---- all sum values of a row
 
@@ -201,29 +212,34 @@ module _ (f s v t : List ℕ) (c : Counts) (k j n m : ℕ) (free : Bool) where
     unfolding rowLeft rowIn
     row-begin = seen-begin H I (λ b. not (internalB r) || b) n
 
-    module _ (e a : ℕ) (h : Held) (b : Bool) (ea : a ≡ getD (drop line f) 1 0)
-        (eh : h ≡ pick (free || eqb e 0) first (answerF (line + 3) v e (readF 32 (drop (line + 3) f))))
-        (eb : b ≡ heldIf (h .holds) (stepIn f s c (h .next) (eqb a 0) j v t m e)) where
+    module _ (e a : ℕ) (ea : a ≡ getD (drop line f) 1 0) where
+      abbrev h : Held
+      h = knownIn f v (line + 3) first free e
+
       on-row : h .holds ≡ onIn r v free e
-      on-row = ap (λ x. x .holds) (on-is f v (line + 3) e free first h ef eh) ∙ rw (r-is, place f line 3 refl)
+      on-row = ap (λ x. x .holds) (on-is f v (line + 3) e free first h ef refl) ∙ rw (r-is, place f line 3 refl)
 
       step-row : stepIn f s c (h .next) (eqb a 0) j v t m e ≡ stepOfRow f s c r j v t m e
       unfolding stepIn stepOfRow valuesAt
-      step-row = rw (on-is f v (line + 3) e free first h ef eh, r-is, ea, place f line 3 refl, place f (line + 3) _ refl, place f (line + 3 + _) _ refl)
+      step-row = rw (on-is f v (line + 3) e free first h ef refl, r-is, ea, place f line 3 refl, place f (line + 3) _ refl, place f (line + 3 + _) _ refl)
 
-      held-row : b ≡ H e
-      unfolding heldIf
-      held-row = eb ∙ rw (step-row, on-row)
+      look-row : lookIn f s c (line + 3) first free (eqb a 0) j v t m e ≡ record { holds = H e; quiet = I e }
+      unfolding lookIn heldIf
+      look-row = rw (step-row, on-row)
 
-      pub row-turn : (q : Bool) → e < n → not b ≡ false → rowLeft q e ≡ whole → rowLeft (q && not (h .holds)) (e + 1) ≡ whole
-      unfolding rowLeft
-      row-turn q l ok inv =
-          ap (λ x. seenLeft H I (λ b. not (internalB r) || b) n (q && not x) (e + 1)) on-row
-          ∙ sym (seen-turn H I (λ b. not (internalB r) || b) n q e l (sym held-row ∙ not-false b ok)) ∙ inv
+      module _ (q : Bool) (g : Seen) (l : e < n) (eg : g ≡ lookIn f s c (line + 3) first free (eqb a 0) j v t m e) (inv : rowLeft q e ≡ whole) where
+        held-row : g .holds ≡ H e
+        held-row = ap (λ x. x .holds) (eg ∙ look-row)
 
-      pub row-fail : (q : Bool) → e < n → not b ≡ true → rowLeft q e ≡ whole → record { holds = false; quiet = false } ≡ whole
-      unfolding rowLeft
-      row-fail q l ok inv = seen-fail H I (λ b. not (internalB r) || b) n q e l (sym held-row ∙ not-true b ok) ∙ inv
+        pub row-turn : not (g .holds) ≡ false → rowLeft (q && g .quiet) (e + 1) ≡ whole
+        unfolding rowLeft
+        row-turn ok =
+            ap (λ x. seenLeft H I (λ b. not (internalB r) || b) n (q && x .quiet) (e + 1)) (eg ∙ look-row)
+            ∙ sym (seen-turn H I (λ b. not (internalB r) || b) n q e l (sym held-row ∙ not-false (g .holds) ok)) ∙ inv
+
+        pub row-fail : not (g .holds) ≡ true → record { holds = false; quiet = false } ≡ whole
+        unfolding rowLeft
+        row-fail ok = seen-fail H I (λ b. not (internalB r) || b) n q e l (sym held-row ∙ not-true (g .holds) ok) ∙ inv
 
     pub row-end : (e a : ℕ) (q : Bool) → a ≡ getD (drop line f) 1 0 → n ≤ e → rowLeft q e ≡ whole → record { holds = true; quiet = not (eqb a 0) || q } ≡ whole
     unfolding rowLeft
@@ -308,10 +324,13 @@ module _ (f s v t : List ℕ) (c : Counts) (k j n : ℕ) (free : Bool) where
     unfolding replyLeft replyIn
     reply-begin = all-begin R n
 
-    module _ (e : ℕ) (h : Held) (b : Bool) (eh : h ≡ pick (free || eqb e 0) first (answerF (line + 3) t e (readF 32 (drop (line + 3) f))))
-        (eb : b ≡ repliedIf (h .holds) f s c j v e) where
+    module _ (e : ℕ) (b : Bool) (eb : b ≡ repliedIn f s c (line + 3) first free j v t e) where
       replied-row : b ≡ R e
-      replied-row = eb ∙ ap (λ x. repliedIf x f s c j v e) (ap (λ x. x .holds) (on-is f t (line + 3) e free first h ef eh) ∙ rw (q-is, place f line 3 refl))
+      unfolding repliedIn
+      replied-row =
+          eb
+          ∙ ap (λ x. repliedIf x f s c j v e)
+          (ap (λ x. x .holds) (on-is f t (line + 3) e free first (knownIn f t (line + 3) first free e) ef refl) ∙ rw (q-is, place f line 3 refl))
 
       pub reply-turn : e < n → not b ≡ false → replyLeft e ≡ replyIn f s c k j n free v t → replyLeft (e + 1) ≡ replyIn f s c k j n free v t
       unfolding replyLeft
@@ -325,30 +344,30 @@ module _ (f s v t : List ℕ) (c : Counts) (k j n : ℕ) (free : Bool) where
     unfolding replyLeft
     reply-end e l inv = sym (all-end R n e l) ∙ inv
 
+pub reply-planned-is : (f s p v t : List ℕ) (c : Counts) (i j n x : ℕ) (r : Bool) → j ≡ getD p (96 + i) 0 → n ≡ getD p (128 + i) 0 → x ≡ getD p (160 + i) 0
+    → r ≡ replyIn f s c (i + 1) j n (eqb x 1) v t → r ≡ replyPlanned f s c p i v t
+unfolding replyPlanned
+reply-planned-is f s p v t c i j n x r ej en ex er = er ∙ rw (ej, en, ex)
+
 module _ (f s p v t : List ℕ) (c : Counts) where
   unfoldable pub specLeft : ℕ → Bool
-  specLeft i = allIn (λ x. replyPlanned f s c p v t x) (c .kind4 - i) i
+  specLeft i = allIn (λ x. replyPlanned f s c p x v t) (c .kind4 - i) i
 
   pub spec-begin : specLeft 0 ≡ specIn f s c p v t
   unfolding specLeft specIn
-  spec-begin = all-begin (λ x. replyPlanned f s c p v t x) (c .kind4)
+  spec-begin = all-begin (λ x. replyPlanned f s c p x v t) (c .kind4)
 
-  module _ (i j n x : ℕ) (b : Bool) (ej : j ≡ getD p (96 + i) 0) (en : n ≡ getD p (128 + i) 0) (ex : x ≡ getD p (160 + i) 0)
-      (eb : b ≡ replyIn f s c (i + 1) j n (eqb x 1) v t) where
-    planned-row : b ≡ replyPlanned f s c p v t i
-    planned-row = eb ∙ rw (ej, en, ex)
+  pub spec-turn : (i : ℕ) (b : Bool) → i < c .kind4 → b ≡ replyPlanned f s c p i v t → not b ≡ false → specLeft i ≡ specIn f s c p v t → specLeft (i + 1) ≡ specIn f s c p v t
+  unfolding specLeft
+  spec-turn i b l eb ok inv = sym (all-turn (λ x. replyPlanned f s c p x v t) (c .kind4) i l (sym eb ∙ not-false b ok)) ∙ inv
 
-    pub spec-turn : i < c .kind4 → not b ≡ false → specLeft i ≡ specIn f s c p v t → specLeft (i + 1) ≡ specIn f s c p v t
-    unfolding specLeft
-    spec-turn l ok inv = sym (all-turn (λ x. replyPlanned f s c p v t x) (c .kind4) i l (sym planned-row ∙ not-false b ok)) ∙ inv
-
-    pub spec-fail : i < c .kind4 → not b ≡ true → specLeft i ≡ specIn f s c p v t → false ≡ specIn f s c p v t
-    unfolding specLeft
-    spec-fail l ok inv = sym (all-fail (λ x. replyPlanned f s c p v t x) (c .kind4) i l (sym planned-row ∙ not-true b ok)) ∙ inv
+  pub spec-fail : (i : ℕ) (b : Bool) → i < c .kind4 → b ≡ replyPlanned f s c p i v t → not b ≡ true → specLeft i ≡ specIn f s c p v t → false ≡ specIn f s c p v t
+  unfolding specLeft
+  spec-fail i b l eb ok inv = sym (all-fail (λ x. replyPlanned f s c p x v t) (c .kind4) i l (sym eb ∙ not-true b ok)) ∙ inv
 
   pub spec-end : (i : ℕ) → c .kind4 ≤ i → specLeft i ≡ specIn f s c p v t → true ≡ specIn f s c p v t
   unfolding specLeft
-  spec-end i l inv = sym (all-end (λ x. replyPlanned f s c p v t x) (c .kind4) i l) ∙ inv
+  spec-end i l inv = sym (all-end (λ x. replyPlanned f s c p x v t) (c .kind4) i l) ∙ inv
 
 -- ---- the state
 

@@ -8,7 +8,9 @@ use lib.ListN.{getD, drop}
 use Rattle.foundation.specs.First.{allIn}
 use Rattle.foundation.specs.Reflects.{_⇒_}
 use Rattle.terms.specs.Tree.{pick, evalV, evalF}
-use Rattle.terms.specs.Read.{readV}
+use Rattle.terms.specs.Read.{readV, readF}
+use Rattle.eval.specs.Answer.{answerF}
+use Rattle.eval.specs.declared.Held.{Held}
 use Rattle.criteria.specs.Design.{Row}
 use Rattle.criteria.specs.Step.{nextState, dataNumber}
 use Rattle.decision.specs.Tests.{enabledB, internalB}
@@ -56,6 +58,15 @@ seen h q = pick h (record { holds = true; quiet = q }) (record { holds = false; 
 abbrev pub onIn : Row → List ℕ → Bool → ℕ → Bool
 onIn r v free e = enabledB r v (pick free 0 e)
 
+-- one look, where `first` is known of the condition for the sum value 0
+abbrev pub knownIn : List ℕ → List ℕ → ℕ → Held → Bool → ℕ → Held
+knownIn f v at first free e = pick (free || eqb e 0) first (answerF at v e (readF 32 (drop at f)))
+
+unfoldable pub lookIn : List ℕ → List ℕ → Counts → ℕ → Held → Bool → Bool → ℕ → List ℕ → List ℕ → ℕ → ℕ → Seen
+lookIn f s c at first free b j v t m e =
+    let h = knownIn f v at first free e in
+    record { holds = heldIf (h .holds) (stepIn f s c (h .next) b j v t m e); quiet = not (h .holds) }
+
 -- row k with the partner j and n looks
 unfoldable pub rowIn : List ℕ → List ℕ → Counts → ℕ → ℕ → ℕ → Bool → List ℕ → List ℕ → ℕ → Seen
 rowIn f s c k j n free v t m =
@@ -73,15 +84,18 @@ implIn f s c p v t m = seen (allIn (λ i. plannedIn f s c p i v t m .holds) (c .
 unfoldable pub repliedIf : Bool → List ℕ → List ℕ → Counts → ℕ → List ℕ → ℕ → Bool
 repliedIf on f s c j v e = on ⇒ enabledB (implAt f s c j) v e
 
+unfoldable pub repliedIn : List ℕ → List ℕ → Counts → ℕ → Held → Bool → ℕ → List ℕ → List ℕ → ℕ → Bool
+repliedIn f s c at first free j v t e = repliedIf (knownIn f t at first free e .holds) f s c j v e
+
 -- row k with the partner j and n looks
 unfoldable pub replyIn : List ℕ → List ℕ → Counts → ℕ → ℕ → ℕ → Bool → List ℕ → List ℕ → Bool
 replyIn f s c k j n free v t = allIn (λ e. repliedIf (onIn (specBy f s c k) t free e) f s c j v e) n 0
 
-abbrev pub replyPlanned : List ℕ → List ℕ → Counts → List ℕ → List ℕ → List ℕ → ℕ → Bool
-replyPlanned f s c p v t i = replyIn f s c (i + 1) (getD p (96 + i) 0) (getD p (128 + i) 0) (eqb (getD p (160 + i) 0) 1) v t
+unfoldable pub replyPlanned : List ℕ → List ℕ → Counts → List ℕ → ℕ → List ℕ → List ℕ → Bool
+replyPlanned f s c p i v t = replyIn f s c (i + 1) (getD p (96 + i) 0) (getD p (128 + i) 0) (eqb (getD p (160 + i) 0) 1) v t
 
 unfoldable pub specIn : List ℕ → List ℕ → Counts → List ℕ → List ℕ → List ℕ → Bool
-specIn f s c p v t = allIn (λ i. replyPlanned f s c p v t i) (c .kind4) 0
+specIn f s c p v t = allIn (λ i. replyPlanned f s c p i v t) (c .kind4) 0
 
 -- ---- the state
 

@@ -16,7 +16,7 @@ ghost use Rattle.eval.specs.Answer.{answerF};
 ghost use Rattle.design.specs.Line.{rowOf};
 ghost use Rattle.layout.specs.Sizes.{countsOf};
 ghost use Rattle.quick.specs.Plan.{valuesFree, rowFree, conditionFree, specFree, implFree, looksOf, flagOf, implPartner, implLooks, implFlag, specPartner, specLooks, specFlag, entryIn, planIn};
-ghost use Rattle.quick.specs.Quick.{keptIn, answeredIn, stepIn, heldIf, rowIn, plannedIn, implIn, repliedIf, replyIn, specIn, passesIn};
+ghost use Rattle.quick.specs.Quick.{keptIn, answeredIn, stepIn, heldIf, lookIn, rowIn, plannedIn, implIn, repliedIf, repliedIn, replyIn, replyPlanned, specIn, passesIn};
 
 // What was seen of rows: whether each holds, and, if so, whether no internal one is enabled.
 pub struct Seen {
@@ -301,6 +301,31 @@ fn on_at(
 
 // ---- the rows of the implementation
 
+// One look at a row whose condition stands at a place: whether it holds, and whether it is not enabled. For sum value 0, and for all
+// where the condition is sum-free, what is known of the condition will do.
+fn look<'a>(
+    fields: &'a [u16; terms::MAX_FIELDS],
+    starts: &'a [u16; 84],
+    shape: Shape,
+    at: usize,
+    first: Held,
+    free: bool,
+    internal: bool,
+    j: u16,
+    v: &[u16; terms::MAX_PARAMETERS],
+    t: &[u16; terms::MAX_PARAMETERS],
+    m: u16,
+    sum: u16,
+) -> Seen
+    ensures { λ r. ⌜ r ≡ lookIn (now (fields .entry)) (now (starts .entry)) (countsOf shape) at first free internal j (now (v .entry)) (now (t .entry)) m sum ⌝ }
+{
+    let on = on_at(fields, at, v, sum, free | (sum == 0), first);
+    Seen {
+        holds: held_if(on.holds, fields, starts, shape, on.next, internal, j, v, t, m, sum),
+        quiet: !on.holds,
+    }
+}
+
 // What is seen of row k, whose partner is j: n looks, and the condition evaluated once where it is sum-free.
 fn row_seen<'a>(
     fields: &'a [u16; terms::MAX_FIELDS],
@@ -329,14 +354,14 @@ fn row_seen<'a>(
     let mut quiet = true;
     let mut sum = 0;
     while sum < n {
-        let on = on_at(fields, at, v, sum, free | (sum == 0), first);
-        if !held_if(on.holds, fields, starts, shape, on.next, internal, j, v, t, m, sum) {
+        let seen = look(fields, starts, shape, at, first, free, internal, j, v, t, m, sum);
+        if !seen.holds {
             return Seen {
                 holds: false,
                 quiet: false,
             };
         }
-        quiet = quiet & !on.holds;
+        quiet = quiet & seen.quiet;
         sum += 1;
     }
     Seen {
@@ -420,6 +445,25 @@ fn replied_if<'a>(
     condition.holds
 }
 
+// One look at a row whose condition stands at a place.
+fn replied<'a>(
+    fields: &'a [u16; terms::MAX_FIELDS],
+    starts: &'a [u16; 84],
+    shape: Shape,
+    at: usize,
+    first: Held,
+    free: bool,
+    j: u16,
+    v: &[u16; terms::MAX_PARAMETERS],
+    t: &[u16; terms::MAX_PARAMETERS],
+    sum: u16,
+) -> bool
+    ensures { λ r. ⌜ r ≡ repliedIn (now (fields .entry)) (now (starts .entry)) (countsOf shape) at first free j (now (v .entry)) (now (t .entry)) sum ⌝ }
+{
+    let on = on_at(fields, at, t, sum, free | (sum == 0), first);
+    replied_if(on.holds, fields, starts, shape, j, v, sum)
+}
+
 // Whether criterion 7 holds of row k, whose partner is j: n looks.
 fn row_replied<'a>(
     fields: &'a [u16; terms::MAX_FIELDS],
@@ -442,8 +486,7 @@ fn row_replied<'a>(
     }
     let mut sum = 0;
     while sum < n {
-        let on = on_at(fields, at, t, sum, free | (sum == 0), first);
-        if !replied_if(on.holds, fields, starts, shape, j, v, sum) {
+        if !replied(fields, starts, shape, at, first, free, j, v, t, sum) {
             return false;
         }
         sum += 1;
@@ -451,7 +494,25 @@ fn row_replied<'a>(
     true
 }
 
-// Whether it holds of each row, by the plan.
+// Whether it holds, by the plan, of the row with number i + 1.
+fn reply_planned<'a>(
+    fields: &'a [u16; terms::MAX_FIELDS],
+    starts: &'a [u16; 84],
+    shape: Shape,
+    plan: &[u16; ENTRIES],
+    i: u8,
+    v: &[u16; terms::MAX_PARAMETERS],
+    t: &[u16; terms::MAX_PARAMETERS],
+) -> bool
+    ensures { λ r. ⌜ r ≡ replyPlanned (now (fields .entry)) (now (starts .entry)) (countsOf shape) (now (plan .entry)) i (now (v .entry)) (now (t .entry)) ⌝ }
+{
+    let j = terms::field(plan, 3 * ROWS + i as usize);
+    let n = terms::field(plan, 4 * ROWS + i as usize);
+    let free = terms::field(plan, 5 * ROWS + i as usize);
+    row_replied(fields, starts, shape, i as u16 + 1, j, n, free == 1, v, t)
+}
+
+// Whether it holds of each row.
 fn rows_replied<'a>(
     fields: &'a [u16; terms::MAX_FIELDS],
     starts: &'a [u16; 84],
@@ -464,10 +525,7 @@ fn rows_replied<'a>(
 {
     let mut i = 0;
     while i < shape.kind4 {
-        let j = terms::field(plan, 3 * ROWS + i as usize);
-        let n = terms::field(plan, 4 * ROWS + i as usize);
-        let free = terms::field(plan, 5 * ROWS + i as usize);
-        if !row_replied(fields, starts, shape, i as u16 + 1, j, n, free == 1, v, t) {
+        if !reply_planned(fields, starts, shape, plan, i, v, t) {
             return false;
         }
         i += 1;

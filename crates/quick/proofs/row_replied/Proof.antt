@@ -28,7 +28,6 @@ row-replied-spec =
     (λ c. search laws.reply-ruled-out)
     (λ c. search laws.reply-begin)
     (λ c κs. search needs)
-    (λ c κs. search needs)
     (λ c. search laws.reply-fail)
     (λ c. search needs)
     (λ c. search needs)

@@ -29,7 +29,6 @@ row-seen-spec =
     (λ c κs. search needs)
     (λ c. search laws.row-begin)
     (λ c κs. search needs)
-    (λ c κs. search needs)
     (λ c. search laws.row-fail)
     (λ c. search needs)
     (λ c. search needs)
