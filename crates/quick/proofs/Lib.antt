@@ -1,2 +1,3 @@
 pub mod Planned
 pub mod Seeing
+pub mod Decided

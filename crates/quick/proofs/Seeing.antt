@@ -61,16 +61,16 @@ module _ (f s y t : List ℕ) (c : Counts) (j w e : ℕ) where
     carried : (x : Valued) → x ≡ answerV (h .next) t e (readV 32 (drop (h .next) f)) → evalV (rowOf (c .kind2) (drop line f) .carries) t e ≡ x .value
     carried x ex = rw (ex, eh, place f line 3 refl, place f (line + 3) _ refl)
 
-    pub answer-differs : (x : Valued) → not (h .holds) ≡ false → x ≡ answerV (h .next) t e (readV 32 (drop (h .next) f)) → (x .value ≡ w → ⊥)
+    pub answer-differs : (x : Valued) → not (h .holds) ≡ false → x ≡ answerV (h .next) t e (readV 32 (drop (h .next) f)) → (w ≡ x .value → ⊥)
         → false ≡ answeredIn f s c j w y t e
     unfolding answeredIn
-    answer-differs x yes-on ex ne = rw (row-is, on yes-on, carried x ex, ne-eqb (x .value) w ne)
+    answer-differs x yes-on ex ne = rw (row-is, on yes-on, carried x ex, ne-eqb w (x .value) ne)
 
-    pub answer-same : (x : Valued) (z : List ℕ) (b : Bool) → not (h .holds) ≡ false → x ≡ answerV (h .next) t e (readV 32 (drop (h .next) f)) → x .value ≡ w
+    pub answer-same : (x : Valued) (z : List ℕ) (b : Bool) → not (h .holds) ≡ false → x ≡ answerV (h .next) t e (readV 32 (drop (h .next) f)) → w ≡ x .value
         → z ≡ padded (valuesAt f (x .next) (c .kind2) t e) → b ≡ sameIn (c .kind2) y z → b ≡ answeredIn f s c j w y t e
     unfolding answeredIn valuesAt
     answer-same x z b yes-on ex eq ez eb =
-        rw (row-is, on yes-on, carried x ex, eq-eqb (x .value) w eq, eb, ez, ex, eh, place f line 3 refl, place f (line + 3) _ refl, place f (line + 3 + _) _ refl)
+        rw (row-is, on yes-on, carried x ex, eq-eqb w (x .value) eq, eb, ez, ex, eh, place f line 3 refl, place f (line + 3) _ refl, place f (line + 3 + _) _ refl)
 
 module _ (f s v t x : List ℕ) (c : Counts) (at j m e : ℕ) (b i : Bool) (d : Valued) (ed : d ≡ answerV at v e (readV 32 (drop at f)))
     (ex : x ≡ padded (valuesAt f (d .next) (c .kind1) v e)) (ei : i ≡ insideIn f s c x) where

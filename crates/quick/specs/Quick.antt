@@ -29,7 +29,7 @@ keptIn f s c x t m = sameIn (c .kind2) t (mappedIn f s c x) && ltb (measureIn f 
 unfoldable pub answeredIn : List ℕ → List ℕ → Counts → ℕ → ℕ → List ℕ → List ℕ → ℕ → Bool
 answeredIn f s c j w y t e =
     let q = specAt f s c j in
-    enabledB q t e && (eqb (dataNumber q t e) w && sameIn (c .kind2) y (padded (nextState q t e)))
+    enabledB q t e && (eqb w (dataNumber q t e) && sameIn (c .kind2) y (padded (nextState q t e)))
 
 -- a step to x with the data number w, internal or not
 abbrev pub stepTo : List ℕ → List ℕ → Counts → Bool → ℕ → List ℕ → ℕ → ℕ → List ℕ → ℕ → Bool

@@ -225,7 +225,7 @@ fn answered<'a>(
         return false;
     }
     let carried = eval::value(fields, condition.next, t, sum, terms::MAX_DEPTH);
-    if carried.value != carries {
+    if carries != carried.value {
         return false;
     }
     let next = steps::values(fields, carried.next, shape.kind2, t, sum);
