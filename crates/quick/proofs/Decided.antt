@@ -84,6 +84,33 @@ each-all G says l (suc n) b =
     ∙ all-in (λ i. G (says (l (b + suc i)))) (λ i. G (says (l (suc b + i)))) n 0 (λ j p u. let e : b + suc j ≡ suc b + j = omega arith in rw e)
     ∙ each-all G says l n (suc b)))
 
+each-yes : (rows : List Row) → eachB (λ (_ : Row). true) rows ≡ true
+each-yes [] = refl
+each-yes (r ∷ rows) = each-yes rows
+
+-- each of a list of rows, by their numbers from 1
+by-numbers : (G : Row → Bool) (rows : List Row) → allIn (λ k. G (getD rows k noRow)) (length rows) 0 ≡ eachB G rows
+unfolding allIn
+by-numbers G [] = refl
+by-numbers G (r ∷ rows) = ap (λ b. G r && b) (all-from (λ k. G (getD (r ∷ rows) k noRow)) (length rows) 0 ∙ by-numbers G rows)
+
+numbered : (G : Row → Bool) (rows : List Row) → G noRow ≡ true → allIn (λ k. G (rowAt rows k)) (suc (length rows)) 0 ≡ eachB G rows
+unfolding allIn
+numbered G rows none = rw none (all-from (λ k. G (rowAt rows k)) (length rows) 0 ∙ by-numbers G rows)
+
+seen-holds : (a b : Bool) → seen a b .holds ≡ a
+seen-holds true b = refl
+seen-holds false b = refl
+
+seen-quiet : (a b : Bool) → seen a b .quiet ≡ a && b
+seen-quiet true b = refl
+seen-quiet false b = refl
+
+-- where all rows hold, what is said of the others counts
+arranged : (a b r : Bool) → seen a (a && b) .holds && (seen a (a && b) .quiet ⇒ r) ≡ a && (b ⇒ r)
+arranged true b r = refl
+arranged false b r = refl
+
 -- ---- the entries of the plan
 
 module _ (f s : List ℕ) (c : Counts) where
@@ -295,3 +322,151 @@ module _ (f s : List ℕ) (c : Counts) (fits : Fit c) (x : List ℕ) (long : len
         go : (b : Bool) → internalB r ≡ b → not b || allIn (λ e. not (enabledB r x e)) (r .span) 0 ≡ B
         go true h = all-alike (λ e. not (enabledB r x e)) (λ e. not (internalTest x r e)) (r .span) 0 (λ e. ap (λ b. not (b && enabledB r x e)) (sym h))
         go false h = sym (all-alike (λ e. not (internalTest x r e)) (λ _. true) (r .span) 0 (λ e. ap (λ b. not (b && enabledB r x e)) h) ∙ all-yes (r .span) 0)
+
+  -- ---- the rows of the implementation by the plan
+
+  abbrev p : List ℕ
+  p = planIn f s c
+
+  abbrev implLineAt : ℕ → List ℕ
+  implLineAt i = lineFrom f s (implRowsAt c + i)
+
+  module _ (i : ℕ) (few : i < 32) where
+    partner-entry : getD p i 0 ≡ j (implLineAt i)
+    unfolding entryIn implPartner implBy
+    partner-entry =
+        plan-at f s c 0 i i few (omega arith) (omega arith) ∙ states.spec-row-of f s c (implBy f s c (i + 1) .action)
+        ∙ ap (λ (z : Row). rowOf (d .spec) (z .action)) (impl-row i)
+
+    looks-entry : getD p (32 + i) 0 ≡ looks (implLineAt i)
+    unfolding entryIn implLooks implPartner implBy specFree
+    looks-entry =
+        plan-at f s c 1 i (32 + i) few (omega arith) (omega arith)
+        ∙ rw (states.spec-row-of f s c (implBy f s c (i + 1) .action), spec-partner (implBy f s c (i + 1) .action))
+        (ap (λ (z : Row). looksOf (rowFree z && rowFree (partner (d .spec) (z .action))) (z .span)) (impl-row i))
+
+    flag-entry : eqb (getD p (64 + i) 0) 1 ≡ sumFreeF (r (implLineAt i) .condition)
+    unfolding entryIn implFlag conditionFree implBy
+    flag-entry =
+        ap (λ m. eqb m 1) (plan-at f s c 2 i (64 + i) few (omega arith) (omega arith))
+        ∙ flag-is (sumFreeF (implBy f s c (i + 1) .condition)) ∙ ap (λ (z : Row). sumFreeF (z .condition)) (impl-row i)
+
+    planned-held : plannedIn f s c p i v t (measureIn f s c v) ≡ seen (A (implLineAt i)) (B (implLineAt i))
+    unfolding plannedIn rowIn
+    planned-held =
+        rw (partner-entry, looks-entry, flag-entry, states.measure-held f s c x short, impl-row i)
+        (rw (all-held (implLineAt i), quiet-held (implLineAt i)))
+
+  abbrev allA : Bool
+  allA = allIn (λ i. A (implLineAt i)) (c .kind3) 0
+
+  abbrev allB : Bool
+  allB = allIn (λ i. B (implLineAt i)) (c .kind3) 0
+
+  impl-held : implIn f s c p v t (measureIn f s c v) ≡ seen allA (allA && allB)
+  unfolding implIn
+  impl-held =
+      rw (all-in (λ i. plannedIn f s c p i v t (measureIn f s c v) .holds) (λ i. A (implLineAt i)) (c .kind3) 0
+      (λ i z u. let few = fits .kind3 in ap (λ (g : Seen). g .holds) (planned-held i (omega arith)) ∙ seen-holds (A (implLineAt i)) (B (implLineAt i))),
+      all-in (λ i. plannedIn f s c p i v t (measureIn f s c v) .quiet) (λ i. A (implLineAt i) && B (implLineAt i)) (c .kind3) 0
+      (λ i z u. let few = fits .kind3 in ap (λ (g : Seen). g .quiet) (planned-held i (omega arith)) ∙ seen-quiet (A (implLineAt i)) (B (implLineAt i))),
+      all-both (λ i. A (implLineAt i)) (λ i. B (implLineAt i)) (c .kind3) 0)
+
+  rows-held : allA ≡ allRows (d .impl .rows) (rowHolds d x)
+  rows-held = each-all (λ z. allIn (λ e. rowHolds d x z e) (z .span) 0) (line.rowOf (c .kind1)) (lineFrom f s) (c .kind3) (implRowsAt c)
+
+  focus-held : allB ≡ focusB d x
+  unfolding allIn
+  focus-held =
+      each-all (λ z. allIn (λ e. not (internalTest x z e)) (z .span) 0) (line.rowOf (c .kind1)) (lineFrom f s) (c .kind3) (implRowsAt c)
+      ∙ sym (place-passes (suc (length (d .impl .rows))) (λ k. rowAt (d .impl .rows) k .span) (λ k e. internalTest x (rowAt (d .impl .rows) k) e) (λ k e. (k, e))
+      ∙ numbered (λ z. allIn (λ e. not (internalTest x z e)) (z .span) 0) (d .impl .rows) none)
+    where
+      none : allIn (λ e. not (internalTest x noRow e)) 0 0 ≡ true
+      none = refl
+
+  -- ---- the rows of the specification by the plan
+
+  abbrev specLineAt : ℕ → List ℕ
+  specLineAt i = lineFrom f s (specRowsAt c + i)
+
+  module _ (l : List ℕ) where
+    abbrev w : Row
+    w = line.rowOf (c .kind2) l
+
+    abbrev back : Row
+    back = partner (d .impl) (w .action)
+
+    abbrev replies : ℕ → Bool
+    replies e = enabledB w y e ⇒ enabledB back x e
+
+    abbrev backLooks : ℕ
+    backLooks = looksOf (sumFreeF (w .condition) && sumFreeF (back .condition)) (w .span)
+
+    replied-held : (e : ℕ) → repliedIf (onIn w t (sumFreeF (w .condition)) e) f s c (rowOf (d .impl) (w .action)) v e ≡ replies e
+    unfolding repliedIf
+    replied-held e =
+        rw (impl-partner (w .action), states.formula-held x short (back .condition) e, states.formula-held y short-mapped (w .condition) (pick (sumFreeF (w .condition)) 0 e))
+        (ap (λ b. b ⇒ enabledB back x e) (go (sumFreeF (w .condition)) refl))
+      where
+        go : (b : Bool) → sumFreeF (w .condition) ≡ b → evalF (w .condition) y (pick b 0 e) ≡ enabledB w y e
+        go true h = same-f (w .condition) y 0 e h
+        go false h = refl
+
+    replies-once : sumFreeF (w .condition) && sumFreeF (back .condition) ≡ true → (e : ℕ) → replies e ≡ replies 0
+    replies-once h e =
+        rw (same-f (w .condition) y e 0 (and-left (sumFreeF (w .condition)) (sumFreeF (back .condition)) h),
+        same-f (back .condition) x e 0 (and-right (sumFreeF (w .condition)) (sumFreeF (back .condition)) h))
+
+    reply-held : allIn (λ e. repliedIf (onIn w t (sumFreeF (w .condition)) e) f s c (rowOf (d .impl) (w .action)) v e) backLooks 0 ≡ allIn replies (w .span) 0
+    reply-held = all-alike _ replies backLooks 0 replied-held ∙ all-looks replies (sumFreeF (w .condition) && sumFreeF (back .condition)) (w .span) replies-once
+
+  module _ (i : ℕ) (few : i < 32) where
+    back-entry : getD p (96 + i) 0 ≡ rowOf (d .impl) (w (specLineAt i) .action)
+    unfolding entryIn specPartner specBy
+    back-entry =
+        plan-at f s c 3 i (96 + i) few (omega arith) (omega arith) ∙ states.impl-row-of f s c (specBy f s c (i + 1) .action)
+        ∙ ap (λ (z : Row). rowOf (d .impl) (z .action)) (spec-row i)
+
+    back-looks-entry : getD p (128 + i) 0 ≡ backLooks (specLineAt i)
+    unfolding entryIn specLooks specPartner specBy implFree conditionFree
+    back-looks-entry =
+        plan-at f s c 4 i (128 + i) few (omega arith) (omega arith)
+        ∙ rw (states.impl-row-of f s c (specBy f s c (i + 1) .action), impl-partner (specBy f s c (i + 1) .action))
+        (ap (λ (z : Row). looksOf (sumFreeF (z .condition) && sumFreeF (partner (d .impl) (z .action) .condition)) (z .span)) (spec-row i))
+
+    back-flag-entry : eqb (getD p (160 + i) 0) 1 ≡ sumFreeF (w (specLineAt i) .condition)
+    unfolding entryIn specFlag conditionFree specBy
+    back-flag-entry =
+        ap (λ m. eqb m 1) (plan-at f s c 5 i (160 + i) few (omega arith) (omega arith))
+        ∙ flag-is (sumFreeF (specBy f s c (i + 1) .condition)) ∙ ap (λ (z : Row). sumFreeF (z .condition)) (spec-row i)
+
+    reply-planned-held : replyPlanned f s c p i v t ≡ allIn (replies (specLineAt i)) (w (specLineAt i) .span) 0
+    unfolding replyPlanned replyIn
+    reply-planned-held = rw (back-entry, back-looks-entry, back-flag-entry, spec-row i) (reply-held (specLineAt i))
+
+  abbrev sevens : Bool
+  sevens = allRows (d .spec .rows) (λ z e. enabledB z y e ⇒ enabledB (partner (d .impl) (z .action)) x e)
+
+  spec-held : specIn f s c p v t ≡ sevens
+  unfolding specIn
+  spec-held =
+      all-in (λ i. replyPlanned f s c p i v t) (λ i. allIn (replies (specLineAt i)) (w (specLineAt i) .span) 0) (c .kind4) 0
+      (λ i z u. let few = fits .kind4 in reply-planned-held i (omega arith))
+      ∙ each-all (λ z. allIn (λ e. enabledB z y e ⇒ enabledB (partner (d .impl) (z .action)) x e) (z .span) 0) (line.rowOf (c .kind2)) (lineFrom f s) (c .kind4) (specRowsAt c)
+
+  -- criterion 7 at a focus point, and nothing elsewhere
+  sevens-held : (focusB d x ⇒ sevens) ≡ allRows (d .spec .rows) (holds7 d x)
+  sevens-held = go (focusB d x)
+    where
+      go : (b : Bool) → (b ⇒ sevens) ≡ allRows (d .spec .rows) (λ z e. b ⇒ enabledB z y e ⇒ enabledB (partner (d .impl) (z .action)) x e)
+      go true = refl
+      go false = sym (each-alike _ (λ _. true) (d .spec .rows) (λ z. all-yes (z .span) 0) ∙ each-yes (d .spec .rows))
+
+  -- ---- the state
+
+  pub quick-held : passesIn f s c (planIn f s c) v t ≡ stateHolds d x
+  unfolding passesIn
+  quick-held =
+      rw (states.mapped-below f s c fits x, impl-held, spec-held, focus-held, rows-held, ← sevens-held)
+      (ap (λ b. holds2 d x && b) (arranged (allRows (d .impl .rows) (rowHolds d x)) (focusB d x) sevens))
