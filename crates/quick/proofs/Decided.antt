@@ -266,15 +266,22 @@ module _ (f s : List ℕ) (c : Counts) (fits : Fit c) (x : List ℕ) (long : len
           go (inr m) = rw (no-row (r .action) e (m .number))
           go (inl g) =
               let long-next : length (nextState q y e) ≡ c .kind2 =
-                length-map (q .next) _ ∙ ap (λ (z : Row). length (z .next)) (found-partner (d .spec) (r .action) g)
-                ∙ states.rows-length f s (specRowsAt c) (c .kind4) (c .kind2) (g .at) (g .row) (g .is-row) in
+              length-map (q .next) _ ∙ ap (λ (z : Row). length (z .next)) (found-partner (d .spec) (r .action) g)
+              ∙ states.rows-length f s (specRowsAt c) (c .kind4) (c .kind2) (g .at) (g .row) (g .is-row) in
               rw (states.same-held (mapped d n) (nextState q y e) (c .kind2) (states.mapped-length f s c n) long-next (fits .kind2))
 
       step-held : stepOfRow f s c r j v t (measureAt d x) e ≡ insideB d n && pick (internalB r) (sameB y (mapped d n) && ltb (measureAt d n) (measureAt d x)) answers
       unfolding stepOfRow keptIn
       step-held =
-          rw (states.values-held x short (r .next) e, states.value-held x short (r .carries) e, states.inside-held f s c fits n n-length, states.mapped-held f s c n n-short,
-          states.measure-held f s c n n-short, states.same-held y (mapped d n) (c .kind2) (states.mapped-length f s c x) (states.mapped-length f s c n) (fits .kind2), answered-held)
+          rw (
+            states.values-held x short (r .next) e,
+            states.value-held x short (r .carries) e,
+            states.inside-held f s c fits n n-length,
+            states.mapped-held f s c n n-short,
+            states.measure-held f s c n n-short,
+            states.same-held y (mapped d n) (c .kind2) (states.mapped-length f s c x) (states.mapped-length f s c n) (fits .kind2),
+            answered-held,
+          )
 
       row-held : (enabledB r x e ⇒ stepOfRow f s c r j v t (measureAt d x) e) ≡ rowHolds d x r e
       row-held =
@@ -366,11 +373,13 @@ module _ (f s : List ℕ) (c : Counts) (fits : Fit c) (x : List ℕ) (long : len
   impl-held : implIn f s c p v t (measureIn f s c v) ≡ seen allA (allA && allB)
   unfolding implIn
   impl-held =
-      rw (all-in (λ i. plannedIn f s c p i v t (measureIn f s c v) .holds) (λ i. A (implLineAt i)) (c .kind3) 0
-      (λ i z u. let few = fits .kind3 in ap (λ (g : Seen). g .holds) (planned-held i (omega arith)) ∙ seen-holds (A (implLineAt i)) (B (implLineAt i))),
-      all-in (λ i. plannedIn f s c p i v t (measureIn f s c v) .quiet) (λ i. A (implLineAt i) && B (implLineAt i)) (c .kind3) 0
-      (λ i z u. let few = fits .kind3 in ap (λ (g : Seen). g .quiet) (planned-held i (omega arith)) ∙ seen-quiet (A (implLineAt i)) (B (implLineAt i))),
-      all-both (λ i. A (implLineAt i)) (λ i. B (implLineAt i)) (c .kind3) 0)
+      rw (
+        all-in (λ i. plannedIn f s c p i v t (measureIn f s c v) .holds) (λ i. A (implLineAt i)) (c .kind3) 0
+            (λ i z u. let few = fits .kind3 in ap (λ (g : Seen). g .holds) (planned-held i (omega arith)) ∙ seen-holds (A (implLineAt i)) (B (implLineAt i))),
+        all-in (λ i. plannedIn f s c p i v t (measureIn f s c v) .quiet) (λ i. A (implLineAt i) && B (implLineAt i)) (c .kind3) 0
+            (λ i z u. let few = fits .kind3 in ap (λ (g : Seen). g .quiet) (planned-held i (omega arith)) ∙ seen-quiet (A (implLineAt i)) (B (implLineAt i))),
+        all-both (λ i. A (implLineAt i)) (λ i. B (implLineAt i)) (c .kind3) 0,
+      )
 
   rows-held : allA ≡ allRows (d .impl .rows) (rowHolds d x)
   rows-held = each-all (λ z. allIn (λ e. rowHolds d x z e) (z .span) 0) (line.rowOf (c .kind1)) (lineFrom f s) (c .kind3) (implRowsAt c)
@@ -415,8 +424,10 @@ module _ (f s : List ℕ) (c : Counts) (fits : Fit c) (x : List ℕ) (long : len
 
     replies-once : sumFreeF (w .condition) && sumFreeF (back .condition) ≡ true → (e : ℕ) → replies e ≡ replies 0
     replies-once h e =
-        rw (same-f (w .condition) y e 0 (and-left (sumFreeF (w .condition)) (sumFreeF (back .condition)) h),
-        same-f (back .condition) x e 0 (and-right (sumFreeF (w .condition)) (sumFreeF (back .condition)) h))
+        rw (
+          same-f (w .condition) y e 0 (and-left (sumFreeF (w .condition)) (sumFreeF (back .condition)) h),
+          same-f (back .condition) x e 0 (and-right (sumFreeF (w .condition)) (sumFreeF (back .condition)) h),
+        )
 
     reply-held : allIn (λ e. repliedIf (onIn w t (sumFreeF (w .condition)) e) f s c (rowOf (d .impl) (w .action)) v e) backLooks 0 ≡ allIn replies (w .span) 0
     reply-held = all-alike _ replies backLooks 0 replied-held ∙ all-looks replies (sumFreeF (w .condition) && sumFreeF (back .condition)) (w .span) replies-once

@@ -52,7 +52,7 @@ module _ (f s y t : List ℕ) (c : Counts) (j w e : ℕ) where
     unfolding answeredIn
     answer-off is-off =
         let off : evalF (rowOf (c .kind2) (drop line f) .condition) t e ≡ false =
-          rw (place f line 3 refl) (sym (ap (λ r. r .holds) eh) ∙ not-true (h .holds) is-off) in
+        rw (place f line 3 refl) (sym (ap (λ r. r .holds) eh) ∙ not-true (h .holds) is-off) in
         rw (row-is, off)
 
     on : not (h .holds) ≡ false → evalF (rowOf (c .kind2) (drop line f) .condition) t e ≡ true

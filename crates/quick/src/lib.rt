@@ -66,7 +66,12 @@ fn condition_free(fields: &[u16; terms::MAX_FIELDS], line: u16) -> bool
 }
 
 // The same of row k of the specification as a whole, and of the condition of row k of the implementation; no row reads nothing.
-fn spec_free<'a>(fields: &'a [u16; terms::MAX_FIELDS], starts: &'a [u16; 84], shape: Shape, k: u16) -> bool
+fn spec_free<'a>(
+    fields: &'a [u16; terms::MAX_FIELDS],
+    starts: &'a [u16; 84],
+    shape: Shape,
+    k: u16,
+) -> bool
     ensures { λ r. ⌜ r ≡ specFree (now (fields .entry)) (now (starts .entry)) (countsOf shape) k ⌝ }
 {
     if k == 0 {
@@ -75,7 +80,12 @@ fn spec_free<'a>(fields: &'a [u16; terms::MAX_FIELDS], starts: &'a [u16; 84], sh
     row_free(fields, steps::spec_line(starts, shape, k), shape.kind2)
 }
 
-fn impl_free<'a>(fields: &'a [u16; terms::MAX_FIELDS], starts: &'a [u16; 84], shape: Shape, k: u16) -> bool
+fn impl_free<'a>(
+    fields: &'a [u16; terms::MAX_FIELDS],
+    starts: &'a [u16; 84],
+    shape: Shape,
+    k: u16,
+) -> bool
     ensures { λ r. ⌜ r ≡ implFree (now (fields .entry)) (now (starts .entry)) (countsOf shape) k ⌝ }
 {
     if k == 0 {
@@ -104,14 +114,24 @@ fn flag(b: bool) -> u16
 }
 
 // The entries of row k of the implementation: its partner's number, its looks, and whether its condition is sum-free.
-fn impl_partner<'a>(fields: &'a [u16; terms::MAX_FIELDS], starts: &'a [u16; 84], shape: Shape, k: u16) -> u16
+fn impl_partner<'a>(
+    fields: &'a [u16; terms::MAX_FIELDS],
+    starts: &'a [u16; 84],
+    shape: Shape,
+    k: u16,
+) -> u16
     ensures { λ r. ⌜ r ≡ implPartner (now (fields .entry)) (now (starts .entry)) (countsOf shape) k ⌝ }
 {
     let line = steps::impl_line(starts, shape, k);
     steps::spec_row(fields, starts, shape, layout::field_of(fields, line, 1))
 }
 
-fn impl_looks<'a>(fields: &'a [u16; terms::MAX_FIELDS], starts: &'a [u16; 84], shape: Shape, k: u16) -> u16
+fn impl_looks<'a>(
+    fields: &'a [u16; terms::MAX_FIELDS],
+    starts: &'a [u16; 84],
+    shape: Shape,
+    k: u16,
+) -> u16
     ensures { λ r. ⌜ r ≡ implLooks (now (fields .entry)) (now (starts .entry)) (countsOf shape) k ⌝ }
 {
     let line = steps::impl_line(starts, shape, k);
@@ -120,21 +140,36 @@ fn impl_looks<'a>(fields: &'a [u16; terms::MAX_FIELDS], starts: &'a [u16; 84], s
     looks(free, layout::field_of(fields, line, 2))
 }
 
-fn impl_flag<'a>(fields: &'a [u16; terms::MAX_FIELDS], starts: &'a [u16; 84], shape: Shape, k: u16) -> u16
+fn impl_flag<'a>(
+    fields: &'a [u16; terms::MAX_FIELDS],
+    starts: &'a [u16; 84],
+    shape: Shape,
+    k: u16,
+) -> u16
     ensures { λ r. ⌜ r ≡ implFlag (now (fields .entry)) (now (starts .entry)) (countsOf shape) k ⌝ }
 {
     flag(condition_free(fields, steps::impl_line(starts, shape, k)))
 }
 
 // Of row k of the specification: for criterion 7 the conditions are all that counts.
-fn spec_partner<'a>(fields: &'a [u16; terms::MAX_FIELDS], starts: &'a [u16; 84], shape: Shape, k: u16) -> u16
+fn spec_partner<'a>(
+    fields: &'a [u16; terms::MAX_FIELDS],
+    starts: &'a [u16; 84],
+    shape: Shape,
+    k: u16,
+) -> u16
     ensures { λ r. ⌜ r ≡ specPartner (now (fields .entry)) (now (starts .entry)) (countsOf shape) k ⌝ }
 {
     let line = steps::spec_line(starts, shape, k);
     steps::impl_row(fields, starts, shape, layout::field_of(fields, line, 1))
 }
 
-fn spec_looks<'a>(fields: &'a [u16; terms::MAX_FIELDS], starts: &'a [u16; 84], shape: Shape, k: u16) -> u16
+fn spec_looks<'a>(
+    fields: &'a [u16; terms::MAX_FIELDS],
+    starts: &'a [u16; 84],
+    shape: Shape,
+    k: u16,
+) -> u16
     ensures { λ r. ⌜ r ≡ specLooks (now (fields .entry)) (now (starts .entry)) (countsOf shape) k ⌝ }
 {
     let line = steps::spec_line(starts, shape, k);
@@ -143,7 +178,12 @@ fn spec_looks<'a>(fields: &'a [u16; terms::MAX_FIELDS], starts: &'a [u16; 84], s
     looks(free, layout::field_of(fields, line, 2))
 }
 
-fn spec_flag<'a>(fields: &'a [u16; terms::MAX_FIELDS], starts: &'a [u16; 84], shape: Shape, k: u16) -> u16
+fn spec_flag<'a>(
+    fields: &'a [u16; terms::MAX_FIELDS],
+    starts: &'a [u16; 84],
+    shape: Shape,
+    k: u16,
+) -> u16
     ensures { λ r. ⌜ r ≡ specFlag (now (fields .entry)) (now (starts .entry)) (countsOf shape) k ⌝ }
 {
     flag(condition_free(fields, steps::spec_line(starts, shape, k)))
@@ -170,7 +210,11 @@ fn entry<'a>(
 }
 
 // All entries: those of one sort for all rows, then the next sort.
-pub fn plan<'a>(fields: &'a [u16; terms::MAX_FIELDS], starts: &'a [u16; 84], shape: Shape) -> [u16; ENTRIES]
+pub fn plan<'a>(
+    fields: &'a [u16; terms::MAX_FIELDS],
+    starts: &'a [u16; 84],
+    shape: Shape,
+) -> [u16; ENTRIES]
     ensures { λ r. ⌜ r ≡ planIn (now (fields .entry)) (now (starts .entry)) (countsOf shape) ⌝ }
 {
     let mut out = [0u16; ENTRIES];
@@ -321,7 +365,19 @@ fn look<'a>(
 {
     let on = on_at(fields, at, v, sum, free | (sum == 0), first);
     Seen {
-        holds: held_if(on.holds, fields, starts, shape, on.next, internal, j, v, t, m, sum),
+        holds: held_if(
+            on.holds,
+            fields,
+            starts,
+            shape,
+            on.next,
+            internal,
+            j,
+            v,
+            t,
+            m,
+            sum,
+        ),
         quiet: !on.holds,
     }
 }
@@ -354,7 +410,20 @@ fn row_seen<'a>(
     let mut quiet = true;
     let mut sum = 0;
     while sum < n {
-        let seen = look(fields, starts, shape, at, first, free, internal, j, v, t, m, sum);
+        let seen = look(
+            fields,
+            starts,
+            shape,
+            at,
+            first,
+            free,
+            internal,
+            j,
+            v,
+            t,
+            m,
+            sum,
+        );
         if !seen.holds {
             return Seen {
                 holds: false,
@@ -386,7 +455,18 @@ fn row_planned<'a>(
     let j = terms::field(plan, i as usize);
     let n = terms::field(plan, ROWS + i as usize);
     let free = terms::field(plan, 2 * ROWS + i as usize);
-    row_seen(fields, starts, shape, i as u16 + 1, j, n, free == 1, v, t, m)
+    row_seen(
+        fields,
+        starts,
+        shape,
+        i as u16 + 1,
+        j,
+        n,
+        free == 1,
+        v,
+        t,
+        m,
+    )
 }
 
 // What is seen of all rows.

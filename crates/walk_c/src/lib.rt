@@ -66,7 +66,11 @@ pub extern "C" fn walk_start<'a>(
         kind3: kind3,
         kind4: kind4,
     };
-    if walk::start_holds(fields, starts, counts) { 1 } else { 0 }
+    if walk::start_holds(fields, starts, counts) {
+        1
+    } else {
+        0
+    }
 }
 
 // How many states there are, and the number of the initial one.
