@@ -25,7 +25,7 @@ use Rattle.criteria.specs.Design.{Design, Row, State, values, mapped, measureAt
 use Rattle.criteria.specs.Step.{nextState, dataNumber}
 use Rattle.criteria.specs.Rows.{noRow, rowAt, internalTest}
 use Rattle.criteria.proofs.Rows.{is-row-below}
-use Rattle.decision.specs.Tests.{enabledB, internalB, insideB, focusB, rowOf, partner, holds2, holds3, holds4, holds5, holds6, holds7, holds8, holds9}
+use Rattle.decision.specs.Tests.{enabledB, internalB, invariantStateB, focusB, rowOf, partner, holds2, holds3, holds4, holds5, holds6, holds7, holds8, holds9}
 use Rattle.decision.specs.Quick.{allRows, rowHolds, stateHolds}
 use Rattle.decision.proofs.Find.{Found, Missing, find, found-at, found-some, found-partner}
 use Rattle.design.specs.Line as line
@@ -270,7 +270,7 @@ module _ (f s : List ℕ) (c : Counts) (fits : Fit c) (x : List ℕ) (long : len
               ∙ states.rows-length f s (specRowsAt c) (c .kind4) (c .kind2) (g .at) (g .row) (g .is-row) in
               rw (states.same-held (mapped d n) (nextState q y e) (c .kind2) (states.mapped-length f s c n) long-next (fits .kind2))
 
-      step-held : stepOfRow f s c r j v t (measureAt d x) e ≡ insideB d n && pick (internalB r) (sameB y (mapped d n) && ltb (measureAt d n) (measureAt d x)) answers
+      step-held : stepOfRow f s c r j v t (measureAt d x) e ≡ invariantStateB d n && pick (internalB r) (sameB y (mapped d n) && ltb (measureAt d n) (measureAt d x)) answers
       unfolding stepOfRow keptIn
       step-held =
           rw (
@@ -286,7 +286,7 @@ module _ (f s : List ℕ) (c : Counts) (fits : Fit c) (x : List ℕ) (long : len
       row-held : (enabledB r x e ⇒ stepOfRow f s c r j v t (measureAt d x) e) ≡ rowHolds d x r e
       row-held =
           rw step-held
-          (six (enabledB r x e) (insideB d n) (internalB r) (sameB y (mapped d n)) (ltb (measureAt d n) (measureAt d x)) (enabledB q y e) (eqb j 0)
+          (six (enabledB r x e) (invariantStateB d n) (internalB r) (sameB y (mapped d n)) (ltb (measureAt d n) (measureAt d x)) (enabledB q y e) (eqb j 0)
           (eqb (dataNumber r x e) (dataNumber q y e)) (sameB (mapped d n) (nextState q y e)) (λ z. no-row (r .action) e (eqb-true j 0 z)))
 
       on-held : onIn r v (sumFreeF (r .condition)) e ≡ enabledB r x e
