@@ -18,6 +18,8 @@ use Rattle.foundation.proofs.First.{all-alike, all-both, all-from}
 use Rattle.foundation.proofs.Nth.{each-alike}
 use Rattle.foundation.proofs.Trial.{place-passes}
 use Rattle.terms.specs.Tree.{Value, pick, evalV, evalF}
+use Rattle.terms.specs.Read.{readF}
+use Rattle.terms.proofs.Read.{place}
 use Rattle.terms.proofs.And.{and-left, and-right}
 use Rattle.sum_free.specs.SumFree.{sumFreeV, sumFreeF}
 use Rattle.sum_free.proofs.SumFree.{same-v, same-f}
@@ -32,12 +34,19 @@ use Rattle.design.specs.Line as line
 use Rattle.design.specs.Loaded.{lineFrom, eachLine, implRowsAt, specRowsAt, designIn}
 use Rattle.design.specs.declared.Counts.{Counts}
 use Rattle.layout.specs.Sizes.{Fit}
-use Rattle.steps.specs.Arrays.{padded, rowsFrom, sameIn, insideIn, mappedIn, measureIn, implLine, specLine}
+use Rattle.steps.specs.Arrays.{padded, valuesAt, rowsFrom, sameIn, insideIn, mappedIn, measureIn, implLine, specLine}
 use Rattle.steps.proofs.Arrays.{each-length, row-there}
 use Rattle.steps.proofs.States as states
-use Rattle.quick.specs.Plan.{implBy, specBy, implAt, specAt, conditionFree, rowFree, specFree, implFree, looksOf, flagOf, implPartner, implLooks, implFlag, specPartner, specLooks, specFlag, entryIn, entriesFrom, planIn}
-use Rattle.quick.specs.Quick.{keptIn, answeredIn, stepTo, stepOfRow, seen, onIn, rowIn, plannedIn, implIn, repliedIf, replyIn, replyPlanned, specIn, passesIn}
+use Rattle.quick.specs.Conjuncts.{frontOf, guardIn}
+use Rattle.quick.proofs.Conjuncts.{guards}
+use Rattle.quick.specs.Plan.{implBy, specBy, implAt, specAt, conditionFree, rowFree, specFree, implFree, looksOf, flagOf, implPartner, implLooks, implFlag, specPartner, specLooks, specFlag, implFront, specFront, entryIn, entriesFrom, planIn}
+use Rattle.quick.specs.Quick.{keptIn, answeredIn, stepTo, stepIn, stepOfRow, seen, onAt, looksIn, rowIn, plannedIn, implIn, repliedIf, replyLooks, replyIn, replyPlanned, specIn, passesIn}
 use Rattle.quick.specs.declared.Seen.{Seen}
+use Rattle.quick.specs.declared.Guarded.{Guarded}
+
+-- a row's condition for the sum value e, taken for 0 where it is said to be sum-free
+abbrev onIn : Row → List ℕ → Bool → ℕ → Bool
+onIn r v free e = enabledB r v (pick free 0 e)
 
 -- ---- tests of numbers, one after the other
 
@@ -84,6 +93,10 @@ each-all G says l (suc n) b =
     ∙ all-in (λ i. G (says (l (b + suc i)))) (λ i. G (says (l (suc b + i)))) n 0 (λ j p u. let e : b + suc j ≡ suc b + j = omega arith in rw e)
     ∙ each-all G says l n (suc b)))
 
+or-true : (a : Bool) → a || true ≡ true
+or-true true = refl
+or-true false = refl
+
 each-yes : (rows : List Row) → eachB (λ (_ : Row). true) rows ≡ true
 each-yes [] = refl
 each-yes (r ∷ rows) = each-yes rows
@@ -120,12 +133,12 @@ module _ (f s : List ℕ) (c : Counts) where
   entry-at (suc n) i zero l = let e : i + 0 ≡ i = omega arith in rw e
   entry-at (suc n) i (suc k) l = let e : suc i + k ≡ i + suc k = omega arith in entry-at n (suc i) k (omega arith) ∙ rw e
 
-  plan-at : (w i k : ℕ) → i < 32 → w < 6 → k ≡ w * 32 + i → getD (planIn f s c) k 0 ≡ entryIn f s c w (i + 1)
+  plan-at : (w i k : ℕ) → i < 32 → w < 8 → k ≡ w * 32 + i → getD (planIn f s c) k 0 ≡ entryIn f s c w (i + 1)
   unfolding planIn
   plan-at w i k l u e =
       let q : (0 + k) / 32 ≡ w = omega arith in
       let m : (0 + k) % 32 ≡ i = omega arith in
-      entry-at 192 0 k (omega arith) ∙ rw (q, m)
+      entry-at 256 0 k (omega arith) ∙ rw (q, m)
 
 flag-is : (b : Bool) → eqb (flagOf b) 1 ≡ b
 unfolding flagOf
@@ -168,6 +181,75 @@ row-same r x e h =
       number = same-v (r .carries) x e 0 (and-left (sumFreeV (r .carries)) rest k);
       next = values-same (r .next) x e (and-right (sumFreeV (r .carries)) rest k);
     }
+
+-- ---- the conjuncts in front of a condition
+
+module _ (f s : List ℕ) (c : Counts) (v t : List ℕ) (l : ℕ) where
+  abbrev front : List ℕ → Guarded
+  front z = guardIn f z (frontOf f (l + 3) 32) (l + 3) 32
+
+  -- the condition of the row in the line that starts at l
+  on-guarded : (z : List ℕ) (n e : ℕ) → enabledB (line.rowOf n (drop l f)) z e ≡ front z .holds && evalF (readF (front z .depth) (drop (front z .at) f) .tree) z e
+  on-guarded z n e = rw (place f l 3 refl) (guards f z e 32 (l + 3) .says)
+
+  module _ (j n m : ℕ) (free : Bool) where
+    abbrev row : Row
+    row = line.rowOf (c .kind1) (drop l f)
+
+    -- its step, by where the data stand
+    step-by-place : (e : ℕ) → stepIn f s c (l + 3 + readF 32 (drop (l + 3) f) .used) (internalB row) j v t m e ≡ stepOfRow f s c row j v t m e
+    unfolding stepIn stepOfRow valuesAt
+    step-by-place e = rw (place f l 3 refl, place f (l + 3) _ refl, place f (l + 3 + _) _ refl)
+
+    guarded-row : pick (front v .holds) (looksIn f s c (front v .at) (front v .depth) free (internalB row) j n v t m) (seen true true)
+        ≡ seen (allIn (λ e. onIn row v free e ⇒ stepOfRow f s c row j v t m e) n 0) (not (internalB row) || allIn (λ e. not (onIn row v free e)) n 0)
+    unfolding looksIn
+    guarded-row = go (front v .holds) refl
+      where
+        H : ℕ → Bool
+        H e = onIn row v free e ⇒ stepOfRow f s c row j v t m e
+
+        I : ℕ → Bool
+        I e = not (onIn row v free e)
+
+        go : (b : Bool) → front v .holds ≡ b → pick b (looksIn f s c (front v .at) (front v .depth) free (internalB row) j n v t m) (seen true true)
+            ≡ seen (allIn H n 0) (not (internalB row) || allIn I n 0)
+        go true h =
+            let on : (e : ℕ) → evalF (readF (front v .depth) (drop (front v .at) f) .tree) v (pick free 0 e) ≡ onIn row v free e =
+            λ e. sym (on-guarded v (c .kind1) (pick free 0 e) ∙ ap (λ b. b && evalF (readF (front v .depth) (drop (front v .at) f) .tree) v (pick free 0 e)) h) in
+            let step : (e : ℕ) → stepIn f s c (front v .at + readF (front v .depth) (drop (front v .at) f) .used) (internalB row) j v t m e ≡ stepOfRow f s c row j v t m e =
+            λ e. ap (λ k. stepIn f s c k (internalB row) j v t m e) (sym (guards f v e 32 (l + 3) .ends h)) ∙ step-by-place e in
+            λ i. seen (all-alike _ H n 0 (λ e k. on e k ⇒ step e k) i) (not (internalB row) || all-alike _ I n 0 (λ e. ap not (on e)) i)
+        go false h =
+            let off : (e : ℕ) → onIn row v free e ≡ false =
+            λ e. on-guarded v (c .kind1) (pick free 0 e) ∙ ap (λ b. b && evalF (readF (front v .depth) (drop (front v .at) f) .tree) v (pick free 0 e)) h in
+            sym
+            (rw (all-alike H (λ _. true) n 0 (λ e. ap (λ b. b ⇒ stepOfRow f s c row j v t m e) (off e)), all-alike I (λ _. true) n 0 (λ e. ap not (off e)), all-yes n 0, or-true (not (internalB row))))
+
+  module _ (j n : ℕ) (free : Bool) where
+    guarded-reply : pick (front t .holds) (replyLooks f s c (front t .at) (front t .depth) free j n v t) true
+        ≡ allIn (λ e. repliedIf (onIn (line.rowOf (c .kind2) (drop l f)) t free e) f s c j v e) n 0
+    unfolding replyLooks repliedIf
+    guarded-reply = go (front t .holds) refl
+      where
+        back : Row
+        back = line.rowOf (c .kind2) (drop l f)
+
+        R : ℕ → Bool
+        R e = repliedIf (onIn back t free e) f s c j v e
+
+        go : (b : Bool) → front t .holds ≡ b → pick b (replyLooks f s c (front t .at) (front t .depth) free j n v t) true ≡ allIn R n 0
+        go true h =
+            all-alike _ R n 0
+            (λ e. ap (λ b. repliedIf b f s c j v e)
+            (sym (on-guarded t (c .kind2) (pick free 0 e) ∙ ap (λ b. b && evalF (readF (front t .depth) (drop (front t .at) f) .tree) t (pick free 0 e)) h)))
+        go false h = sym (all-alike R (λ _. true) n 0 (λ e. ap (λ b. repliedIf b f s c j v e) (off e) ∙ idle e) ∙ all-yes n 0)
+          where
+            off : (e : ℕ) → onIn back t free e ≡ false
+            off e = on-guarded t (c .kind2) (pick free 0 e) ∙ ap (λ b. b && evalF (readF (front t .depth) (drop (front t .at) f) .tree) t (pick free 0 e)) h
+
+            idle : (e : ℕ) → repliedIf false f s c j v e ≡ true
+            idle e = refl
 
 -- ---- the design
 
@@ -358,11 +440,19 @@ module _ (f s : List ℕ) (c : Counts) (fits : Fit c) (x : List ℕ) (long : len
         ap (λ m. eqb m 1) (plan-at f s c 2 i (64 + i) few (omega arith) (omega arith))
         ∙ flag-is (sumFreeF (implBy f s c (i + 1) .condition)) ∙ ap (λ (z : Row). sumFreeF (z .condition)) (impl-row i)
 
+    front-entry : getD p (192 + i) 0 ≡ frontOf f (getD s (implRowsAt c + i) 0 + 3) 32
+    unfolding entryIn implFront implLine
+    front-entry =
+        let e : implRowsAt c + (i + 1) - 1 ≡ implRowsAt c + i = omega arith in
+        plan-at f s c 6 i (192 + i) few (omega arith) (omega arith) ∙ rw e
+
     planned-held : plannedIn f s c p i v t (measureIn f s c v) ≡ seen (A (implLineAt i)) (B (implLineAt i))
-    unfolding plannedIn rowIn
+    unfolding plannedIn rowIn implLine
     planned-held =
-        rw (partner-entry, looks-entry, flag-entry, states.measure-held f s c x short, impl-row i)
-        (rw (all-held (implLineAt i), quiet-held (implLineAt i)))
+        let e : implRowsAt c + (i + 1) - 1 ≡ implRowsAt c + i = omega arith in
+        rw (partner-entry, looks-entry, flag-entry, front-entry, states.measure-held f s c x short, impl-row i, e)
+        (guarded-row f s c v t (getD s (implRowsAt c + i) 0) (j (implLineAt i)) (looks (implLineAt i)) (measureAt d x) (sumFreeF (r (implLineAt i) .condition))
+        ∙ rw (all-held (implLineAt i), quiet-held (implLineAt i)))
 
   abbrev allA : Bool
   allA = allIn (λ i. A (implLineAt i)) (c .kind3) 0
@@ -452,9 +542,19 @@ module _ (f s : List ℕ) (c : Counts) (fits : Fit c) (x : List ℕ) (long : len
         ap (λ m. eqb m 1) (plan-at f s c 5 i (160 + i) few (omega arith) (omega arith))
         ∙ flag-is (sumFreeF (specBy f s c (i + 1) .condition)) ∙ ap (λ (z : Row). sumFreeF (z .condition)) (spec-row i)
 
+    back-front-entry : getD p (224 + i) 0 ≡ frontOf f (getD s (specRowsAt c + i) 0 + 3) 32
+    unfolding entryIn specFront specLine
+    back-front-entry =
+        let e : specRowsAt c + (i + 1) - 1 ≡ specRowsAt c + i = omega arith in
+        plan-at f s c 7 i (224 + i) few (omega arith) (omega arith) ∙ rw e
+
     reply-planned-held : replyPlanned f s c p i v t ≡ allIn (replies (specLineAt i)) (w (specLineAt i) .span) 0
-    unfolding replyPlanned replyIn
-    reply-planned-held = rw (back-entry, back-looks-entry, back-flag-entry, spec-row i) (reply-held (specLineAt i))
+    unfolding replyPlanned replyIn specLine
+    reply-planned-held =
+        let e : specRowsAt c + (i + 1) - 1 ≡ specRowsAt c + i = omega arith in
+        rw (back-entry, back-looks-entry, back-flag-entry, back-front-entry, e)
+        (guarded-reply f s c v t (getD s (specRowsAt c + i) 0) (rowOf (d .impl) (w (specLineAt i) .action)) (backLooks (specLineAt i)) (sumFreeF (w (specLineAt i) .condition))
+        ∙ reply-held (specLineAt i))
 
   abbrev sevens : Bool
   sevens = allRows (d .spec .rows) (λ z e. enabledB z y e ⇒ enabledB (partner (d .impl) (z .action)) x e)

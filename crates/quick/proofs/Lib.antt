@@ -1,3 +1,4 @@
+pub mod Conjuncts
 pub mod Planned
 pub mod Seeing
 pub mod Decided

@@ -17,7 +17,8 @@ use Rattle.sum_free.specs.declared.Found.{Found}
 use Rattle.design.specs.Line.{rowOf, valuesIn}
 use Rattle.design.specs.declared.Counts.{Counts}
 use Rattle.steps.specs.Arrays.{implLine, specLine, implRow, specRow}
-use Rattle.quick.specs.Plan.{implBy, specBy, implAt, specAt, valuesFree, conditionFree, rowFree, specFree, implFree, looksOf, flagOf, implPartner, implLooks, implFlag, specPartner, specLooks, specFlag, entryIn, entriesFrom, planIn}
+use Rattle.quick.specs.Conjuncts.{frontOf}
+use Rattle.quick.specs.Plan.{implBy, specBy, implAt, specAt, valuesFree, conditionFree, rowFree, specFree, implFree, looksOf, flagOf, implPartner, implLooks, implFlag, specPartner, specLooks, specFlag, implFront, specFront, entryIn, entriesFrom, planIn}
 
 -- ---- terms that do not read the sum value
 
@@ -127,6 +128,15 @@ module _ (f s : List ℕ) (c : Counts) (k line : ℕ) where
   unfolding specFlag
   spec-flag-is b r el eb er = er ∙ rw (eb, el)
 
+module _ (f s : List ℕ) (c : Counts) (k line r : ℕ) where
+  pub impl-front-is : line ≡ implLine s c k → r ≡ frontOf f (line + 3) 32 → r ≡ implFront f s c k
+  unfolding implFront
+  impl-front-is el er = er ∙ rw el
+
+  pub spec-front-is : line ≡ specLine s c k → r ≡ frontOf f (line + 3) 32 → r ≡ specFront f s c k
+  unfolding specFront
+  spec-front-is el er = er ∙ rw el
+
 module _ (f s : List ℕ) (c : Counts) (w k r : ℕ) where
   pub sort0 : w ≡ 0 → r ≡ implPartner f s c k → r ≡ entryIn f s c w k
   unfolding entryIn
@@ -148,15 +158,24 @@ module _ (f s : List ℕ) (c : Counts) (w k r : ℕ) where
   unfolding entryIn
   sort4 h er = er ∙ rw h
 
-  pub sort5 : (w ≡ 0 → ⊥) → (w ≡ 1 → ⊥) → (w ≡ 2 → ⊥) → (w ≡ 3 → ⊥) → (w ≡ 4 → ⊥) → r ≡ specFlag f s c k → r ≡ entryIn f s c w k
+  pub sort5 : w ≡ 5 → r ≡ specFlag f s c k → r ≡ entryIn f s c w k
   unfolding entryIn
-  sort5 h0 h1 h2 h3 h4 er = er ∙ simp (ne-eqb w 0 h0, ne-eqb w 1 h1, ne-eqb w 2 h2, ne-eqb w 3 h3, ne-eqb w 4 h4)
+  sort5 h er = er ∙ rw h
+
+  pub sort6 : w ≡ 6 → r ≡ implFront f s c k → r ≡ entryIn f s c w k
+  unfolding entryIn
+  sort6 h er = er ∙ rw h
+
+  pub sort7 : (w ≡ 0 → ⊥) → (w ≡ 1 → ⊥) → (w ≡ 2 → ⊥) → (w ≡ 3 → ⊥) → (w ≡ 4 → ⊥) → (w ≡ 5 → ⊥) → (w ≡ 6 → ⊥) → r ≡ specFront f s c k → r ≡ entryIn f s c w k
+  unfolding entryIn
+  sort7 h0 h1 h2 h3 h4 h5 h6 er =
+      er ∙ simp (ne-eqb w 0 h0, ne-eqb w 1 h1, ne-eqb w 2 h2, ne-eqb w 3 h3, ne-eqb w 4 h4, ne-eqb w 5 h5, ne-eqb w 6 h6)
 
 -- ---- all of them, one after the other
 
 module _ (f s : List ℕ) (c : Counts) where
   unfoldable pub planLeft : List ℕ → ℕ → List ℕ
-  planLeft w i = sets w i (entriesFrom f s c (192 - i) i)
+  planLeft w i = sets w i (entriesFrom f s c (256 - i) i)
 
   entries-length : (n i : ℕ) → length (entriesFrom f s c n i) ≡ n
   unfolding entriesFrom
@@ -164,26 +183,26 @@ module _ (f s : List ℕ) (c : Counts) where
   entries-length (suc n) i = ap suc (entries-length n (suc i))
 
   -- a full array: nothing of what it held before is left
-  pub plan-begin : planLeft (replicate 192 0) 0 ≡ planIn f s c
+  pub plan-begin : planLeft (replicate 256 0) 0 ≡ planIn f s c
   unfolding planLeft planIn
-  plan-begin = all-stored (entriesFrom f s c 192 0) (entries-length 192 0)
+  plan-begin = all-stored (entriesFrom f s c 256 0) (entries-length 256 0)
     where
-      all-stored : (vs : List ℕ) → length vs ≡ 192 → sets (replicate 192 0) 0 vs ≡ vs
+      all-stored : (vs : List ℕ) → length vs ≡ 256 → sets (replicate 256 0) 0 vs ≡ vs
       all-stored vs e =
-          let l : 0 + length vs ≤ length (replicate {A = ℕ} 192 0) = omega (arith, length-replicate {A = ℕ} 192 0) in
-          let u : length (replicate {A = ℕ} 192 0) ≤ 0 + length vs = omega (arith, length-replicate {A = ℕ} 192 0) in
-          sets-eq vs (replicate 192 0) 0 l ∙ ap (λ r. vs ++ r) (drop-of-length-le (replicate 192 0) u) ∙ append-nil vs
+          let l : 0 + length vs ≤ length (replicate {A = ℕ} 256 0) = omega (arith, length-replicate {A = ℕ} 256 0) in
+          let u : length (replicate {A = ℕ} 256 0) ≤ 0 + length vs = omega (arith, length-replicate {A = ℕ} 256 0) in
+          sets-eq vs (replicate 256 0) 0 l ∙ ap (λ r. vs ++ r) (drop-of-length-le (replicate 256 0) u) ∙ append-nil vs
 
-  pub plan-turn : (w : List ℕ) (i r : ℕ) → i < 192 → r ≡ entryIn f s c (i / 32) (i % 32 + 1) → planLeft w i ≡ planIn f s c → planLeft (set w i r) (i + 1) ≡ planIn f s c
+  pub plan-turn : (w : List ℕ) (i r : ℕ) → i < 256 → r ≡ entryIn f s c (i / 32) (i % 32 + 1) → planLeft w i ≡ planIn f s c → planLeft (set w i r) (i + 1) ≡ planIn f s c
   unfolding planLeft entriesFrom
   plan-turn w i r l er inv = go ∙ inv
     where
       go : planLeft (set w i r) (i + 1) ≡ planLeft w i
-      go = let e : 192 - i ≡ suc (192 - (i + 1)) = omega arith in rw (e, er, add-one i)
+      go = let e : 256 - i ≡ suc (256 - (i + 1)) = omega arith in rw (e, er, add-one i)
 
-  pub plan-end : (w : List ℕ) (i : ℕ) → 192 ≤ i → planLeft w i ≡ planIn f s c → w ≡ planIn f s c
+  pub plan-end : (w : List ℕ) (i : ℕ) → 256 ≤ i → planLeft w i ≡ planIn f s c → w ≡ planIn f s c
   unfolding planLeft entriesFrom
   plan-end w i l inv = go ∙ inv
     where
       go : w ≡ planLeft w i
-      go = let e : 192 - i ≡ 0 = omega arith in rw e
+      go = let e : 256 - i ≡ 0 = omega arith in rw e

@@ -13,6 +13,7 @@ use Rattle.foundation.specs.Reflects.{_⇒_}
 use Rattle.terms.specs.Tree.{pick, evalV, evalF}
 use Rattle.terms.specs.Read.{readV, readF}
 use Rattle.terms.proofs.Read.{place}
+use Rattle.terms.proofs.And.{and-left, and-right}
 use Rattle.eval.specs.Answer.{answerV, answerF}
 use Rattle.eval.specs.declared.Valued.{Valued}
 use Rattle.eval.specs.declared.Held.{Held}
@@ -23,9 +24,11 @@ use Rattle.design.specs.Line.{rowOf}
 use Rattle.design.specs.declared.Counts.{Counts}
 use Rattle.steps.specs.Arrays.{padded, valuesAt, belowIn, sameIn, insideIn, mappedIn, measureIn, implLine, specLine}
 use Rattle.steps.proofs.All.{all-begin, all-turn, all-fail, all-end}
+use Rattle.quick.specs.Conjuncts.{guardIn}
 use Rattle.quick.specs.Plan.{implBy, specBy, implAt, specAt}
-use Rattle.quick.specs.Quick.{keptIn, answeredIn, stepTo, stepIn, stepOfRow, heldIf, seen, onIn, knownIn, lookIn, rowIn, plannedIn, implIn, repliedIf, repliedIn, replyIn, replyPlanned, specIn, passesIn}
+use Rattle.quick.specs.Quick.{keptIn, answeredIn, stepTo, stepIn, heldIf, seen, onAt, knownIn, lookIn, looksIn, rowIn, plannedIn, implIn, repliedIf, repliedIn, replyLooks, replyIn, replyPlanned, specIn, passesIn}
 use Rattle.quick.specs.declared.Seen.{Seen}
+use Rattle.quick.specs.declared.Guarded.{Guarded}
 
 -- ---- a step
 
@@ -108,28 +111,27 @@ pub not-kept : (keep : Bool) (a b r : Held) → keep ≡ false → r ≡ b → r
 not-kept keep a b r h er = er ∙ rw h
 
 -- one look
-module _ (f s v t : List ℕ) (c : Counts) (at j m e : ℕ) (free i : Bool) (first h : Held) where
-  pub look-is : (b : Bool) → h ≡ knownIn f v at first free e → b ≡ heldIf (h .holds) (stepIn f s c (h .next) i j v t m e)
-      → record { holds = b; quiet = not (h .holds) } ≡ lookIn f s c at first free i j v t m e
+module _ (f s v t : List ℕ) (c : Counts) (at d j m e : ℕ) (free i : Bool) (first h : Held) where
+  pub look-is : (b : Bool) → h ≡ knownIn f v at d first free e → b ≡ heldIf (h .holds) (stepIn f s c (h .next) i j v t m e)
+      → record { holds = b; quiet = not (h .holds) } ≡ lookIn f s c at d first free i j v t m e
   unfolding lookIn
   look-is b eh eb = rw (eb, eh)
 
-  pub replied-is : (b : Bool) → h ≡ knownIn f t at first free e → b ≡ repliedIf (h .holds) f s c j v e → b ≡ repliedIn f s c at first free j v t e
+  pub replied-is : (b : Bool) → h ≡ knownIn f t at d first free e → b ≡ repliedIf (h .holds) f s c j v e → b ≡ repliedIn f s c at d first free j v t e
   unfolding repliedIn
   replied-is b eh eb = eb ∙ rw eh
 
 -- ---- all sum values of a row
 
 -- the condition, evaluated for 0 where it is kept and else for e
-module _ (f v : List ℕ) (at e : ℕ) (free : Bool) (first h : Held) (ef : first ≡ answerF at v 0 (readF 32 (drop at f)))
-    (eh : h ≡ pick (free || eqb e 0) first (answerF at v e (readF 32 (drop at f)))) where
-  on-is : h ≡ answerF at v (pick free 0 e) (readF 32 (drop at f))
-  on-is = eh ∙ go free e
-    where
-      go : (b : Bool) (x : ℕ) → pick (b || eqb x 0) first (answerF at v x (readF 32 (drop at f))) ≡ answerF at v (pick b 0 x) (readF 32 (drop at f))
-      go true x = ef
-      go false zero = ef
-      go false (suc x) = rw (eqb·suc-zero x)
+on-is : (f v : List ℕ) (at d e : ℕ) (free : Bool) (first : Held) → first ≡ answerF at v 0 (readF d (drop at f))
+    → knownIn f v at d first free e ≡ answerF at v (pick free 0 e) (readF d (drop at f))
+on-is f v at d e free first ef = go free e
+  where
+    go : (b : Bool) (x : ℕ) → pick (b || eqb x 0) first (answerF at v x (readF d (drop at f))) ≡ answerF at v (pick b 0 x) (readF d (drop at f))
+    go true x = ef
+    go false zero = ef
+    go false (suc x) = rw (eqb·suc-zero x)
 
 all-yes : (g : ℕ → Bool) → ((i : ℕ) → g i ≡ true) → (n i : ℕ) → allIn g n i ≡ true
 unfolding allIn
@@ -147,15 +149,6 @@ and-true false = refl
 or-true : (a : Bool) → a || true ≡ true
 or-true true = refl
 or-true false = refl
-
-both-left : (a b : Bool) → a && b ≡ true → a ≡ true
-both-left true b h = refl
-both-left false b h = h
-
-both-right : (a b : Bool) → a && b ≡ true → b ≡ true
-both-right true b h = h
-both-right false true h = refl
-both-right false false h = h
 
 -- one more that holds, whose second says q
 all-step : (g : ℕ → Bool) (n i : ℕ) → i < n → allIn g (n - i) i ≡ g i && allIn g (n - (i + 1)) (i + 1)
@@ -180,77 +173,79 @@ module _ (h q : ℕ → Bool) (u : Bool → Bool) (n : ℕ) where
   seen-end : (a : Bool) (i : ℕ) → n ≤ i → record { holds = true; quiet = u a } ≡ seenLeft a i
   seen-end a i l = rw (all-end h n i l, all-end q n i l, and-true a)
 
-module _ (f s v t : List ℕ) (c : Counts) (k j n m : ℕ) (free : Bool) where
-  abbrev r : Row
-  r = implBy f s c k
-
+module _ (f s v t : List ℕ) (c : Counts) (at d j n m : ℕ) (free i : Bool) where
   abbrev whole : Seen
-  whole = rowIn f s c k j n free v t m
+  whole = looksIn f s c at d free i j n v t m
 
   abbrev H : ℕ → Bool
-  H e = onIn r v free e ⇒ stepOfRow f s c r j v t m e
+  H e = onAt f v at d free e ⇒ stepIn f s c (at + readF d (drop at f) .used) i j v t m e
 
   abbrev I : ℕ → Bool
-  I e = not (onIn r v free e)
+  I e = not (onAt f v at d free e)
+
+  abbrev told : Bool → Bool
+  told b = not i || b
 
   unfoldable pub rowLeft : Bool → ℕ → Seen
-  rowLeft a e = seenLeft H I (λ b. not (internalB r) || b) n a e
+  rowLeft a e = seenLeft H I told n a e
 
-  module _ (line : ℕ) (first : Held) (el : line ≡ implLine s c k) (ef : first ≡ answerF (line + 3) v 0 (readF 32 (drop (line + 3) f))) where
-    r-is : r ≡ rowOf (c .kind1) (drop line f)
-    unfolding implBy
-    r-is = rw el
-
+  module _ (first : Held) (ef : first ≡ answerF at v 0 (readF d (drop at f))) where
     pub row-ruled-out : free && not (first .holds) ≡ true → record { holds = true; quiet = true } ≡ whole
-    unfolding rowIn
-    row-ruled-out h = rw (both-left free (not (first .holds)) h, all-yes (λ e. enabledB r v 0 ⇒ stepOfRow f s c r j v t m e) (λ e. ap (λ b. b ⇒ stepOfRow f s c r j v t m e) off) n 0, all-yes (λ e. not (enabledB r v 0)) (λ e. ap not off) n 0, or-true (not (internalB r)))
+    unfolding looksIn
+    row-ruled-out h =
+        rw (
+          and-left free (not (first .holds)) h,
+          all-yes (λ e. evalF (readF d (drop at f) .tree) v 0 ⇒ stepIn f s c (at + readF d (drop at f) .used) i j v t m e) (λ e. ap (λ b. b ⇒ stepIn f s c (at + readF d (drop at f) .used) i j v t m e) off) n 0,
+          all-yes (λ e. not (evalF (readF d (drop at f) .tree) v 0)) (λ e. ap not off) n 0,
+          or-true (not i),
+        )
       where
-        off : enabledB r v 0 ≡ false
-        off = rw (r-is, place f line 3 refl) (sym (ap (λ x. x .holds) ef) ∙ not-true (first .holds) (both-right free (not (first .holds)) h))
+        off : evalF (readF d (drop at f) .tree) v 0 ≡ false
+        off = sym (ap (λ x. x .holds) ef) ∙ not-true (first .holds) (and-right free (not (first .holds)) h)
 
     pub row-begin : rowLeft true 0 ≡ whole
-    unfolding rowLeft rowIn
-    row-begin = seen-begin H I (λ b. not (internalB r) || b) n
+    unfolding rowLeft looksIn
+    row-begin = seen-begin H I told n
 
-    module _ (e a : ℕ) (ea : a ≡ getD (drop line f) 1 0) where
-      abbrev h : Held
-      h = knownIn f v (line + 3) first free e
+    look-row : (e : ℕ) → lookIn f s c at d first free i j v t m e ≡ record { holds = H e; quiet = I e }
+    unfolding lookIn heldIf
+    look-row e = rw (on-is f v at d e free first ef)
 
-      on-row : h .holds ≡ onIn r v free e
-      on-row = ap (λ x. x .holds) (on-is f v (line + 3) e free first h ef refl) ∙ rw (r-is, place f line 3 refl)
+    module _ (e : ℕ) (q : Bool) (g : Seen) (l : e < n) (eg : g ≡ lookIn f s c at d first free i j v t m e) (inv : rowLeft q e ≡ whole) where
+      held-row : g .holds ≡ H e
+      held-row = ap (λ x. x .holds) (eg ∙ look-row e)
 
-      step-row : stepIn f s c (h .next) (eqb a 0) j v t m e ≡ stepOfRow f s c r j v t m e
-      unfolding stepIn stepOfRow valuesAt
-      step-row = rw (on-is f v (line + 3) e free first h ef refl, r-is, ea, place f line 3 refl, place f (line + 3) _ refl, place f (line + 3 + _) _ refl)
+      pub row-turn : not (g .holds) ≡ false → rowLeft (q && g .quiet) (e + 1) ≡ whole
+      unfolding rowLeft
+      row-turn ok =
+          ap (λ x. seenLeft H I told n (q && x .quiet) (e + 1)) (eg ∙ look-row e)
+          ∙ sym (seen-turn H I told n q e l (sym held-row ∙ not-false (g .holds) ok)) ∙ inv
 
-      look-row : lookIn f s c (line + 3) first free (eqb a 0) j v t m e ≡ record { holds = H e; quiet = I e }
-      unfolding lookIn heldIf
-      look-row = rw (step-row, on-row)
+      pub row-fail : not (g .holds) ≡ true → record { holds = false; quiet = false } ≡ whole
+      unfolding rowLeft
+      row-fail ok = seen-fail H I told n q e l (sym held-row ∙ not-true (g .holds) ok) ∙ inv
 
-      module _ (q : Bool) (g : Seen) (l : e < n) (eg : g ≡ lookIn f s c (line + 3) first free (eqb a 0) j v t m e) (inv : rowLeft q e ≡ whole) where
-        held-row : g .holds ≡ H e
-        held-row = ap (λ x. x .holds) (eg ∙ look-row)
+  pub row-end : (e : ℕ) (q : Bool) → n ≤ e → rowLeft q e ≡ whole → record { holds = true; quiet = not i || q } ≡ whole
+  unfolding rowLeft
+  row-end e q l inv = seen-end H I told n q e l ∙ inv
 
-        pub row-turn : not (g .holds) ≡ false → rowLeft (q && g .quiet) (e + 1) ≡ whole
-        unfolding rowLeft
-        row-turn ok =
-            ap (λ x. seenLeft H I (λ b. not (internalB r) || b) n (q && x .quiet) (e + 1)) (eg ∙ look-row)
-            ∙ sym (seen-turn H I (λ b. not (internalB r) || b) n q e l (sym held-row ∙ not-false (g .holds) ok)) ∙ inv
+-- the conjuncts in front
+module _ (f s v t : List ℕ) (c : Counts) (k j n l m line : ℕ) (free : Bool) (g : Guarded) (el : line ≡ implLine s c k) (eg : g ≡ guardIn f v l (line + 3) 32) where
+  pub row-off : not (g .holds) ≡ true → record { holds = true; quiet = true } ≡ rowIn f s c k j n free l v t m
+  unfolding rowIn
+  row-off h = rw (← el, ← eg, not-true (g .holds) h)
 
-        pub row-fail : not (g .holds) ≡ true → record { holds = false; quiet = false } ≡ whole
-        unfolding rowLeft
-        row-fail ok = seen-fail H I (λ b. not (internalB r) || b) n q e l (sym held-row ∙ not-true (g .holds) ok) ∙ inv
-
-    pub row-end : (e a : ℕ) (q : Bool) → a ≡ getD (drop line f) 1 0 → n ≤ e → rowLeft q e ≡ whole → record { holds = true; quiet = not (eqb a 0) || q } ≡ whole
-    unfolding rowLeft
-    row-end e a q ea l inv = ap (λ x. record { holds = true; quiet = not (eqb x 0) || q }) (ea ∙ sym (ap (λ x. x .action) r-is)) ∙ seen-end H I (λ b. not (internalB r) || b) n q e l ∙ inv
+  pub row-on : (a : ℕ) (r : Seen) → not (g .holds) ≡ false → a ≡ getD (drop line f) 1 0 → r ≡ looksIn f s c (g .at) (g .depth) free (eqb a 0) j n v t m
+      → r ≡ rowIn f s c k j n free l v t m
+  unfolding rowIn implBy
+  row-on a r h ea er = er ∙ rw (← el, ← eg, not-false (g .holds) h, ea)
 
 -- ---- all rows of the implementation
 
-pub planned-is : (f s p v t : List ℕ) (c : Counts) (i j n x m : ℕ) (r : Seen) → j ≡ getD p i 0 → n ≡ getD p (32 + i) 0 → x ≡ getD p (64 + i) 0
-    → r ≡ rowIn f s c (i + 1) j n (eqb x 1) v t m → r ≡ plannedIn f s c p i v t m
+pub planned-is : (f s p v t : List ℕ) (c : Counts) (i j n x l m : ℕ) (r : Seen) → j ≡ getD p i 0 → n ≡ getD p (32 + i) 0 → x ≡ getD p (64 + i) 0
+    → l ≡ getD p (192 + i) 0 → r ≡ rowIn f s c (i + 1) j n (eqb x 1) l v t m → r ≡ plannedIn f s c p i v t m
 unfolding plannedIn
-planned-is f s p v t c i j n x m r ej en ex er = er ∙ rw (ej, en, ex)
+planned-is f s p v t c i j n x l m r ej en ex el er = er ∙ rw (ej, en, ex, el)
 
 module _ (f s p v t : List ℕ) (c : Counts) (m : ℕ) where
   abbrev holdsAt : ℕ → Bool
@@ -298,56 +293,57 @@ module _ (f s v : List ℕ) (c : Counts) (j e : ℕ) (on : Bool) where
   unfolding repliedIf implAt implBy
   reply-on line h ok some el eh = rw (not-false on ok, ne-eqb j 0 some, ← el, place f line 3 refl, eh)
 
-module _ (f s v t : List ℕ) (c : Counts) (k j n : ℕ) (free : Bool) where
-  abbrev q : Row
-  q = specBy f s c k
-
+module _ (f s v t : List ℕ) (c : Counts) (at d j n : ℕ) (free : Bool) where
   abbrev R : ℕ → Bool
-  R e = repliedIf (onIn q t free e) f s c j v e
+  R e = repliedIf (onAt f t at d free e) f s c j v e
 
   unfoldable pub replyLeft : ℕ → Bool
   replyLeft e = allIn R (n - e) e
 
-  module _ (line : ℕ) (first : Held) (el : line ≡ specLine s c k) (ef : first ≡ answerF (line + 3) t 0 (readF 32 (drop (line + 3) f))) where
-    q-is : q ≡ rowOf (c .kind2) (drop line f)
-    unfolding specBy
-    q-is = rw el
-
-    pub reply-ruled-out : free && not (first .holds) ≡ true → true ≡ replyIn f s c k j n free v t
-    unfolding replyIn repliedIf
-    reply-ruled-out h = rw (both-left free (not (first .holds)) h) (sym (all-yes (λ e. enabledB q t 0 ⇒ enabledB (implAt f s c j) v e) (λ e. ap (λ b. b ⇒ enabledB (implAt f s c j) v e) off) n 0))
+  module _ (first : Held) (ef : first ≡ answerF at t 0 (readF d (drop at f))) where
+    pub reply-ruled-out : free && not (first .holds) ≡ true → true ≡ replyLooks f s c at d free j n v t
+    unfolding replyLooks repliedIf
+    reply-ruled-out h =
+        rw (and-left free (not (first .holds)) h)
+        (sym (all-yes (λ e. evalF (readF d (drop at f) .tree) t 0 ⇒ enabledB (implAt f s c j) v e) (λ e. ap (λ b. b ⇒ enabledB (implAt f s c j) v e) off) n 0))
       where
-        off : enabledB q t 0 ≡ false
-        off = rw (q-is, place f line 3 refl) (sym (ap (λ x. x .holds) ef) ∙ not-true (first .holds) (both-right free (not (first .holds)) h))
+        off : evalF (readF d (drop at f) .tree) t 0 ≡ false
+        off = sym (ap (λ x. x .holds) ef) ∙ not-true (first .holds) (and-right free (not (first .holds)) h)
 
-    pub reply-begin : replyLeft 0 ≡ replyIn f s c k j n free v t
-    unfolding replyLeft replyIn
+    pub reply-begin : replyLeft 0 ≡ replyLooks f s c at d free j n v t
+    unfolding replyLeft replyLooks
     reply-begin = all-begin R n
 
-    module _ (e : ℕ) (b : Bool) (eb : b ≡ repliedIn f s c (line + 3) first free j v t e) where
+    module _ (e : ℕ) (b : Bool) (eb : b ≡ repliedIn f s c at d first free j v t e) where
       replied-row : b ≡ R e
       unfolding repliedIn
-      replied-row =
-          eb
-          ∙ ap (λ x. repliedIf x f s c j v e)
-          (ap (λ x. x .holds) (on-is f t (line + 3) e free first (knownIn f t (line + 3) first free e) ef refl) ∙ rw (q-is, place f line 3 refl))
+      replied-row = eb ∙ ap (λ x. repliedIf (x .holds) f s c j v e) (on-is f t at d e free first ef)
 
-      pub reply-turn : e < n → not b ≡ false → replyLeft e ≡ replyIn f s c k j n free v t → replyLeft (e + 1) ≡ replyIn f s c k j n free v t
+      pub reply-turn : e < n → not b ≡ false → replyLeft e ≡ replyLooks f s c at d free j n v t → replyLeft (e + 1) ≡ replyLooks f s c at d free j n v t
       unfolding replyLeft
       reply-turn l ok inv = sym (all-turn R n e l (sym replied-row ∙ not-false b ok)) ∙ inv
 
-      pub reply-fail : e < n → not b ≡ true → replyLeft e ≡ replyIn f s c k j n free v t → false ≡ replyIn f s c k j n free v t
+      pub reply-fail : e < n → not b ≡ true → replyLeft e ≡ replyLooks f s c at d free j n v t → false ≡ replyLooks f s c at d free j n v t
       unfolding replyLeft
       reply-fail l ok inv = sym (all-fail R n e l (sym replied-row ∙ not-true b ok)) ∙ inv
 
-    pub reply-end : (e : ℕ) → n ≤ e → replyLeft e ≡ replyIn f s c k j n free v t → true ≡ replyIn f s c k j n free v t
-    unfolding replyLeft
-    reply-end e l inv = sym (all-end R n e l) ∙ inv
+  pub reply-end : (e : ℕ) → n ≤ e → replyLeft e ≡ replyLooks f s c at d free j n v t → true ≡ replyLooks f s c at d free j n v t
+  unfolding replyLeft
+  reply-end e l inv = sym (all-end R n e l) ∙ inv
 
-pub reply-planned-is : (f s p v t : List ℕ) (c : Counts) (i j n x : ℕ) (r : Bool) → j ≡ getD p (96 + i) 0 → n ≡ getD p (128 + i) 0 → x ≡ getD p (160 + i) 0
-    → r ≡ replyIn f s c (i + 1) j n (eqb x 1) v t → r ≡ replyPlanned f s c p i v t
+module _ (f s v t : List ℕ) (c : Counts) (k j n l line : ℕ) (free : Bool) (g : Guarded) (el : line ≡ specLine s c k) (eg : g ≡ guardIn f t l (line + 3) 32) where
+  pub reply-guarded : not (g .holds) ≡ true → true ≡ replyIn f s c k j n free l v t
+  unfolding replyIn
+  reply-guarded h = rw (← el, ← eg, not-true (g .holds) h)
+
+  pub reply-row : (r : Bool) → not (g .holds) ≡ false → r ≡ replyLooks f s c (g .at) (g .depth) free j n v t → r ≡ replyIn f s c k j n free l v t
+  unfolding replyIn
+  reply-row r h er = er ∙ rw (← el, ← eg, not-false (g .holds) h)
+
+pub reply-planned-is : (f s p v t : List ℕ) (c : Counts) (i j n x l : ℕ) (r : Bool) → j ≡ getD p (96 + i) 0 → n ≡ getD p (128 + i) 0 → x ≡ getD p (160 + i) 0
+    → l ≡ getD p (224 + i) 0 → r ≡ replyIn f s c (i + 1) j n (eqb x 1) l v t → r ≡ replyPlanned f s c p i v t
 unfolding replyPlanned
-reply-planned-is f s p v t c i j n x r ej en ex er = er ∙ rw (ej, en, ex)
+reply-planned-is f s p v t c i j n x l r ej en ex el er = er ∙ rw (ej, en, ex, el)
 
 module _ (f s p v t : List ℕ) (c : Counts) where
   unfoldable pub specLeft : ℕ → Bool

@@ -1,2 +1,3 @@
+pub mod Conjuncts
 pub mod Plan
 pub mod Quick

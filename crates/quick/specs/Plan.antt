@@ -1,4 +1,4 @@
--- What is worked out once for all states: which rows do not read the sum value, and the plan, six entries for each row. f the fields,
+-- What is worked out once for all states: which rows do not read the sum value, and the plan, eight entries for each row number. f the fields,
 -- s the starts of lines, c the counts; rows count from 1.
 use mathlib.Core.Bool.{Bool, _&&_}
 use mathlib.Core.List.{List, [], _∷_}
@@ -12,6 +12,7 @@ use Rattle.criteria.specs.Design.{Row}
 use Rattle.criteria.specs.Rows.{noRow}
 use Rattle.design.specs.Line.{rowOf, valuesIn}
 use Rattle.design.specs.declared.Counts.{Counts}
+use Rattle.quick.specs.Conjuncts.{frontOf}
 use Rattle.steps.specs.Arrays.{implLine, specLine, implRow, specRow}
 
 -- ---- rows
@@ -78,6 +79,13 @@ specLooks f s c k =
 unfoldable pub specFlag : List ℕ → List ℕ → Counts → ℕ → ℕ
 specFlag f s c k = flagOf (conditionFree f (specLine s c k))
 
+-- how many conjuncts in front of the conditions do not read the sum value
+unfoldable pub implFront : List ℕ → List ℕ → Counts → ℕ → ℕ
+implFront f s c k = frontOf f (implLine s c k + 3) 32
+
+unfoldable pub specFront : List ℕ → List ℕ → Counts → ℕ → ℕ
+specFront f s c k = frontOf f (specLine s c k + 3) 32
+
 -- by sort
 unfoldable pub entryIn : List ℕ → List ℕ → Counts → ℕ → ℕ → ℕ
 entryIn f s c sort k =
@@ -85,7 +93,9 @@ entryIn f s c sort k =
     (pick (eqb sort 1) (implLooks f s c k)
     (pick (eqb sort 2) (implFlag f s c k)
     (pick (eqb sort 3) (specPartner f s c k)
-    (pick (eqb sort 4) (specLooks f s c k) (specFlag f s c k)))))
+    (pick (eqb sort 4) (specLooks f s c k)
+    (pick (eqb sort 5) (specFlag f s c k)
+    (pick (eqb sort 6) (implFront f s c k) (specFront f s c k)))))))
 
 -- n entries from the i-th on
 unfoldable pub entriesFrom : List ℕ → List ℕ → Counts → ℕ → ℕ → List ℕ
@@ -93,4 +103,4 @@ entriesFrom f s c zero i = []
 entriesFrom f s c (suc n) i = entryIn f s c (i / 32) (i % 32 + 1) ∷ entriesFrom f s c n (suc i)
 
 unfoldable pub planIn : List ℕ → List ℕ → Counts → List ℕ
-planIn f s c = entriesFrom f s c 192 0
+planIn f s c = entriesFrom f s c 256 0

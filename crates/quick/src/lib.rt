@@ -2,8 +2,8 @@
 // passes is paid for once, and only one that fails is searched (crate lowest). Every function answers any arrays.
 //
 // What does not change from state to state is worked out before, in the plan: of each row its partner, the row of its action in the other
-// process; how many of its sum values need a look, one where nothing in the row and its partner reads the sum value; and whether
-// its condition reads it. What each function computes is in specs/Plan and specs/Quick; that it is the quick test of the crate
+// process; how many of its sum values need a look, one where nothing in the row and its partner reads the sum value; whether
+// its condition reads it; and how many conjuncts in front of its condition do not, so that a row that these rule out costs no more. What each function computes is in specs/Plan and specs/Quick; that it is the quick test of the crate
 // decision is in proofs/Decided.
 use eval::Held;
 use layout::Shape;
@@ -15,8 +15,24 @@ ghost use Rattle.terms.specs.Tree.{pick};
 ghost use Rattle.eval.specs.Answer.{answerF};
 ghost use Rattle.design.specs.Line.{rowOf};
 ghost use Rattle.layout.specs.Sizes.{countsOf};
-ghost use Rattle.quick.specs.Plan.{valuesFree, rowFree, conditionFree, specFree, implFree, looksOf, flagOf, implPartner, implLooks, implFlag, specPartner, specLooks, specFlag, entryIn, planIn};
-ghost use Rattle.quick.specs.Quick.{keptIn, answeredIn, stepIn, heldIf, lookIn, rowIn, plannedIn, implIn, repliedIf, repliedIn, replyIn, replyPlanned, specIn, passesIn};
+ghost use Rattle.quick.specs.Conjuncts.{frontOf, conjunctIn, noConjunct, guardIn};
+ghost use Rattle.quick.specs.Plan.{valuesFree, rowFree, conditionFree, specFree, implFree, looksOf, flagOf, implPartner, implLooks, implFlag, specPartner, specLooks, specFlag, implFront, specFront, entryIn, planIn};
+ghost use Rattle.quick.specs.Quick.{keptIn, answeredIn, stepIn, heldIf, lookIn, looksIn, rowIn, plannedIn, implIn, repliedIf, repliedIn, replyLooks, replyIn, replyPlanned, specIn, passesIn};
+
+// The conjunct in front of a formula, if there is one: whether it holds; where the rest stands, and how deep that may be.
+pub struct Conjunct {
+    pub there: bool,
+    pub holds: bool,
+    pub next: usize,
+    pub depth: usize,
+}
+
+// Whether the conjuncts in front of a condition hold; where the rest of it stands, and how deep that may be.
+pub struct Guarded {
+    pub holds: bool,
+    pub at: usize,
+    pub depth: usize,
+}
 
 // What was seen of rows: whether each holds, and, if so, whether no internal one is enabled.
 pub struct Seen {
@@ -24,10 +40,13 @@ pub struct Seen {
     pub quiet: bool,
 }
 
-// A plan has six entries for each row: three for a row of the implementation, then three for one of the specification.
-pub const ENTRIES: usize = 192;
+// A plan has eight entries for each row number, four for the row of the implementation and four for that of the specification.
+pub const ENTRIES: usize = 256;
 
 const ROWS: usize = 32;
+
+// The mark of a conjunction.
+const AND: u16 = 15;
 
 // ---- the plan
 
@@ -92,6 +111,32 @@ fn impl_free<'a>(
         return true;
     }
     condition_free(fields, steps::impl_line(starts, shape, k))
+}
+
+// How many conjuncts in front of the condition at a place do not read the sum value.
+fn front(desk: &[u16; terms::MAX_FIELDS], at: usize) -> u16
+    ensures { λ r. ⌜ r ≡ frontOf (now (desk .entry)) at 32 ⌝ }
+{
+    let fields: &[u16] = desk;
+    let mut place = at;
+    let mut depth = terms::MAX_DEPTH;
+    let mut n = 0;
+    while 0 < depth {
+        if fields.len() <= place {
+            return n;
+        }
+        if fields[place] != AND {
+            return n;
+        }
+        let left = sum_free::formula_sum_free(desk, place + 1, depth - 1);
+        if !left.free {
+            return n;
+        }
+        place = left.next;
+        depth -= 1;
+        n += 1;
+    }
+    n
 }
 
 // How many sum values need a look: one of those that there are where nothing reads them, and else all.
@@ -189,7 +234,30 @@ fn spec_flag<'a>(
     flag(condition_free(fields, steps::spec_line(starts, shape, k)))
 }
 
-// An entry of one of the six sorts.
+// The conjuncts in front of the conditions of both.
+fn impl_front<'a>(
+    fields: &'a [u16; terms::MAX_FIELDS],
+    starts: &'a [u16; 84],
+    shape: Shape,
+    k: u16,
+) -> u16
+    ensures { λ r. ⌜ r ≡ implFront (now (fields .entry)) (now (starts .entry)) (countsOf shape) k ⌝ }
+{
+    front(fields, steps::impl_line(starts, shape, k) as usize + 3)
+}
+
+fn spec_front<'a>(
+    fields: &'a [u16; terms::MAX_FIELDS],
+    starts: &'a [u16; 84],
+    shape: Shape,
+    k: u16,
+) -> u16
+    ensures { λ r. ⌜ r ≡ specFront (now (fields .entry)) (now (starts .entry)) (countsOf shape) k ⌝ }
+{
+    front(fields, steps::spec_line(starts, shape, k) as usize + 3)
+}
+
+// An entry of one of the eight sorts.
 fn entry<'a>(
     fields: &'a [u16; terms::MAX_FIELDS],
     starts: &'a [u16; 84],
@@ -205,7 +273,9 @@ fn entry<'a>(
         2 => impl_flag(fields, starts, shape, k),
         3 => spec_partner(fields, starts, shape, k),
         4 => spec_looks(fields, starts, shape, k),
-        _ => spec_flag(fields, starts, shape, k),
+        5 => spec_flag(fields, starts, shape, k),
+        6 => impl_front(fields, starts, shape, k),
+        _ => spec_front(fields, starts, shape, k),
     }
 }
 
@@ -326,21 +396,100 @@ fn held_if<'a>(
     }
 }
 
+// The first conjunct of the formula at a place, if there is one: whether it holds for the sum value 0.
+fn first_conjunct(
+    desk: &[u16; terms::MAX_FIELDS],
+    at: usize,
+    depth: usize,
+    v: &[u16; terms::MAX_PARAMETERS],
+) -> Conjunct
+    ensures { λ r. ⌜ r ≡ conjunctIn (now (desk .entry)) (now (v .entry)) at depth ⌝ }
+{
+    let fields: &[u16] = desk;
+    if depth == 0 {
+        return no_conjunct(at, depth);
+    }
+    if fields.len() <= at {
+        return no_conjunct(at, depth);
+    }
+    if fields[at] != AND {
+        return no_conjunct(at, depth);
+    }
+    let left = eval::formula(desk, at + 1, v, 0, depth - 1);
+    Conjunct {
+        there: true,
+        holds: left.holds,
+        next: left.next,
+        depth: depth - 1,
+    }
+}
+
+fn no_conjunct(at: usize, depth: usize) -> Conjunct
+    ensures { λ r. ⌜ r ≡ noConjunct at depth ⌝ }
+{
+    Conjunct {
+        there: false,
+        holds: false,
+        next: at,
+        depth: depth,
+    }
+}
+
+// Whether the first n conjuncts of the condition at a place hold.
+fn guard(
+    fields: &[u16; terms::MAX_FIELDS],
+    at: usize,
+    v: &[u16; terms::MAX_PARAMETERS],
+    n: u16,
+) -> Guarded
+    ensures { λ r. ⌜ r ≡ guardIn (now (fields .entry)) (now (v .entry)) n at 32 ⌝ }
+{
+    let mut place = at;
+    let mut depth = terms::MAX_DEPTH;
+    let mut i = 0;
+    while i < n {
+        let left = first_conjunct(fields, place, depth, v);
+        if !left.there {
+            return Guarded {
+                holds: true,
+                at: place,
+                depth: depth,
+            };
+        }
+        if !left.holds {
+            return Guarded {
+                holds: false,
+                at: place,
+                depth: depth,
+            };
+        }
+        place = left.next;
+        depth = left.depth;
+        i += 1;
+    }
+    Guarded {
+        holds: true,
+        at: place,
+        depth: depth,
+    }
+}
+
 // Whether the formula at a place holds for a sum value: what is known of it, where that may be kept.
 fn on_at(
     fields: &[u16; terms::MAX_FIELDS],
     at: usize,
+    depth: usize,
     v: &[u16; terms::MAX_PARAMETERS],
     sum: u16,
     keep: bool,
     known: Held,
 ) -> Held
-    ensures { λ r. ⌜ r ≡ pick keep known (answerF at (now (v .entry)) sum (readF 32 (drop at (now (fields .entry))))) ⌝ }
+    ensures { λ r. ⌜ r ≡ pick keep known (answerF at (now (v .entry)) sum (readF depth (drop at (now (fields .entry))))) ⌝ }
 {
     if keep {
         return known;
     }
-    eval::formula(fields, at, v, sum, terms::MAX_DEPTH)
+    eval::formula(fields, at, v, sum, depth)
 }
 
 // ---- the rows of the implementation
@@ -352,6 +501,7 @@ fn look<'a>(
     starts: &'a [u16; 84],
     shape: Shape,
     at: usize,
+    depth: usize,
     first: Held,
     free: bool,
     internal: bool,
@@ -361,9 +511,9 @@ fn look<'a>(
     m: u16,
     sum: u16,
 ) -> Seen
-    ensures { λ r. ⌜ r ≡ lookIn (now (fields .entry)) (now (starts .entry)) (countsOf shape) at first free internal j (now (v .entry)) (now (t .entry)) m sum ⌝ }
+    ensures { λ r. ⌜ r ≡ lookIn (now (fields .entry)) (now (starts .entry)) (countsOf shape) at depth first free internal j (now (v .entry)) (now (t .entry)) m sum ⌝ }
 {
-    let on = on_at(fields, at, v, sum, free | (sum == 0), first);
+    let on = on_at(fields, at, depth, v, sum, free | (sum == 0), first);
     Seen {
         holds: held_if(
             on.holds,
@@ -382,31 +532,30 @@ fn look<'a>(
     }
 }
 
-// What is seen of row k, whose partner is j: n looks, and the condition evaluated once where it is sum-free.
-fn row_seen<'a>(
+// What n looks see at a row whose condition, or what is left of it, stands at a place; where that is sum-free it is evaluated once.
+fn row_looks<'a>(
     fields: &'a [u16; terms::MAX_FIELDS],
     starts: &'a [u16; 84],
     shape: Shape,
-    k: u16,
+    at: usize,
+    depth: usize,
+    free: bool,
+    internal: bool,
     j: u16,
     n: u16,
-    free: bool,
     v: &[u16; terms::MAX_PARAMETERS],
     t: &[u16; terms::MAX_PARAMETERS],
     m: u16,
 ) -> Seen
-    ensures { λ r. ⌜ r ≡ rowIn (now (fields .entry)) (now (starts .entry)) (countsOf shape) k j n free (now (v .entry)) (now (t .entry)) m ⌝ }
+    ensures { λ r. ⌜ r ≡ looksIn (now (fields .entry)) (now (starts .entry)) (countsOf shape) at depth free internal j n (now (v .entry)) (now (t .entry)) m ⌝ }
 {
-    let line = steps::impl_line(starts, shape, k);
-    let at = line as usize + 3;
-    let first = eval::formula(fields, at, v, 0, terms::MAX_DEPTH);
+    let first = eval::formula(fields, at, v, 0, depth);
     if free & !first.holds {
         return Seen {
             holds: true,
             quiet: true,
         };
     }
-    let internal = layout::field_of(fields, line, 1) == 0;
     let mut quiet = true;
     let mut sum = 0;
     while sum < n {
@@ -415,6 +564,7 @@ fn row_seen<'a>(
             starts,
             shape,
             at,
+            depth,
             first,
             free,
             internal,
@@ -439,6 +589,47 @@ fn row_seen<'a>(
     }
 }
 
+// What is seen of row k, whose partner is j: the conjuncts in front of its condition, and if they hold n looks at what is left.
+fn row_seen<'a>(
+    fields: &'a [u16; terms::MAX_FIELDS],
+    starts: &'a [u16; 84],
+    shape: Shape,
+    k: u16,
+    j: u16,
+    n: u16,
+    free: bool,
+    conjuncts: u16,
+    v: &[u16; terms::MAX_PARAMETERS],
+    t: &[u16; terms::MAX_PARAMETERS],
+    m: u16,
+) -> Seen
+    ensures { λ r. ⌜ r ≡ rowIn (now (fields .entry)) (now (starts .entry)) (countsOf shape) k j n free conjuncts (now (v .entry)) (now (t .entry)) m ⌝ }
+{
+    let line = steps::impl_line(starts, shape, k);
+    let front = guard(fields, line as usize + 3, v, conjuncts);
+    if !front.holds {
+        return Seen {
+            holds: true,
+            quiet: true,
+        };
+    }
+    let internal = layout::field_of(fields, line, 1) == 0;
+    row_looks(
+        fields,
+        starts,
+        shape,
+        front.at,
+        front.depth,
+        free,
+        internal,
+        j,
+        n,
+        v,
+        t,
+        m,
+    )
+}
+
 // What is seen by the plan of the row with number i + 1.
 fn row_planned<'a>(
     fields: &'a [u16; terms::MAX_FIELDS],
@@ -455,6 +646,7 @@ fn row_planned<'a>(
     let j = terms::field(plan, i as usize);
     let n = terms::field(plan, ROWS + i as usize);
     let free = terms::field(plan, 2 * ROWS + i as usize);
+    let conjuncts = terms::field(plan, 6 * ROWS + i as usize);
     row_seen(
         fields,
         starts,
@@ -463,6 +655,7 @@ fn row_planned<'a>(
         j,
         n,
         free == 1,
+        conjuncts,
         v,
         t,
         m,
@@ -525,12 +718,13 @@ fn replied_if<'a>(
     condition.holds
 }
 
-// One look at a row whose condition stands at a place.
+// One look at a row whose condition, or what is left of it, stands at a place: whether criterion 7 holds.
 fn replied<'a>(
     fields: &'a [u16; terms::MAX_FIELDS],
     starts: &'a [u16; 84],
     shape: Shape,
     at: usize,
+    depth: usize,
     first: Held,
     free: bool,
     j: u16,
@@ -538,13 +732,42 @@ fn replied<'a>(
     t: &[u16; terms::MAX_PARAMETERS],
     sum: u16,
 ) -> bool
-    ensures { λ r. ⌜ r ≡ repliedIn (now (fields .entry)) (now (starts .entry)) (countsOf shape) at first free j (now (v .entry)) (now (t .entry)) sum ⌝ }
+    ensures { λ r. ⌜ r ≡ repliedIn (now (fields .entry)) (now (starts .entry)) (countsOf shape) at depth first free j (now (v .entry)) (now (t .entry)) sum ⌝ }
 {
-    let on = on_at(fields, at, t, sum, free | (sum == 0), first);
+    let on = on_at(fields, at, depth, t, sum, free | (sum == 0), first);
     replied_if(on.holds, fields, starts, shape, j, v, sum)
 }
 
-// Whether criterion 7 holds of row k, whose partner is j: n looks.
+// Whether it holds at n looks.
+fn reply_looks<'a>(
+    fields: &'a [u16; terms::MAX_FIELDS],
+    starts: &'a [u16; 84],
+    shape: Shape,
+    at: usize,
+    depth: usize,
+    free: bool,
+    j: u16,
+    n: u16,
+    v: &[u16; terms::MAX_PARAMETERS],
+    t: &[u16; terms::MAX_PARAMETERS],
+) -> bool
+    ensures { λ r. ⌜ r ≡ replyLooks (now (fields .entry)) (now (starts .entry)) (countsOf shape) at depth free j n (now (v .entry)) (now (t .entry)) ⌝ }
+{
+    let first = eval::formula(fields, at, t, 0, depth);
+    if free & !first.holds {
+        return true;
+    }
+    let mut sum = 0;
+    while sum < n {
+        if !replied(fields, starts, shape, at, depth, first, free, j, v, t, sum) {
+            return false;
+        }
+        sum += 1;
+    }
+    true
+}
+
+// Whether it holds of row k, whose partner is j.
 fn row_replied<'a>(
     fields: &'a [u16; terms::MAX_FIELDS],
     starts: &'a [u16; 84],
@@ -553,25 +776,29 @@ fn row_replied<'a>(
     j: u16,
     n: u16,
     free: bool,
+    conjuncts: u16,
     v: &[u16; terms::MAX_PARAMETERS],
     t: &[u16; terms::MAX_PARAMETERS],
 ) -> bool
-    ensures { λ r. ⌜ r ≡ replyIn (now (fields .entry)) (now (starts .entry)) (countsOf shape) k j n free (now (v .entry)) (now (t .entry)) ⌝ }
+    ensures { λ r. ⌜ r ≡ replyIn (now (fields .entry)) (now (starts .entry)) (countsOf shape) k j n free conjuncts (now (v .entry)) (now (t .entry)) ⌝ }
 {
     let line = steps::spec_line(starts, shape, k);
-    let at = line as usize + 3;
-    let first = eval::formula(fields, at, t, 0, terms::MAX_DEPTH);
-    if free & !first.holds {
+    let front = guard(fields, line as usize + 3, t, conjuncts);
+    if !front.holds {
         return true;
     }
-    let mut sum = 0;
-    while sum < n {
-        if !replied(fields, starts, shape, at, first, free, j, v, t, sum) {
-            return false;
-        }
-        sum += 1;
-    }
-    true
+    reply_looks(
+        fields,
+        starts,
+        shape,
+        front.at,
+        front.depth,
+        free,
+        j,
+        n,
+        v,
+        t,
+    )
 }
 
 // Whether it holds, by the plan, of the row with number i + 1.
@@ -589,7 +816,19 @@ fn reply_planned<'a>(
     let j = terms::field(plan, 3 * ROWS + i as usize);
     let n = terms::field(plan, 4 * ROWS + i as usize);
     let free = terms::field(plan, 5 * ROWS + i as usize);
-    row_replied(fields, starts, shape, i as u16 + 1, j, n, free == 1, v, t)
+    let conjuncts = terms::field(plan, 7 * ROWS + i as usize);
+    row_replied(
+        fields,
+        starts,
+        shape,
+        i as u16 + 1,
+        j,
+        n,
+        free == 1,
+        conjuncts,
+        v,
+        t,
+    )
 }
 
 // Whether it holds of each row.

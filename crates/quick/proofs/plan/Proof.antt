@@ -13,7 +13,7 @@ abbrev Inv-loop : tie.InvT-loop
 Inv-loop fields starts shape out₀ i₀ out i = laws.planLeft fields starts (countsOf shape) out i ≡ planIn fields starts (countsOf shape)
 
 abbrev μ-loop : tie.MeasureT-loop
-μ-loop fields starts shape out₀ i₀ out i = 192 - i
+μ-loop fields starts shape out₀ i₀ out i = 256 - i
 
 pub plan-spec : {M : Type 1} → statement M
 plan-spec =

@@ -1,35 +1,17 @@
--- What is left of the row gives the whole.
+-- The conjuncts in front, and then the rest.
 use borrow.Author.Needs.{needs}
-use native.Mathlib.Omega.{arith}
-use mathlib.Core.Path.{_≡_}
-use Prim.Native.Nat.{_-_, _≤_}
 use Rattle.quick.proofs.Seeing as laws
-use Rattle.layout.specs.Sizes.{countsOf}
-use Rattle.quick.specs.Quick.{replyIn}
 use Rattle.quick.proofs.row_replied.Statement.{statement}
 use Rattle.quick.proofs.row_replied.Tie as tie
-
-abbrev Inv-loop : tie.InvT-loop
-Inv-loop fields starts shape k j n free v t line at first sum₀ sum = laws.replyLeft fields starts v t (countsOf shape) k j n free sum ≡ replyIn fields starts (countsOf shape) k j n free v t
-
-abbrev μ-loop : tie.MeasureT-loop
-μ-loop fields starts shape k j n free v t line at first sum₀ sum = n - sum
 
 pub row-replied-spec : {M : Type 1} → statement M
 row-replied-spec =
     tie.close
     (tie.spec
-    Inv-loop
-    μ-loop
     (λ c κs. search needs)
     (λ c. search needs)
     (λ c. search needs)
     (λ c κs. search needs)
-    (λ c. search laws.reply-ruled-out)
-    (λ c. search laws.reply-begin)
+    (λ c. search laws.reply-guarded)
     (λ c κs. search needs)
-    (λ c. search laws.reply-fail)
-    (λ c. search needs)
-    (λ c. search needs)
-    (λ c. search laws.reply-turn)
-    (λ c. search laws.reply-end))
+    (λ c. search laws.reply-row))
