@@ -1,4 +1,3 @@
-pub mod All
 pub mod Tests
 pub mod Search
 pub mod Decided

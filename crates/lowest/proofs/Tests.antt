@@ -11,7 +11,7 @@ use Rattle.design.specs.declared.Counts.{Counts}
 use Rattle.steps.specs.Arrays.{sameIn, insideIn, mappedIn, measureIn, implStep, specStep, implSpan, implRow, specRow}
 use Rattle.lowest.specs.Tests.{quietAt, rowQuiet, focusIn, holds3In, holds4In, holds5In, holds6In, holds7In, holds8In, holds9In}
 use Rattle.steps.specs.declared.Step.{Step}
-use Rattle.lowest.proofs.All.{all-begin, all-turn, all-fail, all-end}
+use Rattle.steps.proofs.All.{all-begin, all-turn, all-fail, all-end}
 
 twice : (b x : Bool) → b || x ≡ not (not b) || x
 twice true x = refl

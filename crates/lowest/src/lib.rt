@@ -173,8 +173,8 @@ fn holds8<'a>(
 {
     let step = steps::impl_step(fields, starts, shape, k, v, sum);
     let row = steps::spec_row(fields, starts, shape, step.action);
-    let answer = steps::spec_step(fields, starts, shape, row, t, sum);
-    !step.enabled | ((step.action == 0) | ((row == 0) | (step.carries == answer.carries)))
+    let other = steps::spec_step(fields, starts, shape, row, t, sum);
+    !step.enabled | ((step.action == 0) | ((row == 0) | (step.carries == other.carries)))
 }
 
 fn holds9<'a>(

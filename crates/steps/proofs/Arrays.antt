@@ -26,7 +26,7 @@ use Rattle.design.specs.Loaded.{lineFrom, eachLine, implRowsAt, specRowsAt, inv
 use Rattle.design.specs.declared.Counts.{Counts}
 use Rattle.layout.specs.Sizes.{parametersFrom, sizesOf, initialsOf}
 use Rattle.layout.proofs.Sizes.{each-on, each-turn, each-none}
-use Rattle.steps.specs.Arrays.{padded, front, valuesAt, stepOf, noStep, rowsFrom, rowStep, rowSpan, rowWith, stateIn, initialIn, belowIn, sameIn, invariantIn, insideIn, mappedIn, measureIn, implStep, specStep, implSpan, specSpan, implRow, specRow}
+use Rattle.steps.specs.Arrays.{padded, front, valuesAt, stepOf, noStep, rowsFrom, rowStep, rowSpan, rowWith, stateIn, initialIn, belowIn, sameIn, invariantIn, insideIn, mappedIn, measureIn, implLine, specLine, implStep, specStep, implSpan, specSpan, implRow, specRow}
 use Rattle.steps.specs.declared.Step.{Step}
 
 -- ---- the values of terms, one after the other
@@ -344,3 +344,12 @@ module _ (f s : List ℕ) (c : Counts) (i k r : ℕ) where
   pub spec-row-is : i ≡ specRowsAt c → r ≡ rowWith f s i (c .kind4) k → r ≡ specRow f s c k
   unfolding specRow
   spec-row-is ei er = er ∙ rw ei
+
+module _ (s : List ℕ) (c : Counts) (i j k r : ℕ) where
+  pub impl-line-is : i ≡ implRowsAt c → j ≡ i + k - 1 → r ≡ getD s j 0 → r ≡ implLine s c k
+  unfolding implLine
+  impl-line-is ei ej er = er ∙ rw (ej, ei)
+
+  pub spec-line-is : i ≡ specRowsAt c → j ≡ i + k - 1 → r ≡ getD s j 0 → r ≡ specLine s c k
+  unfolding specLine
+  spec-line-is ei ej er = er ∙ rw (ej, ei)

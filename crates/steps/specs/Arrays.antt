@@ -3,7 +3,7 @@
 -- state, the steps and the tests of the design in the arrays is in proofs/States.
 use mathlib.Core.Bool.{Bool, false, _&&_}
 use mathlib.Core.List.{List, [], _∷_}
-use Prim.Native.Nat.{ℕ, zero, suc, min}
+use Prim.Native.Nat.{ℕ, zero, suc, _+_, _-_, min}
 use lib.ListN.{getD, drop, replicate}
 use lib.Seq.{sets}
 use Rattle.foundation.specs.Radix.{belowB, sameB, splitOf}
@@ -79,7 +79,13 @@ mappedIn f s c v = padded (mapped (designIn f s c) v)
 unfoldable pub measureIn : List ℕ → List ℕ → Counts → List ℕ → ℕ
 measureIn f s c v = measureAt (designIn f s c) v
 
--- ---- the two processes: what row k does, its span, and the number of the row of an action
+-- ---- the two processes: where the line of row k starts, what the row does, its span, and the number of the row of an action
+
+unfoldable pub implLine : List ℕ → Counts → ℕ → ℕ
+implLine s c k = getD s (implRowsAt c + k - 1) 0
+
+unfoldable pub specLine : List ℕ → Counts → ℕ → ℕ
+specLine s c k = getD s (specRowsAt c + k - 1) 0
 
 unfoldable pub implStep : List ℕ → List ℕ → Counts → ℕ → List ℕ → ℕ → Step
 implStep f s c k v e = rowStep f s (implRowsAt c) (c .kind3) (c .kind1) k v e

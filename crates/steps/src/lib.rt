@@ -5,13 +5,13 @@
 // is in specs/Arrays; that this is what the design in the arrays says is in proofs/States.
 use layout::Shape;
 ghost use mathlib.Core.Path.{_≡_};
-ghost use Prim.Native.Nat.{_%_, _/_, min};
+ghost use Prim.Native.Nat.{_-_, _%_, _/_, min};
 ghost use lib.ListN.{drop};
 ghost use Rattle.design.specs.Line.{rowOf};
 ghost use Rattle.design.specs.Loaded.{implRowsAt, specRowsAt, invariantAt};
 ghost use Rattle.layout.specs.Sizes.{countsOf};
 ghost use Rattle.steps.specs.Arrays.{padded, valuesAt, stepOf, noStep, rowStep, rowSpan, rowWith, stateIn, initialIn, belowIn, sameIn, invariantIn, insideIn, mappedIn, measureIn};
-ghost use Rattle.steps.specs.Arrays.{implStep, specStep, implSpan, specSpan, implRow, specRow};
+ghost use Rattle.steps.specs.Arrays.{implLine, specLine, implStep, specStep, implSpan, specSpan, implRow, specRow};
 
 // What a row does at a state for a sum value: its action, whether it is enabled, the data number, and the state that it leads to.
 pub struct Step {
@@ -323,6 +323,26 @@ pub fn measure<'a>(
 }
 
 // ---- the two processes
+
+// Where the line of row k of the implementation starts, and of the specification, rows being counted from 1.
+pub fn impl_line(starts: &[u16; 84], shape: Shape, k: u16) -> u16
+    ensures { λ r. ⌜ r ≡ implLine (now (starts .entry)) (countsOf shape) k ⌝ }
+{
+    layout::line(starts, before(impl_rows_line(shape) as usize + k as usize))
+}
+
+pub fn spec_line(starts: &[u16; 84], shape: Shape, k: u16) -> u16
+    ensures { λ r. ⌜ r ≡ specLine (now (starts .entry)) (countsOf shape) k ⌝ }
+{
+    layout::line(starts, before(spec_rows_line(shape) as usize + k as usize))
+}
+
+// One less, and 0 for 0.
+fn before(i: usize) -> usize
+    ensures { λ r. ⌜ r ≡ i - 1 ⌝ }
+{
+    if i == 0 { 0 } else { i - 1 }
+}
 
 // What row k of the implementation does at v.
 pub fn impl_step<'a>(

@@ -1,12 +1,12 @@
 -- What the code returns, as specs/Examine and specs/Walk say it; the turns of the walk's loop; and that the examination of a number is
 -- that of the state with this number, so that the walk is the walk over the states of the design.
 use mathlib.Core.Path.{_≡_, refl, sym, _∙_, ap}
-use mathlib.Core.Bool.{Bool, true, false, _&&_}
+use mathlib.Core.Bool.{Bool, true, false, not, _&&_}
 use mathlib.Core.List.{List}
 use Prim.Native.Nat.{ℕ, zero, suc, _+_, _-_, _≤_, _<_, min}
 use native.Mathlib.Numerals.{add-one}
 use native.Mathlib.Omega.{arith}
-use borrow.Author.Tests.{le-leb, lt-leb}
+use borrow.Author.Tests.{le-leb, lt-leb, not-true, not-false}
 use lib.Dec.{leb}
 use lib.ListN.{length}
 use Rattle.foundation.specs.First.{Outcome, pass, fail}
@@ -18,6 +18,8 @@ use Rattle.terms.specs.Tree.{pick}
 use Rattle.criteria.specs.Design.{Design, sizes, states, mapped, initialState}
 use Rattle.criteria.specs.Failure.{Failure}
 use Rattle.decision.specs.Tests.{invariantB, holds1}
+use Rattle.decision.specs.Quick.{stateHolds}
+use Rattle.decision.proofs.Quick.{quick-passes}
 use Rattle.decision.specs.Examine.{named, stateAt, firstFailing, examine}
 use Rattle.design.specs.Loaded.{designIn}
 use Rattle.design.specs.declared.Counts.{Counts}
@@ -31,6 +33,9 @@ use Rattle.lowest.specs.declared.Place.{Place}
 use Rattle.lowest.specs.declared.Finding.{Finding}
 use Rattle.lowest.specs.declared.Finding.the-variants.{Nothing, Found}
 use Rattle.lowest.proofs.Decided.{search-held}
+use Rattle.quick.specs.Plan.{planIn}
+use Rattle.quick.specs.Quick.{passesIn}
+use Rattle.quick.proofs.Decided.{quick-held}
 use Rattle.walk.specs.Told.{told, toldWalked, noWalk, namedBy}
 use Rattle.walk.specs.Examine.{examineIn, walkOn}
 use Rattle.walk.specs.Walk.{startIn, walkIn, statesThere, startMeets}
@@ -50,39 +55,43 @@ pub named-found : (n : ℕ) (r : Finding) (x : Place) → r ≡ Found x
 unfolding namedBy
 named-found n r x h = rw h
 
-module _ (f s v : List ℕ) (c : Counts) (k : ℕ) (b : Bool) (ev : v ≡ stateIn f s (c .kind1) k) (eb : b ≡ invariantIn f s c v) where
-  pub examine-inside : (t : List ℕ) (r : Finding) (o : Answer) → b ≡ true → t ≡ mappedIn f s c v → toldPlace r ≡ searchIn f s c v t → told o ≡ namedBy k r
-      → told o ≡ examineIn f s c k
-  unfolding examineIn namedBy
-  examine-inside t r o h et er eo = eo ∙ rw (er, et, ← ev, ← eb, h)
-
-  pub examine-outside : b ≡ false → told Pass ≡ examineIn f s c k
+module _ (f s p v : List ℕ) (c : Counts) (k : ℕ) (b : Bool) (ev : v ≡ stateIn f s (c .kind1) k) (eb : b ≡ invariantIn f s c v) where
+  pub examine-outside : not b ≡ true → told Pass ≡ examineIn f s c p k
   unfolding examineIn
-  examine-outside h = rw (← ev, ← eb, h)
+  examine-outside h = rw (← ev, ← eb, not-true b h)
+
+  module _ (t : List ℕ) (q : Bool) (h : not b ≡ false) (et : t ≡ mappedIn f s c v) (eq : q ≡ passesIn f s c p v t) where
+    pub examine-passes : q ≡ true → told Pass ≡ examineIn f s c p k
+    unfolding examineIn
+    examine-passes y = rw (← ev, ← eb, not-false b h, ← et, ← eq, y)
+
+    pub examine-finds : (r : Finding) (o : Answer) → q ≡ false → toldPlace r ≡ searchIn f s c v t → told o ≡ namedBy k r → told o ≡ examineIn f s c p k
+    unfolding examineIn namedBy
+    examine-finds r o y er eo = eo ∙ rw (er, ← ev, ← eb, not-false b h, ← et, ← eq, y)
 
 -- ---- the loop
 
-module _ (f s : List ℕ) (c : Counts) (n from : ℕ) where
+module _ (f s p : List ℕ) (c : Counts) (n from : ℕ) where
   unfoldable pub walkLeft : ℕ → theWalk.Walked Failure
-  walkLeft i = plus i (walkOn f s c (n - i) (from + i))
+  walkLeft i = plus i (walkOn f s c p (n - i) (from + i))
 
-  pub walk-begin : walkLeft 0 ≡ walkOn f s c n from
+  pub walk-begin : walkLeft 0 ≡ walkOn f s c p n from
   unfolding walkLeft
   walk-begin =
       let e : n - 0 ≡ n = omega arith in
       let k : from + 0 ≡ from = omega arith in
-      rw (e, k) (λ j. record { outcome = walkOn f s c n from .outcome; count = zero-plus (walkOn f s c n from .count) j })
+      rw (e, k) (λ j. record { outcome = walkOn f s c p n from .outcome; count = zero-plus (walkOn f s c p n from .count) j })
     where
       zero-plus : (m : ℕ) → 0 + m ≡ m
       zero-plus m = omega arith
 
-  pub walk-turn : (i : ℕ) (o : Answer) → i < n → told o ≡ examineIn f s c (from + i) → o ≡ Pass → walkLeft i ≡ walkOn f s c n from
-      → walkLeft (i + 1) ≡ walkOn f s c n from
+  pub walk-turn : (i : ℕ) (o : Answer) → i < n → told o ≡ examineIn f s c p (from + i) → o ≡ Pass → walkLeft i ≡ walkOn f s c p n from
+      → walkLeft (i + 1) ≡ walkOn f s c p n from
   unfolding walkLeft walkOn
   walk-turn i o l eo h inv = go ∙ inv
     where
       w : theWalk.Walked Failure
-      w = walkOn f s c (n - (i + 1)) (from + (i + 1))
+      w = walkOn f s c p (n - (i + 1)) (from + (i + 1))
 
       one : (m : ℕ) → i + 1 + m ≡ i + (1 + m)
       one m = omega arith
@@ -91,20 +100,20 @@ module _ (f s : List ℕ) (c : Counts) (n from : ℕ) where
       go =
           let e : n - i ≡ suc (n - (i + 1)) = omega arith in
           let k : suc (from + i) ≡ from + (i + 1) = omega arith in
-          rw (e, walk-goes (λ k. examineIn f s c k) (n - (i + 1)) (from + i) (sym eo ∙ ap told h), k)
+          rw (e, walk-goes (λ k. examineIn f s c p k) (n - (i + 1)) (from + i) (sym eo ∙ ap told h), k)
           (λ j. record { outcome = w .outcome; count = one (w .count) j })
 
-  pub walk-fail : (i : ℕ) (o : Answer) (x : Said) → i < n → told o ≡ examineIn f s c (from + i) → o ≡ Fail x → walkLeft i ≡ walkOn f s c n from
-      → toldWalked (record { outcome = o; count = i + 1 }) ≡ walkOn f s c n from
+  pub walk-fail : (i : ℕ) (o : Answer) (x : Said) → i < n → told o ≡ examineIn f s c p (from + i) → o ≡ Fail x → walkLeft i ≡ walkOn f s c p n from
+      → toldWalked (record { outcome = o; count = i + 1 }) ≡ walkOn f s c p n from
   unfolding walkLeft walkOn
   walk-fail i o x l eo h inv = go ∙ inv
     where
       go : toldWalked (record { outcome = o; count = i + 1 }) ≡ walkLeft i
       go =
           let e : n - i ≡ suc (n - (i + 1)) = omega arith in
-          rw (e, walk-stops (λ k. examineIn f s c k) (n - (i + 1)) (from + i) _ (sym eo ∙ ap told h), h)
+          rw (e, walk-stops (λ k. examineIn f s c p k) (n - (i + 1)) (from + i) _ (sym eo ∙ ap told h), h)
 
-  pub walk-end : (i : ℕ) → i ≤ n → n ≤ i → walkLeft i ≡ walkOn f s c n from → toldWalked (record { outcome = Pass; count = n }) ≡ walkOn f s c n from
+  pub walk-end : (i : ℕ) → i ≤ n → n ≤ i → walkLeft i ≡ walkOn f s c p n from → toldWalked (record { outcome = Pass; count = n }) ≡ walkOn f s c p n from
   unfolding walkLeft walkOn theWalk.walk
   walk-end i l u inv = go ∙ inv
     where
@@ -123,14 +132,28 @@ walk-alike g h (suc n) i e = rw (e i (omega arith) (omega arith), walk-alike g h
 
 module _ (f s : List ℕ) (c : Counts) (fits : Fit c) where
   -- the examination of a number is that of its state
-  pub examine-held : (k : ℕ) → k < states (designIn f s c) → examineIn f s c k ≡ examine (designIn f s c) k
+  pub examine-held : (k : ℕ) → k < states (designIn f s c) → examineIn f s c (planIn f s c) k ≡ examine (designIn f s c) k
   unfolding examineIn examine
   examine-held k l =
-      let d : Design = designIn f s c in
-      let x : List ℕ = stateAt d k in
-      let long : length x ≡ c .kind1 = held.state-length f s c k in
-      let short : length x ≤ 8 = rw long (fits .kind1) in
-      rw (held.state-held f s c fits k l, held.mapped-held f s c x short, held.invariant-held f s c x short, search-held f s c fits x long)
+      rw (held.state-held f s c fits k l, held.mapped-held f s c x short, held.invariant-held f s c x short, search-held f s c fits x long, quick-held f s c fits x long)
+      (ap (λ o. pick (invariantB d x) o pass) (go (stateHolds d x) refl))
+    where
+      d : Design
+      d = designIn f s c
+
+      x : List ℕ
+      x = stateAt d k
+
+      long : length x ≡ c .kind1
+      long = held.state-length f s c k
+
+      short : length x ≤ 8
+      short = rw long (fits .kind1)
+
+      -- a state that passes the quick test has no failure
+      go : (b : Bool) → stateHolds d x ≡ b → pick b pass (named k (firstFailing d x)) ≡ named k (firstFailing d x)
+      go true h = rw (quick-passes d x h)
+      go false h = refl
 
   pub start-held : startMeets f s c ≡ holds1 (designIn f s c)
   unfolding startMeets
@@ -192,15 +215,15 @@ module _ (f s : List ℕ) (c : Counts) (m n from : ℕ) (most : m ≡ min (state
   unfolding walkIn
   none-so-many r l k er = er ∙ rw (not-there (countsFit c) refl (omega arith))
 
-  pub walked : (r : WalkAnswer) (h : Shape) → from ≤ m → n ≤ m - from → h ≡ shapeOf c → toldWalked r ≡ walkOn f s (countsOf h) n from
+  pub walked : (r : WalkAnswer) (h : Shape) (p : List ℕ) → from ≤ m → n ≤ m - from → h ≡ shapeOf c → p ≡ planIn f s (countsOf h) → toldWalked r ≡ walkOn f s (countsOf h) p n from
       → toldWalked r ≡ walkIn f s c n from
   unfolding walkIn walkOn theWalk.walk
-  walked r h l k eh er = er ∙ go (countsFit c) refl
+  walked r h p l k eh ep er = er ∙ ap (λ q. walkOn f s (countsOf h) q n from) ep ∙ go (countsFit c) refl
     where
       d : Design
       d = designIn f s c
 
-      go : (b : Bool) → countsFit c ≡ b → walkOn f s (countsOf h) n from ≡ pick (statesThere f s c n from) (theWalk.walk (examine d) n from) noWalk
+      go : (b : Bool) → countsFit c ≡ b → walkOn f s (countsOf h) (planIn f s (countsOf h)) n from ≡ pick (statesThere f s c n from) (theWalk.walk (examine d) n from) noWalk
       go false e =
           let z : m ≡ 0 = none-there e in
           let n0 : n ≡ 0 = omega arith in
@@ -208,5 +231,5 @@ module _ (f s : List ℕ) (c : Counts) (m n from : ℕ) (most : m ≡ min (state
       go true e =
           let in-all : from + n ≤ min (states d) 65536 = within e (omega arith) in
           rw (there e (omega arith))
-          (ap (λ q. walkOn f s q n from) (ap countsOf eh ∙ counts-kept c e)
-          ∙ walk-alike (λ j. examineIn f s c j) (examine d) n from (λ j p u. examine-held f s c (fit c true (sym e) refl) j (omega arith)))
+          (ap (λ q. walkOn f s q (planIn f s q) n from) (ap countsOf eh ∙ counts-kept c e)
+          ∙ walk-alike (λ j. examineIn f s c (planIn f s c) j) (examine d) n from (λ j p u. examine-held f s c (fit c true (sym e) refl) j (omega arith)))

@@ -65,7 +65,9 @@ pub fn walk<'a>(
     if most - from < n {
         return no_walk();
     }
-    walk_on(fields, starts, layout::shape_of(counts), from, n)
+    let shape = layout::shape_of(counts);
+    let plan = quick::plan(fields, starts, shape);
+    walk_on(fields, starts, shape, &plan, from, n)
 }
 
 // How many states may be walked.
@@ -113,15 +115,16 @@ fn walk_on<'a>(
     fields: &'a [u16; terms::MAX_FIELDS],
     starts: &'a [u16; 84],
     shape: Shape,
+    plan: &[u16; quick::ENTRIES],
     from: usize,
     n: usize,
 ) -> Walked
     requires { ⌜ from + n ≤ 65536 ⌝ }
-    ensures { λ r. ⌜ toldWalked r ≡ walkOn (now (fields .entry)) (now (starts .entry)) (countsOf shape) n from ⌝ }
+    ensures { λ r. ⌜ toldWalked r ≡ walkOn (now (fields .entry)) (now (starts .entry)) (countsOf shape) (now (plan .entry)) n from ⌝ }
 {
     let mut i = 0;
     while i < n {
-        let o = examine(fields, starts, shape, (from + i) as u16);
+        let o = examine(fields, starts, shape, plan, (from + i) as u16);
         if let Outcome::Fail(_) = o {
             return Walked {
                 outcome: o,
@@ -136,22 +139,26 @@ fn walk_on<'a>(
     }
 }
 
-// One state examined: no failure, or its lowest. Outside the invariant nothing is tried.
+// One state examined: no failure, or its lowest, for which only a state that does not pass the quick test is searched. Outside the
+// invariant nothing is tried.
 fn examine<'a>(
     fields: &'a [u16; terms::MAX_FIELDS],
     starts: &'a [u16; 84],
     shape: Shape,
+    plan: &[u16; quick::ENTRIES],
     number: u16,
 ) -> Outcome
-    ensures { λ r. ⌜ told r ≡ examineIn (now (fields .entry)) (now (starts .entry)) (countsOf shape) number ⌝ }
+    ensures { λ r. ⌜ told r ≡ examineIn (now (fields .entry)) (now (starts .entry)) (countsOf shape) (now (plan .entry)) number ⌝ }
 {
     let v = steps::state(fields, starts, shape.kind1, number);
-    if steps::invariant(fields, starts, shape, &v) {
-        let t = steps::mapped(fields, starts, shape, &v);
-        named(number, lowest::lowest(fields, starts, shape, &v, &t))
-    } else {
-        Outcome::Pass
+    if !steps::invariant(fields, starts, shape, &v) {
+        return Outcome::Pass;
     }
+    let t = steps::mapped(fields, starts, shape, &v);
+    if quick::passes(fields, starts, shape, plan, &v, &t) {
+        return Outcome::Pass;
+    }
+    named(number, lowest::lowest(fields, starts, shape, &v, &t))
 }
 
 // The place of failure with the number of the state.

@@ -10,8 +10,10 @@ examine-spec =
     (tie.spec
     (λ c κs. search needs)
     (λ c κs. search needs)
+    (λ c. search laws.examine-outside)
     (λ c κs. search needs)
     (λ c κs. search needs)
+    (λ c. search laws.examine-passes)
     (λ c κs. search needs)
-    (λ c. search laws.examine-inside)
-    (λ c. search laws.examine-outside))
+    (λ c κs. search needs)
+    (λ c. search laws.examine-finds))

@@ -10,10 +10,10 @@ use Rattle.walk.proofs.walk_on.Statement.{statement}
 use Rattle.walk.proofs.walk_on.Tie as tie
 
 abbrev Inv-loop : tie.InvT-loop
-Inv-loop fields starts shape from n i₀ i = (i ≤ n) × (laws.walkLeft fields starts (countsOf shape) n from i ≡ walkOn fields starts (countsOf shape) n from)
+Inv-loop fields starts shape plan from n i₀ i = (i ≤ n) × (laws.walkLeft fields starts plan (countsOf shape) n from i ≡ walkOn fields starts (countsOf shape) plan n from)
 
 abbrev μ-loop : tie.MeasureT-loop
-μ-loop fields starts shape from n i₀ i = n - i
+μ-loop fields starts shape plan from n i₀ i = n - i
 
 pub walk-on-spec : {M : Type 1} → statement M
 walk-on-spec =

@@ -1,0 +1,78 @@
+#!/usr/bin/env python3
+"""tables.py DIR: writes the benchmark tables a.txt, b.txt, c.txt, d.txt and e.txt. All are accepted.
+
+a  65,536 states, 20 rows of span 16; half of the conditions read the sum value
+b  65,536 states, 24 rows of span 256 that the state rules out or not
+c   1,024 states, 32 + 32 rows of span 256, all enabled
+d   4,096 states, 16 internal rows of span 16 with a measure, 8 visible rows
+e     256 states, 8 rows of span 256 with large terms
+"""
+import sys
+
+NUM, PAR, SUM, ADD, SUB, REM, CHOICE = 0, 1, [2], 3, 4, 5, 6
+TRUE, EQUAL, LESS, NOT, AND, OR = [10], 12, 13, 14, 15, 16
+
+
+def num(n): return [NUM, n]
+def par(i): return [PAR, i]
+def add(v, w): return [ADD] + v + w
+def sub(v, w): return [SUB] + v + w
+def rem(v, w): return [REM] + v + w
+def choice(f, v, w): return [CHOICE] + f + v + w
+def equal(v, w): return [EQUAL] + v + w
+def less(v, w): return [LESS] + v + w
+def both(f, g): return [AND] + f + g
+def negation(f): return [NOT] + f
+
+
+def text(impl, spec, impl_rows, spec_rows, invariant, mapping, measure):
+    lines = [[1, z, i] for z, i in impl] + [[2, z, i] for z, i in spec]
+    for kind, rows in ((3, impl_rows), (4, spec_rows)):
+        for action, span, condition, data, nexts in rows:
+            lines.append([kind, action, span] + condition + data + sum(nexts, []))
+    lines += [[5] + invariant, [6] + sum(mapping, []), [7] + measure]
+    return ''.join(''.join('%6d' % f for f in line) + '\n' for line in lines)
+
+
+def same(rows, impl, spec, invariant=TRUE):
+    """both processes the same"""
+    return text(impl, spec, rows, rows, invariant, [par(i) for i in range(len(spec))], num(0))
+
+
+def a():
+    rows = []
+    for i in range(20):
+        state = equal(rem(par(0), num(20)), num(i))
+        condition = both(state, less(SUM, num(12))) if i % 2 else state
+        rows.append((i + 1, 16, condition, add(par(1), SUM), [rem(add(par(0), SUM), num(256)), par(1)]))
+    return same(rows, [(256, 0), (256, 0)], [(256, 0), (256, 0)])
+
+
+def b():
+    rows = [(i + 1, 256, equal(par(0), num(10 * i)), add(SUM, par(1)), [par(0), SUM]) for i in range(24)]
+    return same(rows, [(256, 0), (256, 0)], [(256, 0), (256, 0)])
+
+
+def c():
+    rows = [(i + 1, 256, TRUE, add(SUM, num(i)), [par(0), rem(add(SUM, num(i)), num(32))]) for i in range(32)]
+    return same(rows, [(32, 0), (32, 0)], [(32, 0), (32, 0)])
+
+
+def d():
+    internal = [(0, 16, both(equal(rem(par(1), num(16)), num(i)), less(num(0), par(0))), num(0), [sub(par(0), num(1)), par(1)]) for i in range(16)]
+    impl = [(i + 1, 16, both(equal(par(0), num(0)), equal(rem(par(1), num(8)), num(i))), SUM, [SUM, par(1)]) for i in range(8)]
+    spec = [(i + 1, 16, equal(rem(par(0), num(8)), num(i)), SUM, [par(0)]) for i in range(8)]
+    return text([(16, 0), (256, 0)], [(256, 0)], internal + impl, spec, TRUE, [par(1)], par(0))
+
+
+def e():
+    deep = SUM
+    for i in range(4):
+        deep = choice(less(par(i % 2), rem(add(par(0), num(i)), num(19))), add(deep, num(1)), num(i))
+    rows = [(i + 1, 256, less(SUM, num(200)), deep, [par(0), rem(deep, num(16))]) for i in range(4)]
+    return same(rows, [(16, 0), (16, 0)], [(16, 0), (16, 0)], less(par(0), num(65535)))
+
+
+for f in (a, b, c, d, e):
+    with open(sys.argv[1] + '/' + f.__name__ + '.txt', 'w') as out:
+        out.write(f())

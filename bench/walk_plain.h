@@ -1,0 +1,145 @@
+/* The walk in plain C, written for speed: the same arrays, no test that a loaded design does not need, each state's mapping and measure
+ * once, each row's partner found before, a state left at its first failure. `hoist` is 1 where a condition that does not read the
+ * sum value is evaluated once for a row, and a row that does not read it at all is looked at once. It answers whether all pass. */
+#ifndef WALK_PLAIN_H
+#define WALK_PLAIN_H
+#include "table.h"
+
+struct got { uint16_t value; uint16_t next; };
+
+static struct got formula_at(const uint16_t *f, unsigned at, const uint16_t *p, unsigned sum);
+
+static struct got value_at(const uint16_t *f, unsigned at, const uint16_t *p, unsigned sum)
+{
+    struct got a, b, c;
+    switch (f[at]) {
+    case 0: return (struct got){f[at + 1], at + 2};
+    case 1: return (struct got){p[f[at + 1]], at + 2};
+    case 2: return (struct got){sum, at + 1};
+    case 3: a = value_at(f, at + 1, p, sum); b = value_at(f, a.next, p, sum); return (struct got){a.value + b.value, b.next};
+    case 4: a = value_at(f, at + 1, p, sum); b = value_at(f, a.next, p, sum); return (struct got){a.value - b.value, b.next};
+    case 5: a = value_at(f, at + 1, p, sum); b = value_at(f, a.next, p, sum); return (struct got){b.value ? a.value % b.value : a.value, b.next};
+    default:
+        c = formula_at(f, at + 1, p, sum); a = value_at(f, c.next, p, sum); b = value_at(f, a.next, p, sum);
+        return (struct got){c.value ? a.value : b.value, b.next};
+    }
+}
+
+static struct got formula_at(const uint16_t *f, unsigned at, const uint16_t *p, unsigned sum)
+{
+    struct got a, b;
+    switch (f[at]) {
+    case 10: return (struct got){1, at + 1};
+    case 11: return (struct got){0, at + 1};
+    case 12: a = value_at(f, at + 1, p, sum); b = value_at(f, a.next, p, sum); return (struct got){a.value == b.value, b.next};
+    case 13: a = value_at(f, at + 1, p, sum); b = value_at(f, a.next, p, sum); return (struct got){a.value < b.value, b.next};
+    case 14: a = formula_at(f, at + 1, p, sum); return (struct got){!a.value, a.next};
+    case 15: a = formula_at(f, at + 1, p, sum); b = formula_at(f, a.next, p, sum); return (struct got){a.value & b.value, b.next};
+    default: a = formula_at(f, at + 1, p, sum); b = formula_at(f, a.next, p, sum); return (struct got){a.value | b.value, b.next};
+    }
+}
+
+static unsigned values_at(const uint16_t *f, unsigned at, unsigned n, const uint16_t *p, unsigned sum, uint16_t *out)
+{
+    for (unsigned i = 0; i < n; i++) { struct got a = value_at(f, at, p, sum); out[i] = a.value; at = a.next; }
+    return at;
+}
+
+/* whether `2` stands in n terms; *at is the place after them */
+static int reads_sum(const uint16_t *f, unsigned *at, unsigned n)
+{
+    static const int more[] = {0, 0, 0, 2, 2, 2, 3, 0, 0, 0, 0, 0, 2, 2, 1, 2, 2};
+    int reads = 0;
+    for (unsigned left = n; left; left--) {
+        unsigned mark = f[(*at)++];
+        if (mark < 2) (*at)++;
+        reads |= mark == 2;
+        left += more[mark];
+    }
+    return reads;
+}
+
+struct row { unsigned at, span, action, partner, looks, free; };
+
+static void plain_rows(const struct table *t, unsigned first, unsigned n, unsigned m, struct row *rows, int *reads)
+{
+    for (unsigned i = 0; i < n; i++) {
+        unsigned start = t->starts[first + i];
+        rows[i] = (struct row){start + 3, t->fields[start + 2], t->fields[start + 1], 0, 0, 0};
+        unsigned at = start + 3;
+        rows[i].free = !reads_sum(t->fields, &at, 1);
+        reads[i] = !rows[i].free | reads_sum(t->fields, &at, 1 + m);
+    }
+}
+
+static int plain_walk(const struct table *t, size_t from, size_t n, int hoist)
+{
+    const uint16_t *f = t->fields;
+    unsigned k1 = t->kind[1], k2 = t->kind[2], k3 = t->kind[3], k4 = t->kind[4];
+    unsigned inv = t->starts[k1 + k2 + k3 + k4] + 1, map = t->starts[k1 + k2 + k3 + k4 + 1] + 1, mea = t->starts[k1 + k2 + k3 + k4 + 2] + 1;
+    unsigned size[8], spec_size[8];
+    struct row ir[32], sr[32];
+    int iread[32], sread[32];
+    for (unsigned i = 0; i < k1; i++) size[i] = f[t->starts[i] + 1];
+    for (unsigned i = 0; i < k2; i++) spec_size[i] = f[t->starts[k1 + i] + 1];
+    plain_rows(t, k1 + k2, k3, k1, ir, iread);
+    plain_rows(t, k1 + k2 + k3, k4, k2, sr, sread);
+    for (unsigned i = 0; i < k3; i++) {
+        int reads = iread[i];
+        for (unsigned j = 0; j < k4; j++) if (sr[j].action == ir[i].action) { ir[i].partner = j + 1; reads |= sread[j]; break; }
+        ir[i].looks = hoist && !reads ? 1 : ir[i].span;
+        ir[i].free &= hoist;
+    }
+    for (unsigned i = 0; i < k4; i++) {
+        int reads = !sr[i].free;
+        for (unsigned j = 0; j < k3; j++) if (ir[j].action == sr[i].action) { unsigned at = ir[j].at; sr[i].partner = j + 1; reads |= reads_sum(f, &at, 1); break; }
+        sr[i].looks = hoist && !reads ? 1 : sr[i].span;
+        sr[i].free &= hoist;
+    }
+    for (size_t s = from; s < from + n; s++) {
+        uint16_t v[8], w[8], x[8], y[8], z[8];
+        unsigned left = s;
+        for (unsigned i = k1; i-- > 0; left /= size[i]) v[i] = left % size[i];
+        if (!formula_at(f, inv, v, 0).value) continue;
+        values_at(f, map, k2, v, 0, w);
+        for (unsigned i = 0; i < k2; i++) if (w[i] >= spec_size[i]) return 0;
+        unsigned measure = value_at(f, mea, v, 0).value;
+        int focus = 1;
+        for (unsigned i = 0; i < k3; i++) {
+            const struct row *r = ir + i;
+            struct got c = {0, 0};
+            if (r->free) { c = formula_at(f, r->at, v, 0); if (!c.value) continue; }
+            for (unsigned e = 0; e < r->looks; e++) {
+                if (!r->free) { c = formula_at(f, r->at, v, e); if (!c.value) continue; }
+                struct got d = value_at(f, c.next, v, e);
+                values_at(f, d.next, k1, v, e, x);
+                for (unsigned k = 0; k < k1; k++) if (x[k] >= size[k]) return 0;
+                if (!formula_at(f, inv, x, 0).value) return 0;
+                values_at(f, map, k2, x, 0, y);
+                if (!r->action) {
+                    focus = 0;
+                    for (unsigned k = 0; k < k2; k++) if (y[k] != w[k]) return 0;
+                    if (value_at(f, mea, x, 0).value >= measure) return 0;
+                    continue;
+                }
+                if (!r->partner) return 0;
+                struct got q = formula_at(f, sr[r->partner - 1].at, w, e);
+                if (!q.value) return 0;
+                q = value_at(f, q.next, w, e);
+                if (q.value != d.value) return 0;
+                values_at(f, q.next, k2, w, e, z);
+                for (unsigned k = 0; k < k2; k++) if (y[k] != z[k]) return 0;
+            }
+        }
+        if (focus) for (unsigned i = 0; i < k4; i++) {
+            const struct row *r = sr + i;
+            if (r->free && !formula_at(f, r->at, w, 0).value) continue;
+            for (unsigned e = 0; e < r->looks; e++) {
+                if (!r->free && !formula_at(f, r->at, w, e).value) continue;
+                if (!r->partner || !formula_at(f, ir[r->partner - 1].at, v, e).value) return 0;
+            }
+        }
+    }
+    return 1;
+}
+#endif

@@ -1,0 +1,4 @@
+pub mod Conjuncts
+pub mod Planned
+pub mod Seeing
+pub mod Decided

@@ -1,0 +1,15 @@
+-- Both parts.
+use borrow.Author.Needs.{needs}
+use Rattle.quick.proofs.Seeing as laws
+use Rattle.quick.proofs.kept.Statement.{statement}
+use Rattle.quick.proofs.kept.Tie as tie
+
+pub kept-spec : {M : Type 1} → statement M
+kept-spec =
+    tie.close
+    (tie.spec
+    (λ c κs. search needs)
+    (λ c κs. search needs)
+    (λ c κs. search needs)
+    (λ c. search laws.kept-lowers)
+    (λ c. search laws.kept-not))

@@ -1,0 +1,13 @@
+-- The condition, and then the step.
+use borrow.Author.Needs.{needs}
+use Rattle.quick.proofs.Seeing as laws
+use Rattle.quick.proofs.look.Statement.{statement}
+use Rattle.quick.proofs.look.Tie as tie
+
+pub look-spec : {M : Type 1} → statement M
+look-spec =
+    tie.close
+    (tie.spec
+    (λ c κs. search needs)
+    (λ c κs. search needs)
+    (λ c. search laws.look-is))

@@ -1,0 +1,13 @@
+-- The condition, and then the partner's.
+use borrow.Author.Needs.{needs}
+use Rattle.quick.proofs.Seeing as laws
+use Rattle.quick.proofs.replied.Statement.{statement}
+use Rattle.quick.proofs.replied.Tie as tie
+
+pub replied-spec : {M : Type 1} → statement M
+replied-spec =
+    tie.close
+    (tie.spec
+    (λ c κs. search needs)
+    (λ c κs. search needs)
+    (λ c. search laws.replied-is))

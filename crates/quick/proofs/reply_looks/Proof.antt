@@ -1,0 +1,32 @@
+-- What is left of the row gives the whole.
+use borrow.Author.Needs.{needs}
+use native.Mathlib.Omega.{arith}
+use mathlib.Core.Path.{_≡_}
+use Prim.Native.Nat.{_-_, _≤_}
+use Rattle.quick.proofs.Seeing as laws
+use Rattle.layout.specs.Sizes.{countsOf}
+use Rattle.quick.specs.Quick.{replyLooks}
+use Rattle.quick.proofs.reply_looks.Statement.{statement}
+use Rattle.quick.proofs.reply_looks.Tie as tie
+
+abbrev Inv-loop : tie.InvT-loop
+Inv-loop fields starts shape at depth free j n v t first sum₀ sum = laws.replyLeft fields starts v t (countsOf shape) at depth j n free sum ≡ replyLooks fields starts (countsOf shape) at depth free j n v t
+
+abbrev μ-loop : tie.MeasureT-loop
+μ-loop fields starts shape at depth free j n v t first sum₀ sum = n - sum
+
+pub reply-looks-spec : {M : Type 1} → statement M
+reply-looks-spec =
+    tie.close
+    (tie.spec
+    Inv-loop
+    μ-loop
+    (λ c κs. search needs)
+    (λ c. search laws.reply-ruled-out)
+    (λ c. search laws.reply-begin)
+    (λ c κs. search needs)
+    (λ c. search laws.reply-fail)
+    (λ c. search needs)
+    (λ c. search needs)
+    (λ c. search laws.reply-turn)
+    (λ c. search laws.reply-end))

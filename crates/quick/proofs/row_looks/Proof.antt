@@ -1,0 +1,32 @@
+-- What is left of the row gives the whole.
+use borrow.Author.Needs.{needs}
+use native.Mathlib.Omega.{arith}
+use mathlib.Core.Path.{_≡_}
+use Prim.Native.Nat.{_-_, _≤_}
+use Rattle.quick.proofs.Seeing as laws
+use Rattle.layout.specs.Sizes.{countsOf}
+use Rattle.quick.specs.Quick.{looksIn}
+use Rattle.quick.proofs.row_looks.Statement.{statement}
+use Rattle.quick.proofs.row_looks.Tie as tie
+
+abbrev Inv-loop : tie.InvT-loop
+Inv-loop fields starts shape at depth free internal j n v t m first quiet₀ sum₀ quiet sum = laws.rowLeft fields starts v t (countsOf shape) at depth j n m free internal quiet sum ≡ looksIn fields starts (countsOf shape) at depth free internal j n v t m
+
+abbrev μ-loop : tie.MeasureT-loop
+μ-loop fields starts shape at depth free internal j n v t m first quiet₀ sum₀ quiet sum = n - sum
+
+pub row-looks-spec : {M : Type 1} → statement M
+row-looks-spec =
+    tie.close
+    (tie.spec
+    Inv-loop
+    μ-loop
+    (λ c κs. search needs)
+    (λ c. search laws.row-ruled-out)
+    (λ c. search laws.row-begin)
+    (λ c κs. search needs)
+    (λ c. search laws.row-fail)
+    (λ c. search needs)
+    (λ c. search needs)
+    (λ c. search laws.row-turn)
+    (λ c. search laws.row-end))

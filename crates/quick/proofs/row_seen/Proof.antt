@@ -1,0 +1,18 @@
+-- The conjuncts in front, and then the rest.
+use borrow.Author.Needs.{needs}
+use Rattle.quick.proofs.Seeing as laws
+use Rattle.quick.proofs.row_seen.Statement.{statement}
+use Rattle.quick.proofs.row_seen.Tie as tie
+
+pub row-seen-spec : {M : Type 1} → statement M
+row-seen-spec =
+    tie.close
+    (tie.spec
+    (λ c κs. search needs)
+    (λ c. search needs)
+    (λ c. search needs)
+    (λ c κs. search needs)
+    (λ c. search laws.row-off)
+    (λ c κs. search needs)
+    (λ c κs. search needs)
+    (λ c. search laws.row-on))

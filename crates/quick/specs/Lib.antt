@@ -1,0 +1,3 @@
+pub mod Conjuncts
+pub mod Plan
+pub mod Quick
