@@ -23,7 +23,7 @@ pub enum Phase {
 pub struct Desk {
     // The fields of the text's lines, and where each line starts.
     pub fields: [u16; Desk::MAX_FIELDS],
-    pub starts: [u16; 84],
+    pub starts: [u16; Desk::STARTS],
     pub counts: Counts,
     // The number of the next state to examine.
     pub next: usize,
@@ -84,13 +84,16 @@ impl Desk {
 
     pub const MAX_STATES: usize = 65536;
 
+    // A start for each of 8 + 8 + 32 + 32 + 3 lines, and the end of the last.
+    pub const STARTS: usize = 84;
+
     // A new desk.
     pub fn empty() -> Desk
         ensures { λ r. ⌜ r ≡ emptyDesk ⌝ }
     {
         Desk {
-            fields: [0u16; 4096],
-            starts: [0u16; 84],
+            fields: [0u16; Desk::MAX_FIELDS],
+            starts: [0u16; Desk::STARTS],
             counts: Counts {
                 kind1: 0,
                 kind2: 0,
