@@ -78,7 +78,7 @@ awk '
         due("drop 0")
     }' "$work/plan" > "$work/due"
 if ! cut -f 1 "$work/due" | cmp -s - "$work/answers"; then
-    paste "$work/due" "$work/answers" | awk -F '\t' '$1 != $3 { print "compare: " $2 ": \"" $1 "\" is due, desk_calls writes \"" $3 "\""; exit }'
+    paste "$work/due" "$work/answers" | awk -F '\t' '$1 != $3 { print "compare: " $2 ": \"" $1 "\" is due, desk_calls writes \"" $3 "\""; exit }' || true
     exit 1
 fi
 lists=$(wc -l < "$work/plan")
