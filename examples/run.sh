@@ -1,0 +1,27 @@
+#!/usr/bin/env bash
+# Checks every table of examples/ with check_table and compares with reports.tsv, byte for byte. Ends with 1 if any differs.
+set -euo pipefail
+cd "$(dirname "$0")/.."
+program=target/bin/check_table
+[ -x "$program" ] || { echo "examples: $program isn't built yet; ./check examples/pump.txt builds it" >&2; exit 1; }
+
+work=$(mktemp -d)
+trap 'rm -rf "$work"' EXIT
+count=0
+differ=0
+for file in examples/*.txt; do
+    name=$(basename "$file" .txt)
+    "$program" < "$file" > "$work/got" || true
+    awk -F '\t' -v name="$name" '$1 == name { print $2 }' examples/reports.tsv > "$work/want"
+    if ! cmp -s "$work/got" "$work/want"; then
+        echo "examples: $name: check_table writes \"$(cat "$work/got")\", the report is \"$(cat "$work/want")\""
+        differ=1
+    fi
+    count=$((count + 1))
+done
+# Each report has its table.
+while IFS=$'\t' read -r name _; do
+    [ -f "examples/$name.txt" ] || { echo "examples: $name: a report without a table"; differ=1; }
+done < examples/reports.tsv
+[ "$differ" = 0 ] || exit 1
+echo "examples: $count tables, no difference"
