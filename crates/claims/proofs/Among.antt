@@ -26,17 +26,10 @@ use Rattle.checker.proofs.Opened.{designText}
 use Rattle.checker.proofs.Stages.{Stage, fresh, going, accepts, fails}
 use Rattle.checker.proofs.Judging.{loaded-free}
 use Rattle.claims.specs.Calls.{Called, load, AcceptedIn, Walked}
-use Rattle.claims.proofs.Lists.{Calls, new, then-load, then-advance, then-verdict, then-drop}
+use Rattle.claims.proofs.Lists.{Calls, new, then-load, then-advance, then-verdict, then-drop, latest, earlier}
 use Rattle.claims.proofs.Kept.{load-at}
 use Rattle.claims.proofs.OneCall.{Checks, answered, long-answer, judged-free}
 use Rattle.claims.proofs.Reached.{Reached, reached, decided}
-
--- the calls after the last are those of a shorter list
-head-same : {c e : Called} {cs ds : List Called} → c ∷ cs ≡ e ∷ ds → c ≡ e
-head-same q = cc
-
-tail-same : {c e : Called} {cs ds : List Called} → c ∷ cs ≡ e ∷ ds → cs ≡ ds
-tail-same q = cc
 
 new-is : {cs : List Called} {d : Desk} → Calls cs d → cs ≡ [] → d ≡ emptyDesk
 new-is (new e) q = e
@@ -56,13 +49,13 @@ module _ (text : List ℕ) (t : DesignText text) where
   first-load : {cs : List Called} {d : Desk} {a : Done} → Calls cs d → cs ≡ load text a ∷ [] → a ≡ done.Done
   first-load (new e) q = absurd (nil≢cons q)
   first-load {a = a} (then-load {d = d} {r = r} κs u c e) q =
-      let p = head-same q in
+      let p = latest q in
       let same : now u ≡ text = cc in
       let answered : a ≡ r .answer = cc in
-      answered ∙ ap (λ x. x .answer) e ∙ rw same (load-new d (new-is c (tail-same q)))
-  first-load (then-advance n c e) q = let p = head-same q in let z : _≡_ {A = ℕ} 0 1 = cc in absurd (omega arith)
-  first-load (then-verdict c e) q = let p = head-same q in let z : _≡_ {A = ℕ} 0 1 = cc in absurd (omega arith)
-  first-load (then-drop c e) q = let p = head-same q in let z : _≡_ {A = ℕ} 0 1 = cc in absurd (omega arith)
+      answered ∙ ap (λ x. x .answer) e ∙ rw same (load-new d (new-is c (earlier q)))
+  first-load (then-advance n c e) q = let p = latest q in let z : _≡_ {A = ℕ} 0 1 = cc in absurd (omega arith)
+  first-load (then-verdict c e) q = let p = latest q in let z : _≡_ {A = ℕ} 0 1 = cc in absurd (omega arith)
+  first-load (then-drop c e) q = let p = latest q in let z : _≡_ {A = ℕ} 0 1 = cc in absurd (omega arith)
 
   pub by-load : {d : Desk} {a : Done} → Calls (load text a ∷ []) d → a ≡ done.Done
   by-load c = first-load c refl

@@ -30,7 +30,7 @@ use Rattle.checker.proofs.Stages.{Stage, fresh, going, accepts, fails, Advances
 use Rattle.checker.proofs.Judging.{opened-stage, loaded-free, loaded-fault}
 use Rattle.claims.specs.Calls.{Called, load, advance, verdict, drop, NoLoad, refused, advanced, told, dropped, LastLoad, here, before, AcceptedIn}
 use Rattle.claims.specs.Calls as calls
-use Rattle.claims.proofs.Lists.{Calls, new, then-load, then-advance, then-verdict, then-drop}
+use Rattle.claims.proofs.Lists.{Calls, new, then-load, then-advance, then-verdict, then-drop, latest, earlier}
 
 -- ---- the last load is one
 
@@ -166,27 +166,20 @@ accepted-at {d = d} n k (empty e) l a = absurd (refused-none (sym (ap (λ r. r .
 accepted-at {d = d} n k (holds {text = t} m s) l a =
     rw (last-one l m) (record { free = free-of s; verdict-is = advance-stage t d n s .accepted-is k a })
 
--- the tails of two lists
-tail-same : {c e : Called} {cs ds : List Called} → c ∷ cs ≡ e ∷ ds → cs ≡ ds
-tail-same q = cc
-
-not-advance : {c : Called} {n k : ℕ} {cs ds : List Called} → c ∷ cs ≡ advance n (progress.Accepted k) ∷ ds → c ≡ advance n (progress.Accepted k)
-not-advance q = cc
-
 accepted-in : {cs ds : List Called} {d : Desk} {text : List ℕ} → Calls cs d → AcceptedIn ds text → cs ≡ ds → Accepts text
 accepted-in (new e) (calls.here l) q = absurd (nil≢cons q)
 accepted-in (new e) (calls.before a) q = absurd (nil≢cons q)
-accepted-in (then-load κs t c e) (calls.here l) q = let p = not-advance q in let z : _≡_ {A = ℕ} 0 1 = cc in absurd (omega arith)
-accepted-in (then-load κs t c e) (calls.before a) q = accepted-in c a (tail-same q)
+accepted-in (then-load κs t c e) (calls.here l) q = let p = latest q in let z : _≡_ {A = ℕ} 0 1 = cc in absurd (omega arith)
+accepted-in (then-load κs t c e) (calls.before a) q = accepted-in c a (earlier q)
 accepted-in (then-advance {r = r} n c e) (calls.here {n = m} {k = k} l) q =
-    let p = not-advance q in
+    let p = latest q in
     let answer : r .answer ≡ progress.Accepted k = cc in
-    accepted-at n k (kept c) (rw (tail-same q) l) (sym (ap (λ x. x .answer) e) ∙ answer)
-accepted-in (then-advance n c e) (calls.before a) q = accepted-in c a (tail-same q)
-accepted-in (then-verdict c e) (calls.here l) q = let p = not-advance q in let z : _≡_ {A = ℕ} 0 1 = cc in absurd (omega arith)
-accepted-in (then-verdict c e) (calls.before a) q = accepted-in c a (tail-same q)
-accepted-in (then-drop c e) (calls.here l) q = let p = not-advance q in let z : _≡_ {A = ℕ} 0 1 = cc in absurd (omega arith)
-accepted-in (then-drop c e) (calls.before a) q = accepted-in c a (tail-same q)
+    accepted-at n k (kept c) (rw (earlier q) l) (sym (ap (λ x. x .answer) e) ∙ answer)
+accepted-in (then-advance n c e) (calls.before a) q = accepted-in c a (earlier q)
+accepted-in (then-verdict c e) (calls.here l) q = let p = latest q in let z : _≡_ {A = ℕ} 0 1 = cc in absurd (omega arith)
+accepted-in (then-verdict c e) (calls.before a) q = accepted-in c a (earlier q)
+accepted-in (then-drop c e) (calls.here l) q = let p = latest q in let z : _≡_ {A = ℕ} 0 1 = cc in absurd (omega arith)
+accepted-in (then-drop c e) (calls.before a) q = accepted-in c a (earlier q)
 
 pub accepted-verdict : {cs : List Called} {d : Desk} {text : List ℕ} → Calls cs d → AcceptedIn cs text → Accepts text
 accepted-verdict c a = accepted-in c a refl

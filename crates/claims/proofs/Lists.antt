@@ -2,6 +2,7 @@
 -- allows: `Post` is what the method ensures, of its arguments, its result and its arguments at exit. So nothing can stand in for
 -- the methods.
 use Prim.Native.Nat.{ℕ}
+use mathlib.Core.Path.{_≡_}
 use mathlib.Core.List.{List, [], _∷_}
 use denote.Ref.{RefT, now}
 use contract.Lifetimes.{Lfts}
@@ -30,3 +31,10 @@ pub data Calls : List Called → Desk → Type 0 where
       → verdict-reads.Post tt (d, tt) r (d, tt) → Calls (verdict (r .answer) ∷ calls) (r .desk)
   then-drop : {calls : List Called} {d : Desk} {r : AfterDrop} → Calls calls d
       → drop-reads.Post tt (d, tt) r (d, tt) → Calls (drop (r .answer) ∷ calls) (r .desk)
+
+-- the latest call of a list, and those before it
+pub latest : {c e : Called} {cs ds : List Called} → c ∷ cs ≡ e ∷ ds → c ≡ e
+latest q = cc
+
+pub earlier : {c e : Called} {cs ds : List Called} → c ∷ cs ≡ e ∷ ds → cs ≡ ds
+earlier q = cc

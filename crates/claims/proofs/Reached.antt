@@ -34,7 +34,7 @@ use Rattle.checker.proofs.Stages.{Stage, fresh, going, accepts, fails, Advances
 use Rattle.checker.proofs.Judging.{opened-stage, loaded-free, loaded-fault}
 use Rattle.claims.specs.Calls.{Called, load, advance, verdict, drop, NoLoad, LastLoad, here, before, AcceptedIn, Walked}
 use Rattle.claims.specs.Calls as calls
-use Rattle.claims.proofs.Lists.{Calls, new, then-load, then-advance, then-verdict, then-drop}
+use Rattle.claims.proofs.Lists.{Calls, new, then-load, then-advance, then-verdict, then-drop, latest, earlier}
 use Rattle.claims.proofs.Kept.{Kept, empty, holds, kept, load-at, advance-at, by-none, tell-desk}
 
 -- after advances by m in all, whose answers counted k
@@ -172,48 +172,42 @@ module _ {cs : List Called} {text : List ℕ} {d : Desk} {m k : ℕ} (n : ℕ) (
 
 -- ---- every list
 
-tail-same : {c e : Called} {cs ds : List Called} → c ∷ cs ≡ e ∷ ds → cs ≡ ds
-tail-same q = cc
-
-head-same : {c e : Called} {cs ds : List Called} → c ∷ cs ≡ e ∷ ds → c ≡ e
-head-same q = cc
-
 reached-in : {cs ds : List Called} {d : Desk} {text : List ℕ} {m k : ℕ} → Calls cs d → Walked ds text m k → cs ≡ ds → Reached cs text d m k
 reached-in (new e) calls.loaded q = absurd (nil≢cons q)
 reached-in (new e) (calls.on w) q = absurd (nil≢cons q)
 reached-in (new e) (calls.told w) q = absurd (nil≢cons q)
 reached-in (new e) (calls.refused w) q = absurd (nil≢cons q)
 reached-in {text = text} (then-load {d = d} {r = r} κs t c e) calls.loaded q =
-    let p = head-same q in
+    let p = latest q in
     let same-text : now t ≡ text = cc in
     let answered : r .answer ≡ done.Done = cc in
     let l = load-done (now t) (kept c) (ap (λ x. x .answer) (sym e) ∙ answered) in
     rw (← same-text, answered) (loaded-reached _ (now t) (r .desk) (l .0) (ap (λ x. x .desk) e ∙ l .1))
-reached-in (then-load κs t c e) (calls.on w) q = let p = head-same q in let z : _≡_ {A = ℕ} 0 1 = cc in absurd (omega arith)
-reached-in (then-load κs t c e) (calls.told w) q = let p = head-same q in let z : _≡_ {A = ℕ} 0 1 = cc in absurd (omega arith)
+reached-in (then-load κs t c e) (calls.on w) q = let p = latest q in let z : _≡_ {A = ℕ} 0 1 = cc in absurd (omega arith)
+reached-in (then-load κs t c e) (calls.told w) q = let p = latest q in let z : _≡_ {A = ℕ} 0 1 = cc in absurd (omega arith)
 reached-in (then-load {d = d} {r = r} κs t c e) (calls.refused {j = j} w) q =
-    let p = head-same q in
+    let p = latest q in
     let answered : r .answer ≡ done.TurnedDown j = cc in
-    let ih = reached-in c w (tail-same q) in
+    let ih = reached-in c w (earlier q) in
     let stays : r .desk ≡ d = ap (λ x. x .desk) e ∙ load-stays 0 ih (now t) (ih .stage) in
     rw (stays, answered) (same (load (now t) (done.TurnedDown j)) calls.refused ih)
-reached-in (then-advance n c e) calls.loaded q = let p = head-same q in let z : _≡_ {A = ℕ} 0 1 = cc in absurd (omega arith)
+reached-in (then-advance n c e) calls.loaded q = let p = latest q in let z : _≡_ {A = ℕ} 0 1 = cc in absurd (omega arith)
 reached-in (then-advance {r = r} n c e) (calls.on {n = i} {a = a} w) q =
-    let p = head-same q in
+    let p = latest q in
     let many : i ≡ n = cc in
     let answered : a ≡ r .answer = cc in
-    let ih = reached-in c w (tail-same q) in
+    let ih = reached-in c w (earlier q) in
     rw (many, answered, e) (advance-reached n ih (ih .stage))
-reached-in (then-advance n c e) (calls.told w) q = let p = head-same q in let z : _≡_ {A = ℕ} 0 1 = cc in absurd (omega arith)
-reached-in (then-advance n c e) (calls.refused w) q = let p = head-same q in let z : _≡_ {A = ℕ} 0 1 = cc in absurd (omega arith)
-reached-in (then-verdict c e) calls.loaded q = let p = head-same q in let z : _≡_ {A = ℕ} 0 1 = cc in absurd (omega arith)
-reached-in (then-verdict c e) (calls.on w) q = let p = head-same q in let z : _≡_ {A = ℕ} 0 1 = cc in absurd (omega arith)
-reached-in (then-verdict {d = d} c e) (calls.told w) q = rw e (tells d (reached-in c w (tail-same q)))
-reached-in (then-verdict c e) (calls.refused w) q = let p = head-same q in let z : _≡_ {A = ℕ} 0 1 = cc in absurd (omega arith)
-reached-in (then-drop c e) calls.loaded q = let p = head-same q in let z : _≡_ {A = ℕ} 0 1 = cc in absurd (omega arith)
-reached-in (then-drop c e) (calls.on w) q = let p = head-same q in let z : _≡_ {A = ℕ} 0 1 = cc in absurd (omega arith)
-reached-in (then-drop c e) (calls.told w) q = let p = head-same q in let z : _≡_ {A = ℕ} 0 1 = cc in absurd (omega arith)
-reached-in (then-drop c e) (calls.refused w) q = let p = head-same q in let z : _≡_ {A = ℕ} 0 1 = cc in absurd (omega arith)
+reached-in (then-advance n c e) (calls.told w) q = let p = latest q in let z : _≡_ {A = ℕ} 0 1 = cc in absurd (omega arith)
+reached-in (then-advance n c e) (calls.refused w) q = let p = latest q in let z : _≡_ {A = ℕ} 0 1 = cc in absurd (omega arith)
+reached-in (then-verdict c e) calls.loaded q = let p = latest q in let z : _≡_ {A = ℕ} 0 1 = cc in absurd (omega arith)
+reached-in (then-verdict c e) (calls.on w) q = let p = latest q in let z : _≡_ {A = ℕ} 0 1 = cc in absurd (omega arith)
+reached-in (then-verdict {d = d} c e) (calls.told w) q = rw e (tells d (reached-in c w (earlier q)))
+reached-in (then-verdict c e) (calls.refused w) q = let p = latest q in let z : _≡_ {A = ℕ} 0 1 = cc in absurd (omega arith)
+reached-in (then-drop c e) calls.loaded q = let p = latest q in let z : _≡_ {A = ℕ} 0 1 = cc in absurd (omega arith)
+reached-in (then-drop c e) (calls.on w) q = let p = latest q in let z : _≡_ {A = ℕ} 0 1 = cc in absurd (omega arith)
+reached-in (then-drop c e) (calls.told w) q = let p = latest q in let z : _≡_ {A = ℕ} 0 1 = cc in absurd (omega arith)
+reached-in (then-drop c e) (calls.refused w) q = let p = latest q in let z : _≡_ {A = ℕ} 0 1 = cc in absurd (omega arith)
 
 pub reached : {cs : List Called} {d : Desk} {text : List ℕ} {m k : ℕ} → Calls cs d → Walked cs text m k → Reached cs text d m k
 reached c w = reached-in c w refl

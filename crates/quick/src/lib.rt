@@ -2,9 +2,9 @@
 // passes is paid for once, and only one that fails is searched (crate lowest). Every function answers any arrays.
 //
 // What does not change from state to state is worked out before, in the plan: of each row its partner, the row of its action in the other
-// process; how many of its sum values need a look, one where nothing in the row and its partner reads the sum value; whether
-// its condition reads it; and how many conjuncts in front of its condition do not, so that a row that these rule out costs no more. What each function computes is in specs/Plan and specs/Quick; that it is the quick test of the crate
-// decision is in proofs/Decided.
+// process; how many of its sum values need a look, one where nothing in the row and its partner reads the sum value; whether its
+// condition reads it; and how many conjuncts in front of its condition do not, so that a row that these rule out costs no more. What
+// each function computes is in specs/Plan and specs/Quick; that it is the quick test of the crate decision is in proofs/Decided.
 use eval::Held;
 use layout::Shape;
 ghost use mathlib.Core.Path.{_≡_};
