@@ -3,6 +3,7 @@
 #include "show.h"
 
 #include <stdbool.h>
+#include <string.h>
 
 static bool is_blank(int c) {
     return c == ' ' || c == '\t' || c == '\r' || c == '\v' || c == '\f';
@@ -16,25 +17,53 @@ static long read_number(FILE *in, int *c) {
     return number <= UINT16_MAX && (*c == EOF || *c == '\n' || is_blank(*c)) ? number : -1;
 }
 
+/* The text is kept until all of it is made, so that a fault leaves no half table behind. */
+struct made {
+    char bytes[MAX_TEXT];
+    size_t len;
+};
+
+static bool add(struct made *m, const char *bytes, size_t len) {
+    if (len > sizeof m->bytes - m->len) return false;
+    memcpy(m->bytes + m->len, bytes, len);
+    m->len += len;
+    return true;
+}
+
+static bool add_field(struct made *m, long number) {
+    char field[24];
+    snprintf(field, sizeof field, "%6ld", number);
+    return add(m, field, COLUMNS);
+}
+
+static int give_up(const char *name, unsigned long line, unsigned long field, const char *why) {
+    fprintf(stderr, "linkcheck: %s: line %lu, field %lu: %s\n", name, line, field, why);
+    return -1;
+}
+
 int write_columns(FILE *out, FILE *in, const char *name) {
+    static struct made made;
     unsigned long line = 1, field = 0;
-    for (int c = getc(in);;) {
+    bool fits = true;
+    made.len = 0;
+    for (int c = getc(in); fits;) {
         if (is_blank(c)) {
             c = getc(in);
         } else if (c == '\n' || c == EOF) {
-            if (field > 0) putc('\n', out);
-            if (c == EOF) return 0;
+            if (field > 0) fits = add(&made, "\n", 1);
+            if (c == EOF && fits) {
+                fwrite(made.bytes, 1, made.len, out);
+                return 0;
+            }
             c = getc(in);
             line++;
             field = 0;
         } else {
             long number = read_number(in, &c);
             field++;
-            if (number < 0) {
-                fprintf(stderr, "linkcheck: %s: line %lu: field %lu is not a number from 0 to 65535\n", name, line, field);
-                return -1;
-            }
-            fprintf(out, "%6ld", number);
+            if (number < 0) return give_up(name, line, field, "not a number from 0 to 65535");
+            fits = add_field(&made, number);
         }
     }
+    return give_up(name, line, field, "the columns up to here are more than the 28672 bytes of a table");
 }

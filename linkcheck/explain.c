@@ -153,6 +153,10 @@ void print_difference(FILE *out, const struct verdict *v) {
     print[v->criterion](out, &h);
 }
 
+void print_name(FILE *out, const char *name) {
+    for (; *name; name++) fputc((unsigned char)*name < ' ' || *name == 0x7F ? '?' : *name, out);
+}
+
 void print_verdict(FILE *out, const struct verdict *v) {
     switch (v->outcome) {
     case CHECK_ACCEPTED: fputs("accepted", out); break;

@@ -17,6 +17,9 @@ const struct row *failing_row(const struct verdict *v);
 /* What differs, in words, for a failed table. */
 void print_difference(FILE *out, const struct verdict *v);
 
+/* A file's name on one line: control characters, which could end it, become question marks. */
+void print_name(FILE *out, const char *name);
+
 /* The verdict as one line's words, without byte 10. */
 void print_verdict(FILE *out, const struct verdict *v);
 

@@ -8,7 +8,7 @@
 #include <stdlib.h>
 #include <string.h>
 
-enum { STATUS_USAGE = 64, MOST_PROCESSES = 256 };
+enum { STATUS_USAGE = 64 };
 
 static const char help[] =
     "linkcheck checks tables: whether a board may replace the price link controller of a fuel pump.\n"
@@ -23,8 +23,8 @@ static const char help[] =
     "      -j N      in N processes, 1 to 256; the order of the lines is the same\n"
     "  linkcheck --show FILE\n"
     "      The table for a person, with its terms in infix, and its verdict. Parameters of the implementation\n"
-    "      are p0, p1, .., of the specification q0, q1, ..; s is the sum value. Sums and differences are\n"
-    "      modulo 65536; x mod 0 is x.\n"
+    "      are p0, p1, .., of the specification q0, q1, ..; s is the sum value. A row's next values are\n"
+    "      those that change. Sums and differences are modulo 65536; x mod 0 is x.\n"
     "  linkcheck --columns [FILE]\n"
     "      A table typed with any blanks between its fields, as six-column text.\n"
     "  linkcheck --aut impl|spec FILE\n"
@@ -122,14 +122,23 @@ static enum side side_of(const char *word) {
 
 /* ---- one table ---- */
 
+/* The beginning of a message about a file. */
+static void complain(const char *name) {
+    fputs("linkcheck: ", stderr);
+    print_name(stderr, name);
+    fputs(": ", stderr);
+}
+
 static int cannot_read(const char *name, int error) {
-    fprintf(stderr, "linkcheck: %s: %s\n", name, strerror(error));
+    complain(name);
+    fprintf(stderr, "%s\n", strerror(error));
     return STATUS_UNREAD;
 }
 
 static int show(const char *name, const struct verdict *v) {
     if (v->outcome != CHECK_TURNED_DOWN) show_table(stdout, &v->table);
-    printf("%s  ", name);
+    print_name(stdout, name);
+    fputs("  ", stdout);
     print_verdict(stdout, v);
     putchar('\n');
     return (int)v->outcome;
@@ -137,14 +146,16 @@ static int show(const char *name, const struct verdict *v) {
 
 static int system_of(const char *name, const struct verdict *v, enum mode mode, enum side side) {
     if (v->outcome == CHECK_TURNED_DOWN) {
-        fprintf(stderr, "linkcheck: %s: ", name);
+        complain(name);
         print_verdict(stderr, v);
         fputc('\n', stderr);
         return CHECK_TURNED_DOWN;
     }
     const char *why = mode == AUT ? write_aut(stdout, &v->table, side) : write_dot(stdout, &v->table, side);
-    if (why) fprintf(stderr, "linkcheck: %s: %s\n", name, why);
-    return why ? 1 : 0;
+    if (!why) return 0;
+    complain(name);
+    fprintf(stderr, "%s\n", why);
+    return 1;
 }
 
 static int look_at(const char *name, enum mode mode, enum side side) {
@@ -170,7 +181,9 @@ static int columns(const char *name) {
 static int check(const struct arguments *a) {
     struct paths paths = {0};
     for (int i = 0; i < a->operands; i++) paths_add(&paths, a->operand[i]);
-    return run(&paths, a->format, a->processes);
+    int status = run(&paths, a->format, a->processes);
+    paths_free(&paths);
+    return status;
 }
 
 static int perform(const struct arguments *a) {

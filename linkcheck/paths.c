@@ -15,22 +15,20 @@ _Noreturn void no_memory(void) {
     exit(STATUS_UNREAD);
 }
 
+static char *copy_of(const char *words) {
+    char *copy = strdup(words);
+    if (!copy) no_memory();
+    return copy;
+}
+
 /* Keeps the name, which is on the heap. */
 static void keep(struct paths *p, char *name, const char *wrong) {
-    if (!name) no_memory();
     if (p->count == p->room) {
         p->room = p->room ? 2 * p->room : 64;
         p->path = realloc(p->path, p->room * sizeof *p->path);
         if (!p->path) no_memory();
     }
-    p->path[p->count++] = (struct path){name, wrong};
-}
-
-/* The words of an errno last as long as the program. */
-static const char *words(int error) {
-    char *copy = strdup(strerror(error));
-    if (!copy) no_memory();
-    return copy;
+    p->path[p->count++] = (struct path){name, wrong ? copy_of(wrong) : NULL};
 }
 
 static char *joined(const char *folder, const char *name) {
@@ -52,7 +50,7 @@ static void add_folder(struct paths *p, const char *folder);
 static void add_entry(struct paths *p, char *name) {
     struct stat link, file;
     if (lstat(name, &link) != 0 || stat(name, &file) != 0) {
-        keep(p, name, words(errno));
+        keep(p, name, strerror(errno));
     } else if (S_ISREG(file.st_mode)) {
         keep(p, name, NULL);
     } else if (S_ISDIR(link.st_mode)) {
@@ -67,7 +65,7 @@ static void add_folder(struct paths *p, const char *folder) {
     struct dirent **entry;
     int count = scandir(folder, &entry, not_hidden, alphasort);
     if (count < 0) {
-        keep(p, strdup(folder), words(errno));
+        keep(p, copy_of(folder), strerror(errno));
         return;
     }
     for (int i = 0; i < count; i++) {
@@ -79,8 +77,16 @@ static void add_folder(struct paths *p, const char *folder) {
 
 void paths_add(struct paths *p, const char *name) {
     struct stat file;
-    if (strcmp(name, "-") == 0) keep(p, strdup(name), NULL);
-    else if (stat(name, &file) != 0) keep(p, strdup(name), words(errno));
+    if (strcmp(name, "-") == 0) keep(p, copy_of(name), NULL);
+    else if (stat(name, &file) != 0) keep(p, copy_of(name), strerror(errno));
     else if (S_ISDIR(file.st_mode)) add_folder(p, name);
-    else keep(p, strdup(name), NULL);
+    else keep(p, copy_of(name), NULL);
+}
+
+void paths_free(struct paths *p) {
+    for (size_t i = 0; i < p->count; i++) {
+        free(p->path[i].name);
+        free(p->path[i].wrong);
+    }
+    free(p->path);
 }

@@ -7,7 +7,7 @@
 /* A file, or what could not be read instead. */
 struct path {
     char *name;
-    const char *wrong; /* NULL for a file */
+    char *wrong; /* why it could not; NULL for a file */
 };
 
 struct paths {
@@ -17,6 +17,8 @@ struct paths {
 
 /* Adds a file, or the files of a folder and of the folders in it, in name order. In a folder, names that begin with a dot are left out. */
 void paths_add(struct paths *p, const char *name);
+
+void paths_free(struct paths *p);
 
 /* Ends the program with a message: there is no memory. */
 _Noreturn void no_memory(void);

@@ -22,11 +22,6 @@ struct answer {
 
 /* ---- one file ---- */
 
-/* A name on one line: control characters, which would end it, become question marks. */
-static void print_name(FILE *out, const char *name) {
-    for (; *name; name++) fputc((unsigned char)*name < ' ' || *name == 0x7F ? '?' : *name, out);
-}
-
 static void write_verdict(FILE *out, const char *name, const struct verdict *v, enum format format) {
     switch (format) {
     case REPORT: fwrite(v->report, 1, sizeof v->report, out); break;
@@ -201,13 +196,13 @@ static struct answer next_answer(const struct worker *w, const struct path *path
         free(a.out);
         free(a.error);
     }
-    return answer_to(&(struct path){path->name, "the process that checked it ended early"}, format);
+    char wrong[] = "the process that checked it ended early";
+    return answer_to(&(struct path){path->name, wrong}, format);
 }
 
 static void run_workers(struct tally *t, const struct paths *paths, enum format format, size_t processes) {
-    struct worker *worker = calloc(processes, sizeof *worker);
+    struct worker worker[MOST_PROCESSES];
     size_t started = 0;
-    if (!worker) no_memory();
     while (started < processes && start_worker(&worker[started], paths, format, started, processes)) started++;
     for (size_t i = 0; i < paths->count; i++) {
         const struct path *path = &paths->path[i];
@@ -220,7 +215,6 @@ static void run_workers(struct tally *t, const struct paths *paths, enum format 
         close(worker[k].answers);
         waitpid(worker[k].process, NULL, 0);
     }
-    free(worker);
 }
 
 int run(const struct paths *paths, enum format format, size_t processes) {

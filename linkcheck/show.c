@@ -8,6 +8,22 @@ static void show_parameters(FILE *out, const struct process *p, char letter) {
         fprintf(out, "  %c%u of size %u, initially %u\n", letter, i, p->size[i], p->initial[i]);
 }
 
+/* The next values of the parameters that do not keep theirs. */
+static void show_next(FILE *out, const struct process *p, const struct row *row, char letter) {
+    const char *before = "";
+    term next = row->next;
+    for (unsigned i = 0; i < p->parameters; i++) {
+        if (next[0] == PARAMETER && next[1] == i) {
+            next += 2;
+            continue;
+        }
+        fprintf(out, "%s%c%u := ", before, letter, i);
+        next = print_value(out, next, letter);
+        before = ", ";
+    }
+    if (!*before) fputs("no change", out);
+}
+
 static void show_row(FILE *out, const struct process *p, unsigned r, char letter) {
     const struct row *row = &p->row[r];
     fprintf(out, "  row %u: ", r + 1);
@@ -21,12 +37,8 @@ static void show_row(FILE *out, const struct process *p, unsigned r, char letter
     }
     fputs(" when ", out);
     print_formula(out, row->condition, letter);
-    fputs(", then", out);
-    term next = row->next;
-    for (unsigned i = 0; i < p->parameters; i++) {
-        fprintf(out, "%s %c%u := ", i ? "," : "", letter, i);
-        next = print_value(out, next, letter);
-    }
+    fputs(", then ", out);
+    show_next(out, p, row, letter);
     fputc('\n', out);
 }
 
