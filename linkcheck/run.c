@@ -68,12 +68,13 @@ static struct answer answer_to(const struct path *path, enum format format) {
 
 struct progress {
     int wanted, shown;
+    int in_the_way; /* the answers go to the terminal too */
     struct timespec last;
     size_t done, all;
 };
 
 static struct progress progress_start(size_t all) {
-    struct progress p = {.wanted = isatty(STDERR_FILENO), .all = all};
+    struct progress p = {.wanted = isatty(STDERR_FILENO), .in_the_way = isatty(STDOUT_FILENO), .all = all};
     clock_gettime(CLOCK_MONOTONIC, &p.last);
     return p;
 }
@@ -104,7 +105,7 @@ struct tally {
 };
 
 static void give(struct tally *t, struct answer *a) {
-    progress_clear(&t->progress);
+    if (t->progress.in_the_way || a->error_length) progress_clear(&t->progress);
     fwrite(a->out, 1, a->out_length, stdout);
     if (a->error_length) {
         fflush(stdout);

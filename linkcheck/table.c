@@ -15,7 +15,6 @@ static const struct { unsigned least, most; } lines_of[KINDS + 1] = {
 
 static const struct fault no_fault;
 
-__attribute__((format(printf, 3, 4)))
 static struct fault fault(unsigned number, size_t line, const char *format, ...) {
     struct fault f = {.number = number, .line = line};
     va_list arguments;

@@ -121,6 +121,13 @@ ${CC:-cc} -std=c11 -Wall -Wextra -O2 linkcheck/test/damage.c -o "$work/damage"
 for found in "$work/words" "$work/plain"; do
     if grep 'turned down [0-9] ([^)]*)\(, line [0-9]*\)\?$' "$found"; then fail "a fault is not found"; fi
 done
+# What is said to differ differs.
+for found in "$work/words" "$work/plain"; do
+    if grep -e "data \([0-9]*\), ours \1\$" -e 'mapped to \(([^)]*)\), ours to \1$' -e 'mapped to \(([^)]*)\), our initial state is \1$' \
+        -e 'the state is mapped to \(([^)]*)\), .*, mapped to \1$' "$found"; then fail "nothing differs"; fi
+    if sed -n 's/.*: the measure is \([0-9]*\), and \([0-9]*\) after.*/\1 \2/p' "$found" | awk '$2 < $1' | grep .; then fail "the measure falls"; fi
+    if grep 'criterion 2 ' "$found" | grep -v 'not below the size'; then fail "no mapped value is outside"; fi
+done
 
 # Every look, by the command given, over a folder's tables.
 looks() {
