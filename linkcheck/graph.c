@@ -6,7 +6,8 @@
 
 #include <stdlib.h>
 
-enum { MOST_STATES = 1 << 20, SLOTS = 2 * MOST_STATES, MOST_DRAWN = 1000 };
+/* A specification that reaches more states than an implementation can have has some to which none is mapped: no table with it is accepted. */
+enum { MOST_STATES = MAX_STATES, SLOTS = 2 * MOST_STATES, MOST_DRAWN = 1000 };
 
 struct edge {
     unsigned action, data;
@@ -27,9 +28,12 @@ struct graph {
 };
 
 static size_t hash(const struct state *s) {
-    uint64_t h = 14695981039346656037u;
-    for (int i = 0; i < MAX_PARAMETERS; i++) h = (h ^ s->value[i]) * 1099511628211u;
-    return (h ^ h >> 29) % SLOTS;
+    uint64_t h = 0;
+    for (int i = 0; i < MAX_PARAMETERS; i++) {
+        h = (h + s->value[i] + 1) * 0x9E3779B97F4A7C15u;
+        h ^= h >> 32;
+    }
+    return h % SLOTS;
 }
 
 /* The number of a state, a new one if it wasn't found before. */
@@ -97,7 +101,7 @@ static const char *explore(struct graph *g, uint32_t most) {
         leave(g, from);
         g->transitions += g->edges;
         if (g->too_many || g->states > most)
-            return most == MOST_DRAWN ? "over 1,000 states, which is too many for a picture; --aut writes them" : "over 1,048,576 states";
+            return most == MOST_DRAWN ? "over 1,000 states, which is too many for a picture; --aut writes them" : "over 65,536 states, which is more than an implementation can have";
     }
     return NULL;
 }

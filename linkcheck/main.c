@@ -30,7 +30,7 @@ static const char help[] =
     "  linkcheck --aut impl|spec FILE\n"
     "      The transition system of the implementation or of the specification in the Aldebaran format: the\n"
     "      states that the initial state reaches inside the sizes and, for impl, the invariant. Labels are\n"
-    "      \"tau\" and an action with its data, as \"a2(1)\".\n"
+    "      \"tau\" and an action with its data, as \"a2(1)\". At most 65,536 states, as many as a board can have.\n"
     "  linkcheck --dot impl|spec FILE\n"
     "      The same as a Graphviz picture, up to 1,000 states; focus points have a double line.\n"
     "  linkcheck --help\n"

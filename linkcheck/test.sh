@@ -24,7 +24,8 @@ fail() {
 
 boards=()
 for name in P_given P_inv_false P_second_spec_size_3 P_first_size_2 P_row2_last_next_0 P_measure_0 P_cond_row3_true P_row2_removed P_data_row3 \
-    P_second_map_0 c1_start_good_first inv_cuts abp_noloss__no_flip t234567 t34 t45 t56 t67 kit_cabp; do
+    P_second_map_0 c1_start_good_first inv_cuts abp_noloss__no_flip t1_far t234567 t34 t45 t56 t67 \
+    t7_span_3_specification kit_cabp; do
     boards+=("$tables/$name.txt")
 done
 expect() {
@@ -97,6 +98,13 @@ status 64 --aut both "$good"
 status 64 --report --json "$good"
 status 64 --show --json "$good"
 if [ -c /dev/full ]; then "$linkcheck" "$good" > /dev/full 2> "$work/error" && fail "a full disk is not noticed"; fi
+
+# Too many states.
+"$linkcheck" --columns linkcheck/test/wide.txt > "$work/wide.txt"
+status 1 --dot spec "$work/wide.txt"
+grep -q 'too many for a picture' "$work/error" || fail "--dot of many states: $(cat "$work/error")"
+status 1 --aut spec "$work/wide.txt"
+grep -q 'over 65,536 states' "$work/error" || fail "--aut of many states: $(cat "$work/error")"
 
 # Folders: name order, folders within, names with a dot left out, links to folders not followed, odd names on one line.
 mkdir -p "$work/store/b/c" "$work/store/empty"
