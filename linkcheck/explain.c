@@ -1,0 +1,174 @@
+/* A verdict in words: the place of a failure with its values, and what differs there. "The board" is the implementation, "ours" is the
+ * specification. */
+#define _POSIX_C_SOURCE 200809L
+#include "explain.h"
+#include "state.h"
+
+static const char *const criteria[] = {
+    "", "start", "mapped values", "invariant", "mapping", "measure", "allowed by ours", "offered by the board", "data", "next state",
+};
+static const char *const faults[] = {
+    "", "length of the text", "columns", "number of fields", "kinds of lines", "sizes, initial values, spans", "terms", "actions",
+};
+
+const char *criterion_word(unsigned criterion) {
+    return criterion < sizeof criteria / sizeof *criteria ? criteria[criterion] : "";
+}
+
+const char *fault_word(unsigned number) {
+    return number < sizeof faults / sizeof *faults ? faults[number] : "";
+}
+
+/* ---- the place ---- */
+
+enum { START = 1, MAPPED_VALUES, KEEPS_INVARIANT, KEEPS_MAPPING, SMALLER_MEASURE, ALLOWED, OFFERED, DATA, NEXT };
+
+bool row_is_ours(const struct verdict *v) {
+    return v->criterion == OFFERED;
+}
+
+const struct row *failing_row(const struct verdict *v) {
+    const struct process *p = row_is_ours(v) ? &v->table.spec : &v->table.impl;
+    return v->row >= 1 && v->row <= p->rows ? &p->row[v->row - 1] : NULL;
+}
+
+/* "state 9 = (2, 1)"; the values alone if they are outside the sizes. */
+static void print_numbered(FILE *out, const struct process *p, const struct state *s) {
+    if (outside(p, s) == p->parameters) fprintf(out, "state %lu = ", state_number(p, s));
+    print_state(out, p, s);
+}
+
+static void print_place(FILE *out, const struct verdict *v) {
+    const struct state s = numbered_state(&v->table.impl, v->state);
+    const struct row *row = failing_row(v);
+    fputs(", ", out);
+    print_numbered(out, &v->table.impl, &s);
+    if (!row) return;
+    fprintf(out, ", %srow %u ", row_is_ours(v) ? "our " : "", v->row);
+    if (row->action == INTERNAL) fputs("(internal)", out);
+    else fprintf(out, "(action %u)", row->action);
+    fprintf(out, ", sum value %u", v->sum);
+}
+
+/* ---- what differs, for each criterion ---- */
+
+/* The failing state, where it is mapped to, and where the failing row leads. */
+struct here {
+    const struct table *t;
+    const struct row *row;
+    unsigned sum;
+    struct state state, mapped, next;
+};
+
+static void print_start(FILE *out, const struct here *h) {
+    const struct state ours = initial_state(&h->t->spec);
+    if (!invariant_holds(h->t, &h->state)) {
+        fputs("the invariant does not hold in the initial state", out);
+        return;
+    }
+    fputs("the initial state is mapped to ", out);
+    print_state(out, &h->t->spec, &h->mapped);
+    fputs(", our initial state is ", out);
+    print_state(out, &h->t->spec, &ours);
+}
+
+static void print_mapped_values(FILE *out, const struct here *h) {
+    unsigned i = outside(&h->t->spec, &h->mapped);
+    fputs("it is mapped to ", out);
+    print_state(out, &h->t->spec, &h->mapped);
+    if (i < h->t->spec.parameters) fprintf(out, ", and %u is not below the size %u of our parameter %u", h->mapped.value[i], h->t->spec.size[i], i);
+}
+
+static void print_invariant(FILE *out, const struct here *h) {
+    const struct process *p = &h->t->impl;
+    unsigned i = outside(p, &h->next);
+    fputs("the step leads to ", out);
+    print_numbered(out, p, &h->next);
+    if (i < p->parameters) fprintf(out, ", and %u is not below the size %u of parameter %u", h->next.value[i], p->size[i], i);
+    else fputs(", where the invariant does not hold", out);
+}
+
+static void print_mapping(FILE *out, const struct here *h) {
+    const struct state after = mapped(h->t, &h->next);
+    fputs("the state is mapped to ", out);
+    print_state(out, &h->t->spec, &h->mapped);
+    fputs(", the step leads to ", out);
+    print_numbered(out, &h->t->impl, &h->next);
+    fputs(", mapped to ", out);
+    print_state(out, &h->t->spec, &after);
+}
+
+static void print_measure(FILE *out, const struct here *h) {
+    fprintf(out, "the measure is %u, and %u after the step to ", measure(h->t, &h->state), measure(h->t, &h->next));
+    print_numbered(out, &h->t->impl, &h->next);
+}
+
+static void print_allowed(FILE *out, const struct here *h) {
+    const struct row *ours = row_of(&h->t->spec, h->row->action);
+    if (!ours) {
+        fprintf(out, "the board can do action %u, ours has no row of it", h->row->action);
+        return;
+    }
+    fprintf(out, "the board can do action %u, our row %td is not enabled at the mapped state ", h->row->action, ours - h->t->spec.row + 1);
+    print_state(out, &h->t->spec, &h->mapped);
+}
+
+static void print_offered(FILE *out, const struct here *h) {
+    const struct row *boards = row_of(&h->t->impl, h->row->action);
+    fputs("ours can do it at the mapped state ", out);
+    print_state(out, &h->t->spec, &h->mapped);
+    if (boards) fprintf(out, ", the board's row %td is not enabled, nor any internal row", boards - h->t->impl.row + 1);
+    else fprintf(out, ", the board has no row of action %u, and no internal row is enabled", h->row->action);
+}
+
+static void print_data(FILE *out, const struct here *h) {
+    const struct row *ours = row_of(&h->t->spec, h->row->action);
+    if (!ours) return;
+    fprintf(out, "the board's data %u, ours %u", data_number(h->row, &h->state, h->sum), data_number(ours, &h->mapped, h->sum));
+}
+
+static void print_next(FILE *out, const struct here *h) {
+    const struct row *ours = row_of(&h->t->spec, h->row->action);
+    if (!ours) return;
+    const struct state boards = mapped(h->t, &h->next), our_next = next_state(&h->t->spec, ours, &h->mapped, h->sum);
+    fputs("the board's step leads to ", out);
+    print_numbered(out, &h->t->impl, &h->next);
+    fputs(", mapped to ", out);
+    print_state(out, &h->t->spec, &boards);
+    fputs(", ours to ", out);
+    print_state(out, &h->t->spec, &our_next);
+}
+
+void print_difference(FILE *out, const struct verdict *v) {
+    static void (*const print[])(FILE *, const struct here *) = {
+        [START] = print_start, [MAPPED_VALUES] = print_mapped_values, [KEEPS_INVARIANT] = print_invariant,
+        [KEEPS_MAPPING] = print_mapping, [SMALLER_MEASURE] = print_measure, [ALLOWED] = print_allowed,
+        [OFFERED] = print_offered, [DATA] = print_data, [NEXT] = print_next,
+    };
+    const struct table *t = &v->table;
+    struct here h = {.t = t, .row = failing_row(v), .sum = v->sum, .state = numbered_state(&t->impl, v->state)};
+    if (v->criterion < START || v->criterion > NEXT || (v->criterion >= KEEPS_INVARIANT && !h.row)) return;
+    h.mapped = mapped(t, &h.state);
+    if (h.row && !row_is_ours(v)) h.next = next_state(&t->impl, h.row, &h.state, h.sum);
+    print[v->criterion](out, &h);
+}
+
+void print_name(FILE *out, const char *name) {
+    for (; *name; name++) fputc((unsigned char)*name < ' ' || *name == 0x7F ? '?' : *name, out);
+}
+
+void print_verdict(FILE *out, const struct verdict *v) {
+    switch (v->outcome) {
+    case CHECK_ACCEPTED: fputs("accepted", out); break;
+    case CHECK_FAILED:
+        fprintf(out, "failed: criterion %u (%s)", v->criterion, criterion_word(v->criterion));
+        print_place(out, v);
+        fputs(": ", out);
+        print_difference(out, v);
+        break;
+    default:
+        fprintf(out, "turned down %u (%s)", v->criterion, fault_word(v->criterion));
+        if (v->fault.line) fprintf(out, ", line %zu", v->fault.line);
+        if (v->fault.words[0]) fprintf(out, ": %s", v->fault.words);
+    }
+}

@@ -1,0 +1,215 @@
+/* linkcheck: the price link checker at a terminal and in scripts. Here are its arguments; run.c has the check of a list of files. */
+#define _POSIX_C_SOURCE 200809L
+#include "explain.h"
+#include "run.h"
+#include "show.h"
+
+#include <errno.h>
+#include <stdlib.h>
+#include <string.h>
+
+enum { STATUS_USAGE = 64 };
+
+static const char help[] =
+    "linkcheck checks tables: whether a board may replace the price link controller of a fuel pump.\n"
+    "\n"
+    "  linkcheck [--report | --json] [-j N] FILE|FOLDER ...\n"
+    "      One line a table: accepted; failed, where and by what; or turned down, by which rule and in which\n"
+    "      line. \"The board\" is the implementation, \"ours\" the specification. A last line has the counts.\n"
+    "      Folders are walked in name order; names in them that begin with a dot are left out.\n"
+    "      -  is standard input.\n"
+    "      --report  the 31 bytes of each report and nothing else\n"
+    "      --json    one JSON object a table, each on a line\n"
+    "      -j N      in N processes, 1 to 256; the order of the lines is the same\n"
+    "  linkcheck --show FILE\n"
+    "      The table for a person, with its terms in infix, and its verdict. Parameters of the implementation\n"
+    "      are p0, p1, .., of the specification q0, q1, ..; s is the sum value. A row's next values are\n"
+    "      those that change. Sums and differences are modulo 65536; x mod 0 is x.\n"
+    "  linkcheck --columns [FILE]\n"
+    "      A table typed with any blanks between its fields, as six-column text.\n"
+    "  linkcheck --aut impl|spec FILE\n"
+    "      The transition system of the implementation or of the specification in the Aldebaran format: the\n"
+    "      states that the initial state reaches inside the sizes and, for impl, the invariant. Labels are\n"
+    "      \"tau\" and an action with its data, as \"a2(1)\". At most 65,536 states, as many as a board can have.\n"
+    "  linkcheck --dot impl|spec FILE\n"
+    "      The same as a Graphviz picture, up to 1,000 states; focus points have a double line.\n"
+    "  linkcheck --help\n"
+    "\n"
+    "Exit status: 0 all accepted, 1 some failed, 2 some turned down, 3 something could not be read or written,\n"
+    "the highest of these; 64 wrong arguments. With --columns, --aut and --dot 0 is done, 2 is a text that is\n"
+    "no table, and 1 is a system that cannot be written.\n";
+
+enum mode { CHECK, SHOW, TYPED_COLUMNS, AUT, DOT };
+
+struct arguments {
+    enum mode mode;
+    const char *mode_name; /* the option that gave the mode; NULL for none */
+    enum format format;
+    size_t processes;
+    char **operand;
+    int operands;
+};
+
+/* ---- arguments ---- */
+
+static _Noreturn void usage(const char *what, const char *which) {
+    fprintf(stderr, "linkcheck: %s%s%s\nlinkcheck --help tells what can be asked.\n", what, which ? ": " : "", which ? which : "");
+    exit(STATUS_USAGE);
+}
+
+static size_t process_count(const char *number) {
+    char *end = NULL;
+    if (!number) usage("-j needs a number of processes", NULL);
+    long count = *number >= '0' && *number <= '9' ? strtol(number, &end, 10) : 0;
+    if (!end || *end || count < 1 || count > MOST_PROCESSES) usage("-j takes a number from 1 to 256", number);
+    return (size_t)count;
+}
+
+static void set_mode(struct arguments *a, enum mode mode, const char *name) {
+    if (a->mode_name) usage("one of these options at a time", name);
+    a->mode = mode;
+    a->mode_name = name;
+}
+
+static void set_format(struct arguments *a, enum format format) {
+    if (a->format != WORDS) usage("--report or --json, once", NULL);
+    a->format = format;
+}
+
+static void take_option(struct arguments *a, const char *option) {
+    if (strcmp(option, "--report") == 0) set_format(a, REPORT);
+    else if (strcmp(option, "--json") == 0) set_format(a, JSON);
+    else if (strcmp(option, "--show") == 0) set_mode(a, SHOW, option);
+    else if (strcmp(option, "--columns") == 0) set_mode(a, TYPED_COLUMNS, option);
+    else if (strcmp(option, "--aut") == 0) set_mode(a, AUT, option);
+    else if (strcmp(option, "--dot") == 0) set_mode(a, DOT, option);
+    else usage("unknown option", option);
+}
+
+/* Takes the options and moves the operands to the front. */
+static struct arguments take_arguments(int count, char **argument) {
+    struct arguments a = {.processes = 1, .operand = argument + 1};
+    int options_end = 0;
+    for (int i = 1; i < count; i++) {
+        char *arg = argument[i];
+        if (options_end || arg[0] != '-' || arg[1] == 0) {
+            a.operand[a.operands++] = arg;
+        } else if (strcmp(arg, "--") == 0) {
+            options_end = 1;
+        } else if (strcmp(arg, "--help") == 0) {
+            fputs(help, stdout);
+            exit(fflush(stdout) == 0 ? 0 : STATUS_UNREAD);
+        } else if (strncmp(arg, "-j", 2) == 0) {
+            const char *number = arg[2] ? arg + 2 : i + 1 < count ? argument[++i] : NULL;
+            a.processes = process_count(number);
+        } else {
+            take_option(&a, arg);
+        }
+    }
+    if (a.mode != CHECK && (a.format != WORDS || a.processes > 1)) usage("--report, --json and -j do not go with", a.mode_name);
+    return a;
+}
+
+static void expect_operands(const struct arguments *a, int least, int most) {
+    if (a->operands < least) usage(a->mode_name ? "more is needed after" : "a file or folder is needed", a->mode_name);
+    if (a->operands > most) usage("too many arguments", a->operand[most]);
+}
+
+static enum side side_of(const char *word) {
+    if (strcmp(word, "impl") != 0 && strcmp(word, "spec") != 0) usage("impl or spec is due, not", word);
+    return word[0] == 'i' ? IMPLEMENTATION : SPECIFICATION;
+}
+
+/* ---- one table ---- */
+
+/* The beginning of a message about a file. */
+static void complain(const char *name) {
+    fputs("linkcheck: ", stderr);
+    print_name(stderr, name);
+    fputs(": ", stderr);
+}
+
+static int cannot_read(const char *name, int error) {
+    complain(name);
+    fprintf(stderr, "%s\n", strerror(error));
+    return STATUS_UNREAD;
+}
+
+static int show(const char *name, const struct verdict *v) {
+    if (v->outcome != CHECK_TURNED_DOWN) show_table(stdout, &v->table);
+    print_name(stdout, name);
+    fputs("  ", stdout);
+    print_verdict(stdout, v);
+    putchar('\n');
+    return (int)v->outcome;
+}
+
+static int system_of(const char *name, const struct verdict *v, enum mode mode, enum side side) {
+    if (v->outcome == CHECK_TURNED_DOWN) {
+        complain(name);
+        print_verdict(stderr, v);
+        fputc('\n', stderr);
+        return CHECK_TURNED_DOWN;
+    }
+    const char *why = mode == AUT ? write_aut(stdout, &v->table, side) : write_dot(stdout, &v->table, side);
+    if (!why) return 0;
+    complain(name);
+    fprintf(stderr, "%s\n", why);
+    return 1;
+}
+
+static int look_at(const char *name, enum mode mode, enum side side) {
+    static struct text text;
+    static struct verdict verdict;
+    int error = text_read(&text, name);
+    if (error) return cannot_read(name, error);
+    verdict_of(&verdict, &text);
+    return mode == SHOW ? show(name, &verdict) : system_of(name, &verdict, mode, side);
+}
+
+static int columns(const char *name) {
+    FILE *in = strcmp(name, "-") == 0 ? stdin : fopen(name, "r");
+    if (!in) return cannot_read(name, errno);
+    int status = write_columns(stdout, in, name) == 0 ? 0 : CHECK_TURNED_DOWN;
+    if (ferror(in)) status = cannot_read(name, errno);
+    if (in != stdin) fclose(in);
+    return status;
+}
+
+/* ---- all of it ---- */
+
+static int check(const struct arguments *a) {
+    struct paths paths = {0};
+    for (int i = 0; i < a->operands; i++) paths_add(&paths, a->operand[i]);
+    int status = run(&paths, a->format, a->processes);
+    paths_free(&paths);
+    return status;
+}
+
+static int perform(const struct arguments *a) {
+    switch (a->mode) {
+    case SHOW:
+        expect_operands(a, 1, 1);
+        return look_at(a->operand[0], SHOW, IMPLEMENTATION);
+    case TYPED_COLUMNS:
+        expect_operands(a, 0, 1);
+        return columns(a->operands ? a->operand[0] : "-");
+    case AUT:
+    case DOT:
+        expect_operands(a, 2, 2);
+        return look_at(a->operand[1], a->mode, side_of(a->operand[0]));
+    default:
+        expect_operands(a, 1, a->operands);
+        return check(a);
+    }
+}
+
+int main(int count, char **argument) {
+    const struct arguments a = take_arguments(count, argument);
+    int status = perform(&a);
+    if (fflush(stdout) != 0 || ferror(stdout)) {
+        fprintf(stderr, "linkcheck: cannot write: %s\n", strerror(errno));
+        return STATUS_UNREAD;
+    }
+    return status;
+}

@@ -1,0 +1,92 @@
+/* The files that are to be checked, in order. */
+#define _POSIX_C_SOURCE 200809L
+#include "paths.h"
+#include "verdict.h"
+
+#include <dirent.h>
+#include <errno.h>
+#include <stdio.h>
+#include <stdlib.h>
+#include <string.h>
+#include <sys/stat.h>
+
+_Noreturn void no_memory(void) {
+    fputs("linkcheck: no memory\n", stderr);
+    exit(STATUS_UNREAD);
+}
+
+static char *copy_of(const char *words) {
+    char *copy = strdup(words);
+    if (!copy) no_memory();
+    return copy;
+}
+
+/* Keeps the name, which is on the heap. */
+static void keep(struct paths *p, char *name, const char *wrong) {
+    if (p->count == p->room) {
+        p->room = p->room ? 2 * p->room : 64;
+        p->path = realloc(p->path, p->room * sizeof *p->path);
+        if (!p->path) no_memory();
+    }
+    p->path[p->count++] = (struct path){name, wrong ? copy_of(wrong) : NULL};
+}
+
+static char *joined(const char *folder, const char *name) {
+    size_t length = strlen(folder);
+    const char *slash = length && folder[length - 1] == '/' ? "" : "/";
+    char *path = malloc(length + strlen(name) + 2);
+    if (!path) no_memory();
+    sprintf(path, "%s%s%s", folder, slash, name);
+    return path;
+}
+
+static int not_hidden(const struct dirent *entry) {
+    return entry->d_name[0] != '.';
+}
+
+static void add_folder(struct paths *p, const char *folder);
+
+/* A link to a folder is not followed, as it may lead back. */
+static void add_entry(struct paths *p, char *name) {
+    struct stat link, file;
+    if (lstat(name, &link) != 0 || stat(name, &file) != 0) {
+        keep(p, name, strerror(errno));
+    } else if (S_ISREG(file.st_mode)) {
+        keep(p, name, NULL);
+    } else if (S_ISDIR(link.st_mode)) {
+        add_folder(p, name);
+        free(name);
+    } else {
+        keep(p, name, S_ISDIR(file.st_mode) ? "a link to a folder, not followed" : "not a file");
+    }
+}
+
+static void add_folder(struct paths *p, const char *folder) {
+    struct dirent **entry;
+    int count = scandir(folder, &entry, not_hidden, alphasort);
+    if (count < 0) {
+        keep(p, copy_of(folder), strerror(errno));
+        return;
+    }
+    for (int i = 0; i < count; i++) {
+        add_entry(p, joined(folder, entry[i]->d_name));
+        free(entry[i]);
+    }
+    free(entry);
+}
+
+void paths_add(struct paths *p, const char *name) {
+    struct stat file;
+    if (strcmp(name, "-") == 0) keep(p, copy_of(name), NULL);
+    else if (stat(name, &file) != 0) keep(p, copy_of(name), strerror(errno));
+    else if (S_ISDIR(file.st_mode)) add_folder(p, name);
+    else keep(p, copy_of(name), NULL);
+}
+
+void paths_free(struct paths *p) {
+    for (size_t i = 0; i < p->count; i++) {
+        free(p->path[i].name);
+        free(p->path[i].wrong);
+    }
+    free(p->path);
+}

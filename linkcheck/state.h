@@ -1,0 +1,43 @@
+/* States of a process and the steps of its rows. */
+#ifndef STATE_H
+#define STATE_H
+
+#include "table.h"
+
+#include <stdbool.h>
+#include <stdio.h>
+
+/* One value for each parameter of a process. */
+struct state {
+    unsigned value[MAX_PARAMETERS];
+};
+
+struct state initial_state(const struct process *p);
+
+/* The state with this number, and the number of a state that is inside the sizes: mixed radix, the first parameter most significant. */
+struct state numbered_state(const struct process *p, unsigned long number);
+unsigned long state_number(const struct process *p, const struct state *s);
+
+bool same_state(const struct process *p, const struct state *a, const struct state *b);
+
+/* The first parameter whose value is not below its size; the number of parameters if there is none. */
+unsigned outside(const struct process *p, const struct state *s);
+
+bool enabled(const struct row *r, const struct state *s, unsigned sum);
+struct state next_state(const struct process *p, const struct row *r, const struct state *s, unsigned sum);
+unsigned data_number(const struct row *r, const struct state *s, unsigned sum);
+
+/* The row of a visible action; NULL if there is none. */
+const struct row *row_of(const struct process *p, unsigned action);
+
+/* No internal row is enabled. */
+bool focus_point(const struct process *p, const struct state *s);
+
+bool invariant_holds(const struct table *t, const struct state *s);
+struct state mapped(const struct table *t, const struct state *s);
+unsigned measure(const struct table *t, const struct state *s);
+
+/* Writes the values as (2, 1). */
+void print_state(FILE *out, const struct process *p, const struct state *s);
+
+#endif

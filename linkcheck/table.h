@@ -1,0 +1,62 @@
+/* A design text taken apart: its fields, its two processes, its invariant, mapping and measure; or the place of its fault.
+ * Whether a text is turned down is for check_design to say. What is here serves the words that a person reads. */
+#ifndef TABLE_H
+#define TABLE_H
+
+#include <stddef.h>
+#include <stdint.h>
+
+enum {
+    MAX_TEXT = 28672,
+    MAX_FIELDS = 4096,
+    MAX_LINE_FIELDS = 256,
+    MAX_PARAMETERS = 8,
+    MAX_ROWS = 32,
+    MAX_SPAN = 256,
+    MAX_STATES = 65536,
+    COLUMNS = 6,
+    INTERNAL = 0, /* the action of an internal step */
+};
+
+/* The kinds of a line. */
+enum { IMPL_PARAMETER = 1, SPEC_PARAMETER, IMPL_ROW, SPEC_ROW, INVARIANT, MAPPING, MEASURE, KINDS = MEASURE };
+
+/* A term is its fields in prefix order, from the first on. */
+typedef const uint16_t *term;
+
+struct row {
+    unsigned action, span;
+    term condition, data, next; /* next: one value for each parameter, one after the other */
+};
+
+struct process {
+    unsigned parameters, rows;
+    unsigned size[MAX_PARAMETERS], initial[MAX_PARAMETERS];
+    struct row row[MAX_ROWS]; /* row r of a report is row[r - 1] */
+};
+
+struct line {
+    const uint16_t *field;
+    size_t count;
+};
+
+/* A table points into itself: it is filled where it stays. */
+struct table {
+    uint16_t field[MAX_TEXT / COLUMNS];
+    struct line line[MAX_TEXT / COLUMNS];
+    size_t fields, lines;
+    struct process impl, spec;
+    term invariant, mapping, measure;
+};
+
+/* Where a text breaks which rule. */
+struct fault {
+    unsigned number; /* the turned-down number, 1 to 7; 0 for none */
+    size_t line;     /* counted from 1; 0 if it is no single line's */
+    char words[120];
+};
+
+/* Takes the text apart. Gives the lowest fault, at its first line; the table is whole if there is none. */
+struct fault table_read(struct table *t, const uint8_t *text, size_t len);
+
+#endif

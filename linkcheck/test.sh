@@ -1,0 +1,177 @@
+#!/usr/bin/env bash
+# Builds linkcheck and tries it: reports against compare/reports.tsv, exit statuses, the stored outputs of expected/, and every look at every
+# table and at damaged ones with the sanitizers and valgrind, where they are there. Ends with 1 at the first fault.
+# Usage: test.sh [COUNT [SEED]] for the damaged texts; test.sh --remake stores the outputs of expected/ anew.
+set -euo pipefail
+cd "$(dirname "$0")/.."
+export LC_ALL=C
+remake=no
+if [ "${1:-}" = --remake ]; then remake=yes; shift; fi
+count=${1:-4000}
+seed=${2:-1}
+work=$(mktemp -d)
+trap 'rm -rf "$work"' EXIT
+tables=compare/tables
+linkcheck=target/bin/linkcheck
+linkcheck/build.sh
+
+fail() {
+    echo "linkcheck test: $*" >&2
+    exit 1
+}
+
+# ---- stored outputs: a name in expected/ and the arguments that give it ----
+
+boards=()
+for name in P_given P_inv_false P_second_spec_size_3 P_first_size_2 P_row2_last_next_0 P_measure_0 P_cond_row3_true P_row2_removed P_data_row3 \
+    P_second_map_0 c1_start_good_first inv_cuts abp_noloss__no_flip t1_far t234567 t34 t45 t56 t67 \
+    t7_span_3_specification kit_cabp; do
+    boards+=("$tables/$name.txt")
+done
+expect() {
+    local name=$1
+    shift
+    "$linkcheck" "$@" > "$work/out" || [ $? -le 2 ] || fail "$*: status $?"
+    if [ "$remake" = yes ]; then cp "$work/out" "linkcheck/expected/$name"; fi
+    diff "linkcheck/expected/$name" "$work/out" || fail "$* differs from expected/$name"
+}
+expect words.txt "${boards[@]}"
+expect words.json --json "${boards[@]}"
+expect pump.txt --show "$tables/P_given.txt"
+expect abp.txt --show "$tables/abp_noloss.txt"
+expect columns.txt --columns linkcheck/test/typed.txt
+expect pump.impl.aut --aut impl "$tables/P_given.txt"
+expect pump.spec.aut --aut spec "$tables/P_given.txt"
+expect pump.impl.dot --dot impl "$tables/P_given.txt"
+expect pump.spec.dot --dot spec "$tables/P_given.txt"
+cmp "$tables/P_given.txt" linkcheck/expected/columns.txt
+
+# ---- reports ----
+
+sort compare/reports.tsv | cut -f 2 > "$work/due"
+for jobs in 1 3; do
+    "$linkcheck" --report -j "$jobs" "$tables" > "$work/reports" || [ $? = 2 ] || fail "--report -j $jobs: status"
+    cmp "$work/due" "$work/reports" || fail "--report -j $jobs differs from compare/reports.tsv"
+done
+"$linkcheck" "$tables" > "$work/words" || true
+"$linkcheck" -j 7 "$tables" > "$work/words7" || true
+cmp "$work/words" "$work/words7" || fail "-j 7 differs"
+
+# ---- exit statuses ----
+
+status() {
+    local due=$1 got=0
+    shift
+    "$linkcheck" "$@" > "$work/out" 2> "$work/error" < "${input:-/dev/null}" || got=$?
+    [ "$got" = "$due" ] || fail "$*: status $got, $due is due"
+    if [ "$due" -ge 3 ] && ! [ -s "$work/error" ]; then fail "$*: no message"; fi
+}
+good=$tables/P_given.txt bad=$tables/P_data_row3.txt none=$tables/t45.txt
+status 0 "$good"
+status 1 "$good" "$bad"
+status 2 "$bad" "$none" "$good"
+status 3 "$good" "$work/missing" "$none"
+grep -q "^2 tables: 1 accepted, 0 failed, 1 turned down; 1 not read" "$work/out" || fail "the run does not go on after a missing file"
+input=$good status 0 -
+status 2 -
+status 0 --show "$good"
+status 1 --show "$bad"
+status 2 --show "$none"
+status 3 --show "$work/missing"
+status 0 --aut impl "$bad"
+status 2 --aut impl "$none"
+status 1 --aut impl "$tables/P_inv_false.txt"
+status 3 --dot spec "$work/missing"
+status 0 --help
+status 2 --columns README.md
+status 3 --columns "$work/missing"
+status 2 /dev/zero
+status 64
+status 64 --no-such-option
+status 64 -j
+status 64 -j 0 "$good"
+status 64 -j 1x "$good"
+status 64 --show
+status 64 --show "$good" "$bad"
+status 64 --aut "$good"
+status 64 --aut both "$good"
+status 64 --report --json "$good"
+status 64 --show --json "$good"
+if [ -c /dev/full ]; then "$linkcheck" "$good" > /dev/full 2> "$work/error" && fail "a full disk is not noticed"; fi
+
+# Too many states.
+"$linkcheck" --columns linkcheck/test/wide.txt > "$work/wide.txt"
+status 1 --dot spec "$work/wide.txt"
+grep -q 'too many for a picture' "$work/error" || fail "--dot of many states: $(cat "$work/error")"
+status 1 --aut spec "$work/wide.txt"
+grep -q 'over 65,536 states' "$work/error" || fail "--aut of many states: $(cat "$work/error")"
+
+# Folders: name order, folders within, names with a dot left out, links to folders not followed, odd names on one line.
+mkdir -p "$work/store/b/c" "$work/store/empty"
+cp "$good" "$work/store/z.txt"
+cp "$good" "$work/store/b/c/y.txt"
+cp "$bad" "$work/store/a.txt"
+cp "$bad" "$work/store/.hidden"
+cp "$good" "$work/store/new"$'\n'"line \"\\"$'\377'.txt
+ln -s .. "$work/store/b/loop"
+status 3 "$work/store"
+[ "$(sed "s,^$work/store/,," "$work/out" | cut -d ' ' -f 1 | tr '\n' ' ')" = "a.txt b/c/y.txt new?line z.txt 4 " ] || fail "folders: $(cat "$work/out")"
+status 3 --json "$work/store"
+grep -q 'new\\u000aline \\"\\\\\\ufffd.txt' "$work/out" || fail "JSON: $(cat "$work/out")"
+
+# ---- damaged texts, and what looks at memory ----
+
+mkdir "$work/damaged"
+${CC:-cc} -std=c11 -Wall -Wextra -O2 linkcheck/test/damage.c -o "$work/damage"
+"$work/damage" "$work/damaged" "$count" "$seed" $(ls $tables/*.txt | grep -Ev '/(t[1-7]|s_[0-9])')
+"$linkcheck" "$work/damaged" > "$work/plain" || true
+# Each text turned down has its fault found: the words come from another reading than the number.
+for found in "$work/words" "$work/plain"; do
+    if grep 'turned down [0-9] ([^)]*)\(, line [0-9]*\)\?$' "$found"; then fail "a fault is not found"; fi
+done
+# What is said to differ differs.
+for found in "$work/words" "$work/plain"; do
+    if grep -e "data \([0-9]*\), ours \1\$" -e 'mapped to \(([^)]*)\), ours to \1$' -e 'mapped to \(([^)]*)\), our initial state is \1$' \
+        -e 'the state is mapped to \(([^)]*)\), .*, mapped to \1$' "$found"; then fail "nothing differs"; fi
+    if sed -n 's/.*: the measure is \([0-9]*\), and \([0-9]*\) after.*/\1 \2/p' "$found" | awk '$2 < $1' | grep .; then fail "the measure falls"; fi
+    if grep 'criterion 2 ' "$found" | grep -v 'not below the size'; then fail "no mapped value is outside"; fi
+done
+
+# Every look, by the command given, over a folder's tables.
+looks() {
+    local folder=$1
+    shift
+    "$@" "$folder" > "$work/looked" 2> "$work/error" || [ $? -le 2 ] || fail "$* $folder: $(cat "$work/error")"
+    "$@" --json -j 2 "$folder" > /dev/null 2>> "$work/error" || [ $? -le 2 ] || fail "$* --json $folder: $(cat "$work/error")"
+    if [ -s "$work/error" ]; then fail "$* $folder: $(cat "$work/error")"; fi
+}
+looks_at_each() {
+    local look file
+    for file in "${few[@]}"; do
+        for look in "--show" "--aut impl" "--aut spec" "--dot impl" "--dot spec" "--columns"; do
+            # shellcheck disable=SC2086
+            "$@" $look "$file" > /dev/null 2> "$work/error" || [ $? -le 2 ] || fail "$* $look $file: $(cat "$work/error")"
+        done
+    done
+}
+checked="no sanitizer"
+if linkcheck/build.sh "$work/sanitized" -g -fsanitize=address,undefined -fno-sanitize-recover=all 2> "$work/error"; then
+    export ASAN_OPTIONS=exitcode=99 UBSAN_OPTIONS=print_stacktrace=1
+    looks "$tables" "$work/sanitized"
+    cmp "$work/words" "$work/looked" || fail "the sanitizers' build answers otherwise"
+    looks "$work/damaged" "$work/sanitized"
+    cmp "$work/plain" "$work/looked" || fail "the sanitizers' build answers otherwise"
+    few=("$tables"/P_*.txt "$tables"/[abfikr]*.txt "$tables"/t[1-7][1-7]*.txt "$work"/damaged/?)
+    looks_at_each "$work/sanitized"
+    checked="the address and undefined behaviour sanitizers"
+fi
+if command -v valgrind > /dev/null; then
+    mkdir "$work/some"
+    cp "$work"/damaged/[1-9]?? "$work/some" 2> /dev/null || cp "$work"/damaged/? "$work/some"
+    looks "$work/some" valgrind -q --error-exitcode=99 --leak-check=full "$linkcheck"
+    few=("$tables/P_given.txt" "$tables/t56.txt")
+    looks_at_each valgrind -q --error-exitcode=99 --leak-check=full "$linkcheck"
+    checked="$checked and valgrind"
+fi
+echo "linkcheck: $(wc -l < "$work/due") tables as in compare/reports.tsv, $count damaged texts from seed $seed, $checked: no fault"
+tail -n 1 "$work/plain"

@@ -1,0 +1,34 @@
+/* A text with its verdict, which check_design gives, and with what serves to explain it. */
+#ifndef VERDICT_H
+#define VERDICT_H
+
+#include "../include/checker.h"
+#include "table.h"
+
+#include <stdbool.h>
+
+/* The exit status if something can't be read or written. */
+enum { STATUS_UNREAD = 3 };
+
+/* A text as it was read, up to the first byte that makes it too long. */
+struct text {
+    uint8_t bytes[MAX_TEXT + 1];
+    size_t len;
+};
+
+/* Reads the file, or standard input for "-". Gives 0, or the errno of what went wrong. */
+int text_read(struct text *t, const char *path);
+
+struct verdict {
+    uint8_t report[CHECK_REPORT_BYTES];
+    unsigned outcome;   /* CHECK_ACCEPTED, CHECK_FAILED or CHECK_TURNED_DOWN */
+    unsigned criterion; /* of a failed one; the turned-down number of one turned down */
+    unsigned state, row, sum;
+    struct table table; /* whole if the text was not turned down */
+    struct fault fault; /* of a text turned down; its line is 0 and its words are empty if it isn't found */
+};
+
+/* Checks the text. Everything that decides comes from check_design. */
+void verdict_of(struct verdict *v, const struct text *t);
+
+#endif
