@@ -1,11 +1,14 @@
 #!/usr/bin/env python3
-"""tables.py DIR: writes the benchmark tables a.txt, b.txt, c.txt, d.txt and e.txt. All are accepted.
+"""tables.py DIR: writes the benchmark tables. Those with a letter are accepted.
 
 a  65,536 states, 20 rows of span 16; half of the conditions read the sum value
 b  65,536 states, 24 rows of span 256 that the state rules out or not
 c   1,024 states, 32 + 32 rows of span 256, all enabled
 d   4,096 states, 16 internal rows of span 16 with a measure, 8 visible rows
 e     256 states, 8 rows of span 256 with large terms
+f  65,536 states, the rows of the pump table
+
+limits  as many parameters, rows and fields as a text may have
 """
 import sys
 
@@ -73,6 +76,33 @@ def e():
     return same(rows, [(16, 0), (16, 0)], [(16, 0), (16, 0)], less(par(0), num(65535)))
 
 
-for f in (a, b, c, d, e):
-    with open(sys.argv[1] + '/' + f.__name__ + '.txt', 'w') as out:
-        out.write(f())
+def f():
+    phase, price = par(0), par(1)
+    take = (1, 4, equal(phase, num(0)), SUM, [num(1), SUM])
+    move = (0, 1, equal(phase, num(1)), num(0), [num(2), price])
+    show = (2, 1, equal(phase, num(2)), price, [num(0), price])
+    must_take = (1, 4, equal(phase, num(0)), SUM, [num(1), SUM])
+    must_show = (2, 1, equal(phase, num(1)), price, [num(0), price])
+    return text([(4, 0), (16384, 0)], [(2, 0), (16384, 0)], [take, move, show], [must_take, must_show], less(phase, num(3)),
+                [choice(equal(phase, num(0)), num(0), num(1)), price], choice(equal(phase, num(1)), num(1), num(0)))
+
+
+def all_of(n):
+    """n formulas, all true, each joined to those behind it"""
+    return TRUE if n == 1 else both(TRUE, all_of(n - 1))
+
+
+def halved(n):
+    """n formulas, all true, joined half to half"""
+    return TRUE if n == 1 else both(halved(n // 2), halved(n - n // 2))
+
+
+def limits():
+    parameters, kept = [(4, 3)] * 8, [par(i) for i in range(8)]
+    rows = [(i + 1, 256, all_of(20), par(i % 8), kept) for i in range(32)]
+    return text(parameters, parameters, rows, rows, halved(94), kept, num(0))
+
+
+for table in (a, b, c, d, e, f, limits):
+    with open(sys.argv[1] + '/' + table.__name__ + '.txt', 'w') as out:
+        out.write(table())

@@ -68,7 +68,7 @@ static void plain_rows(const struct table *t, unsigned first, unsigned n, unsign
         rows[i] = (struct row){start + 3, t->fields[start + 2], t->fields[start + 1], 0, 0, 0};
         unsigned at = start + 3;
         rows[i].free = !reads_sum(t->fields, &at, 1);
-        reads[i] = !rows[i].free | reads_sum(t->fields, &at, 1 + m);
+        reads[i] = reads_sum(t->fields, &at, 1 + m) || !rows[i].free;
     }
 }
 

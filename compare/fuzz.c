@@ -1,16 +1,18 @@
-// Makes texts and lists of desk calls from a seed, and compares check_design with the answers that the reference checker gave.
+// Compares the checker with the reference over texts made from a seed: check_design with buffers of five lengths, every byte of them. Writes
+// lists of desk calls for desk_calls to CALLS, and what the reference answers to them, in desk_calls' words, to DUE.
 //
-//   fuzz make DIR COUNT SEED TABLE..   writes DIR/texts/N, and in the reference checker's words DIR/checks (each text with each buffer
-//                                      length) and DIR/desk (desk calls); DIR/calls has the same desk calls for desk_calls
-//   fuzz check DIR COUNT               compares check_design with DIR/answers, the reference's answers to DIR/checks
+//   fuzz COUNT SEED CALLS DUE TABLE..
+//
+// At a difference the text is left in target/differs.txt.
 #include <stdint.h>
 #include <stdio.h>
 #include <stdlib.h>
 #include <string.h>
 #include "../include/checker.h"
+#include "reference_c/reference.h"
 
 static const size_t lengths[] = {0, 30, 31, 40, 100};
-enum { LENGTHS = 5, ROOM = 40000, POOL = 2000, REPORT = 31 };
+enum { LENGTHS = 5, ROOM = 40000, POOL = 2000, BUFFER = 128 };
 
 struct text {
     uint8_t bytes[ROOM];
@@ -31,17 +33,14 @@ static void fail(const char *what, const char *name) {
     exit(1);
 }
 
-static FILE *open_in(const char *dir, const char *name, const char *mode) {
-    char path[4096];
-    snprintf(path, sizeof path, "%s/%s", dir, name);
+static FILE *opened(const char *path, const char *mode) {
     FILE *f = fopen(path, mode);
     if (!f) fail("cannot open", path);
     return f;
 }
 
 static void read_text(const char *path, struct text *t) {
-    FILE *f = fopen(path, "rb");
-    if (!f) fail("cannot open", path);
+    FILE *f = opened(path, "rb");
     t->len = fread(t->bytes, 1, ROOM, f);
     fclose(f);
 }
@@ -279,98 +278,115 @@ static void make_text(struct text *t, const struct text *pool, int tables) {
     }
 }
 
-static void make(const char *dir, int count, int tables, char **names) {
-    struct text *pool = malloc(tables * sizeof *pool), *t = malloc(sizeof *t);
+// The one-call check.
+
+static void differ(const char *what, int i, const struct text *t) {
+    FILE *f = opened("target/differs.txt", "wb");
+    fwrite(t->bytes, 1, t->len, f);
+    fclose(f);
+    fprintf(stderr, "fuzz: text %d, in target/differs.txt: %s\n", i, what);
+    exit(1);
+}
+
+// Counts what came of the text.
+static void count(unsigned *seen, const uint8_t *report) {
+    unsigned verdict, number;
+    sscanf((const char *)report, "%6u%6u", &verdict, &number);
+    seen[verdict == 0 ? 0 : verdict == 1 ? number : 9 + number]++;
+}
+
+static void check_one(int i, const struct text *t, unsigned *seen) {
+    static uint8_t copy[ROOM];
+    for (int k = 0; k < LENGTHS; k++) {
+        uint8_t due[BUFFER], got[BUFFER];
+        for (size_t b = 0; b < BUFFER; b++) due[b] = got[b] = (uint8_t)(b * 7 + i);
+        memcpy(copy, t->bytes, t->len);
+        uint32_t want = reference_check(t->bytes, t->len, due + 8, lengths[k]);
+        uint32_t answer = check_design(t->len ? copy : NULL, t->len, lengths[k] ? got + 8 : NULL, lengths[k]);
+        if (answer != want) differ("another answer", i, t);
+        if (memcmp(got, due, sizeof got)) differ("another buffer", i, t);
+        if (memcmp(copy, t->bytes, t->len)) differ("the text was written", i, t);
+        if (lengths[k] == 31) count(seen, got + 8);
+    }
+}
+
+// Lists of desk calls.
+
+static void answered(FILE *due, const char *call, uint32_t number) {
+    if (number) fprintf(due, "turned down %u\n", number);
+    else fprintf(due, "%s 0\n", call);
+}
+
+static void load(struct reference_desk *desk, const struct text *t, FILE *calls, FILE *due) {
+    fprintf(calls, "load %zu\n", t->len);
+    fwrite(t->bytes, 1, t->len, calls);
+    fprintf(calls, "\n");
+    answered(due, "load", reference_load(desk, t->bytes, t->len));
+}
+
+static void advance(struct reference_desk *desk, uint64_t n, FILE *calls, FILE *due) {
+    static const char *const words[] = {"open", "accepted", "failed", "turned down"};
+    uint64_t number;
+    uint32_t stands = reference_advance(desk, n, &number);
+    fprintf(calls, "advance %llu\n", (unsigned long long)n);
+    fprintf(due, "%s %llu\n", words[stands], (unsigned long long)number);
+}
+
+static void verdict(struct reference_desk *desk, FILE *calls, FILE *due) {
+    uint16_t r[5];
+    uint32_t number = reference_verdict(desk, r);
+    fprintf(calls, "verdict\n");
+    if (number) fprintf(due, "turned down %u\n", number);
+    else fprintf(due, "verdict %u %u %u %u %u\n", r[0], r[1], r[2], r[3], r[4]);
+}
+
+static void drop(struct reference_desk *desk, FILE *calls, FILE *due) {
+    fprintf(calls, "drop\n");
+    answered(due, "drop", reference_drop(desk));
+}
+
+// Loads the text, calls the desk up to eleven times, and mostly drops it.
+static void desk_one(struct reference_desk *desk, const struct text *t, FILE *calls, FILE *due) {
+    static const uint64_t steps[] = {1, 2, 3, 7, 50, 1, 2, 5, 1000, UINT64_MAX, 0};
+    load(desk, t, calls, due);
+    for (int k = rnd(12); k > 0; k--) {
+        unsigned pick = rnd(rnd(4) ? 13 : 14);
+        if (pick < 11) advance(desk, steps[pick], calls, due);
+        else if (pick < 13) verdict(desk, calls, due);
+        else drop(desk, calls, due);
+    }
+    if (rnd(8)) drop(desk, calls, due);
+}
+
+// Tables of at most 8,000 bytes, from which others are made.
+static int read_pool(struct text *pool, int tables, char **names) {
     int used = 0;
-    for (int i = 0; i < tables; i++) {
+    for (int i = 0; i < tables && used < POOL; i++) {
         read_text(names[i], &pool[used]);
         if (pool[used].len < 8000) used++;
     }
-    FILE *checks = open_in(dir, "checks", "w"), *desk = open_in(dir, "desk", "w"), *calls = open_in(dir, "calls", "wb");
-    for (int i = 0; i < count; i++) {
-        char name[64];
-        make_text(t, pool, used);
-        snprintf(name, sizeof name, "texts/%d", i);
-        FILE *f = open_in(dir, name, "wb");
-        fwrite(t->bytes, 1, t->len, f);
-        fclose(f);
-        for (int k = 0; k < LENGTHS; k++) fprintf(checks, "check %zu %s/%s\n", lengths[k], dir, name);
-        fprintf(desk, "load %s/%s\n", dir, name);
-        fprintf(calls, "load %zu\n", t->len);
-        fwrite(t->bytes, 1, t->len, calls);
-        fprintf(calls, "\n");
-        for (int k = rnd(12); k > 0; k--) {
-            static const char *const words[] = {"advance 1", "advance 2", "advance 3", "advance 7", "advance 50", "advance 1", "advance 2",
-                "advance 5", "advance 1000", "advance 18446744073709551615", "advance 0", "verdict", "verdict", "drop"};
-            const char *word = words[rnd(rnd(4) ? 13 : 14)];
-            fprintf(desk, "%s\n", word);
-            fprintf(calls, "%s\n", word);
-        }
-        if (rnd(8)) {
-            fprintf(desk, "drop\n");
-            fprintf(calls, "drop\n");
-        }
-    }
-    if (fclose(checks) || fclose(desk) || fclose(calls)) fail("cannot write", dir);
-    free(pool);
-    free(t);
+    return used;
 }
 
-// The comparison.
-
-static const char *directory;
-static int texts;
-
-static void check_one(int i, const struct text *t, FILE *answers, unsigned *seen) {
-    char name[64], line[128];
-    snprintf(name, sizeof name, "texts/%d", i);
-    for (int k = 0; k < LENGTHS; k++) {
-        unsigned want, r[5];
-        uint8_t due[128], got[128], copy[ROOM], report[64];
-        if (!fgets(line, sizeof line, answers)) fail("no answer", name);
-        int n = sscanf(line, "%u %u %u %u %u %u", &want, &r[0], &r[1], &r[2], &r[3], &r[4]);
-        for (size_t b = 0; b < sizeof due; b++) due[b] = got[b] = (uint8_t)(b * 7 + i);
-        if (n == 6) {
-            snprintf((char *)report, sizeof report, "%6u%6u%6u%6u%6u\n", r[0], r[1], r[2], r[3], r[4]);
-            memcpy(due + 8, report, REPORT);
-        } else if (n != 1 || want != 9) {
-            fail("an answer that is none", line);
-        }
-        memcpy(copy, t->bytes, t->len);
-        uint32_t answer = check_design(t->len ? copy : NULL, t->len, lengths[k] ? got + 8 : NULL, lengths[k]);
-        if (answer != want) fail("another answer", name);
-        if (memcmp(got, due, sizeof got)) fail("another buffer", name);
-        if (memcmp(copy, t->bytes, t->len)) fail("the text was written", name);
-        if (lengths[k] == 31) seen[r[0] == 0 ? 0 : r[0] == 1 ? r[1] : 9 + r[1]]++;
-    }
-}
-
-static void compare(void) {
-    static struct text t;
+int main(int n, char **words) {
+    if (n < 6) fail("usage", "COUNT SEED CALLS DUE TABLE..");
+    int texts = atoi(words[1]);
+    seed = strtoull(words[2], NULL, 10) * 2 + 1;
+    FILE *calls = opened(words[3], "wb"), *due = opened(words[4], "w");
+    static struct text pool[POOL], t;
     static unsigned seen[17];
-    FILE *answers = open_in(directory, "answers", "r");
+    int used = read_pool(pool, n - 5, words + 5);
+    struct reference_desk *desk = reference_desk();
     for (int i = 0; i < texts; i++) {
-        char path[4096];
-        snprintf(path, sizeof path, "%s/texts/%d", directory, i);
-        read_text(path, &t);
-        check_one(i, &t, answers, seen);
+        make_text(&t, pool, used);
+        check_one(i, &t, seen);
+        desk_one(desk, &t, calls, due);
     }
+    reference_free(desk);
+    if (fclose(calls) || fclose(due)) fail("cannot write", words[3]);
     printf("fuzz: %d texts, %d buffers each: no difference\nfuzz: accepted %u; failed by criterion", texts, LENGTHS, seen[0]);
     for (int c = 1; c < 10; c++) printf(" %u", seen[c]);
     printf("; turned down by number");
     for (int c = 10; c < 17; c++) printf(" %u", seen[c]);
     printf("\n");
-}
-
-int main(int n, char **words) {
-    if (n > 5 && !strcmp(words[1], "make")) {
-        seed = strtoull(words[4], NULL, 10) * 2 + 1;
-        make(words[2], atoi(words[3]), n - 5 < POOL ? n - 5 : POOL, words + 5);
-        return 0;
-    }
-    if (n != 4 || strcmp(words[1], "check")) fail("usage", "make DIR COUNT SEED TABLE.. | check DIR COUNT");
-    directory = words[2];
-    texts = atoi(words[3]);
-    compare();
-    return 0;
 }

@@ -1,24 +1,21 @@
 #!/usr/bin/env bash
-# Compares the checker with the one in compare/reference over texts made from a seed: check_design from C, with buffers of five lengths and
-# every byte of them, and lists of desk calls. Needs cargo and a C compiler.
+# Compares the checker with the one in compare/reference over texts made from a seed: random designs, changed ones and damaged texts. First
+# check_design from C, with buffers of five lengths and every byte of them, then lists of desk calls. Needs cargo and a C compiler.
 # Usage: fuzz.sh [COUNT [SEED]]
 set -euo pipefail
 cd "$(dirname "$0")/.."
-count=${1:-24000}
-seed=${2:-1}
+count=${1:-100000}
+seed=${2:-$(date +%s)}
 work=$(mktemp -d)
 trap 'rm -rf "$work"' EXIT
-mkdir "$work/texts"
 { rt staticlib checker && rt check desk_calls; } > "$work/log" 2>&1 || { tail -n 20 "$work/log"; exit 1; }
-cargo build --quiet --release --offline --manifest-path compare/reference/Cargo.toml --target-dir target/reference
-${CC:-cc} -std=c11 -O2 -Wall -Wextra compare/fuzz.c target/staticlib/libchecker.a -o "$work/fuzz"
+compare/reference_c/build.sh
+${CC:-cc} -std=c11 -O2 -Wall -Wextra compare/fuzz.c target/staticlib/libchecker.a target/reference/release/libreference_c.a \
+    -lpthread -ldl -lm -o "$work/fuzz"
+echo "fuzz: seed $seed; again with: compare/fuzz.sh $count $seed"
 # Tables of many states take the reference long; compare/run.sh has them.
-"$work/fuzz" make "$work" "$count" "$seed" $(ls compare/tables/*.txt | grep -Ev '/(t5_size|s_[0-9])')
-reference=target/reference/release/reference-checker
-"$reference" --desk "$work/checks" > "$work/answers"
-"$work/fuzz" check "$work" "$count"
-"$reference" --desk "$work/desk" > "$work/desk_answers"
-target/bin/desk_calls < "$work/calls" | sed -E 's/^(load|drop|verdict) //' > "$work/our_answers"
-cmp "$work/desk_answers" "$work/our_answers" || { diff "$work/desk_answers" "$work/our_answers" | head -n 4 || true; exit 1; }
-echo "fuzz: $(wc -l < "$work/our_answers") desk calls: no difference"
-sed -E '/^turned/!{s/^(open|accepted|failed) .*/\1/; s/^[0-9 ]+ .*/verdict/; s/^0$/done/}' "$work/desk_answers" | sort | uniq -c | sed 's/^ */fuzz: /'
+"$work/fuzz" "$count" "$seed" "$work/calls" "$work/due" $(ls compare/tables/*.txt | grep -Ev '/(t5_size|s_[0-9])')
+target/bin/desk_calls < "$work/calls" > "$work/answers"
+cmp "$work/due" "$work/answers" || { diff "$work/due" "$work/answers" | head -n 4 || true; exit 1; }
+echo "fuzz: $(wc -l < "$work/due") desk calls: no difference"
+sed -E '/^turned/!s/ .*//' "$work/due" | sort | uniq -c | sed 's/^ */fuzz: /'

@@ -27,11 +27,12 @@ static const char help[] =
     "      those that change. Sums and differences are modulo 65536; x mod 0 is x.\n"
     "  linkcheck --columns [FILE]\n"
     "      A table typed with any blanks between its fields, as six-column text.\n"
-    "  linkcheck --aut impl|spec FILE\n"
-    "      The transition system of the implementation or of the specification in the Aldebaran format: the\n"
-    "      states that the initial state reaches inside the sizes and, for impl, the invariant. Labels are\n"
-    "      \"tau\" and an action with its data, as \"a2(1)\". At most 65,536 states, as many as a board can have.\n"
-    "  linkcheck --dot impl|spec FILE\n"
+    "  linkcheck --aut [impl|spec] FILE\n"
+    "      The transition system of the implementation, of the specification, or of both one after the other, in\n"
+    "      the Aldebaran format: the states that the initial state reaches inside the sizes and, for impl, the\n"
+    "      invariant. Labels are \"tau\" and an action with its data, as \"a2(1)\". At most 65,536 states, as many\n"
+    "      as a board can have.\n"
+    "  linkcheck --dot [impl|spec] FILE\n"
     "      The same as a Graphviz picture, up to 1,000 states; focus points have a double line.\n"
     "  linkcheck --help\n"
     "\n"
@@ -144,27 +145,33 @@ static int show(const char *name, const struct verdict *v) {
     return (int)v->outcome;
 }
 
-static int system_of(const char *name, const struct verdict *v, enum mode mode, enum side side) {
-    if (v->outcome == CHECK_TURNED_DOWN) {
-        complain(name);
-        print_verdict(stderr, v);
-        fputc('\n', stderr);
-        return CHECK_TURNED_DOWN;
-    }
-    const char *why = mode == AUT ? write_aut(stdout, &v->table, side) : write_dot(stdout, &v->table, side);
+static int system_of(const char *name, const struct table *t, enum mode mode, enum side side) {
+    const char *why = mode == AUT ? write_aut(stdout, t, side) : write_dot(stdout, t, side);
     if (!why) return 0;
     complain(name);
     fprintf(stderr, "%s\n", why);
     return 1;
 }
 
-static int look_at(const char *name, enum mode mode, enum side side) {
+static int systems_of(const char *name, const struct verdict *v, enum mode mode, enum side first, enum side last) {
+    if (v->outcome == CHECK_TURNED_DOWN) {
+        complain(name);
+        print_verdict(stderr, v);
+        fputc('\n', stderr);
+        return CHECK_TURNED_DOWN;
+    }
+    int status = system_of(name, &v->table, mode, first);
+    return last == first ? status : system_of(name, &v->table, mode, last) | status;
+}
+
+/* Shows a table, or writes the systems of its sides from the first to the last. */
+static int look_at(const char *name, enum mode mode, enum side first, enum side last) {
     static struct text text;
     static struct verdict verdict;
     int error = text_read(&text, name);
     if (error) return cannot_read(name, error);
     verdict_of(&verdict, &text);
-    return mode == SHOW ? show(name, &verdict) : system_of(name, &verdict, mode, side);
+    return mode == SHOW ? show(name, &verdict) : systems_of(name, &verdict, mode, first, last);
 }
 
 static int columns(const char *name) {
@@ -190,14 +197,16 @@ static int perform(const struct arguments *a) {
     switch (a->mode) {
     case SHOW:
         expect_operands(a, 1, 1);
-        return look_at(a->operand[0], SHOW, IMPLEMENTATION);
+        return look_at(a->operand[0], SHOW, IMPLEMENTATION, SPECIFICATION);
     case TYPED_COLUMNS:
         expect_operands(a, 0, 1);
         return columns(a->operands ? a->operand[0] : "-");
     case AUT:
     case DOT:
-        expect_operands(a, 2, 2);
-        return look_at(a->operand[1], a->mode, side_of(a->operand[0]));
+        expect_operands(a, 1, 2);
+        if (a->operands == 1) return look_at(a->operand[0], a->mode, IMPLEMENTATION, SPECIFICATION);
+        const enum side side = side_of(a->operand[0]);
+        return look_at(a->operand[1], a->mode, side, side);
     default:
         expect_operands(a, 1, a->operands);
         return check(a);

@@ -45,6 +45,10 @@ expect pump.spec.aut --aut spec "$tables/P_given.txt"
 expect pump.impl.dot --dot impl "$tables/P_given.txt"
 expect pump.spec.dot --dot spec "$tables/P_given.txt"
 cmp "$tables/P_given.txt" linkcheck/expected/columns.txt
+for look in aut dot; do
+    "$linkcheck" --$look "$tables/P_given.txt" > "$work/out" || fail "--$look: status $?"
+    cat linkcheck/expected/pump.{impl,spec}.$look | diff - "$work/out" || fail "--$look is not that of both sides"
+done
 
 # ---- reports ----
 
@@ -93,7 +97,8 @@ status 64 -j 0 "$good"
 status 64 -j 1x "$good"
 status 64 --show
 status 64 --show "$good" "$bad"
-status 64 --aut "$good"
+status 64 --aut
+status 64 --aut impl "$good" "$bad"
 status 64 --aut both "$good"
 status 64 --report --json "$good"
 status 64 --show --json "$good"
@@ -148,7 +153,7 @@ looks() {
 looks_at_each() {
     local look file
     for file in "${few[@]}"; do
-        for look in "--show" "--aut impl" "--aut spec" "--dot impl" "--dot spec" "--columns"; do
+        for look in "--show" "--aut" "--aut spec" "--dot" "--columns"; do
             # shellcheck disable=SC2086
             "$@" $look "$file" > /dev/null 2> "$work/error" || [ $? -le 2 ] || fail "$* $look $file: $(cat "$work/error")"
         done

@@ -5,8 +5,8 @@ set -eu
 cd "$(dirname "$0")/.."
 log=$(mktemp)
 trap 'rm -f "$log"' EXIT
-rt staticlib bench_eval > "$log" 2>&1 || { cat "$log"; exit 1; }
-names=$(nm target/staticlib/libbench_eval.a | awk '{ print $NF }')
+rt staticlib eval_c > "$log" 2>&1 || { cat "$log"; exit 1; }
+names=$(nm target/staticlib/libeval_c.a | awk '{ print $NF }')
 bad=0
 for front in eval::value eval::formula; do
     if echo "$names" | grep -qx "$front"; then

@@ -1,0 +1,163 @@
+/* checks ROUNDS LIMITS TABLE..: the time of check_design on each table against a plain C walk and the reference checker; that of loading
+ * the text LIMITS; and that of advancing by 1 over the states of each table that has 65,536. All are run in turn, ROUNDS times; the
+ * middle time of each counts. A ratio is our time over theirs. */
+#define _POSIX_C_SOURCE 200809L
+#include <time.h>
+#include "../include/checker.h"
+#include "../compare/reference_c/reference.h"
+#include "walk_plain.h"
+
+/* What the static library of the crate desk_c has. */
+uint32_t desk_load(const uint8_t *text, size_t text_len);
+uint64_t desk_advances(const uint8_t *text, size_t text_len, uint64_t n);
+
+enum { MOST_ROUNDS = 64, OURS = 0, PLAIN, HOISTED, REFERENCE, SORTS };
+
+struct text {
+    uint8_t bytes[65536];
+    size_t len;
+};
+
+/* What is timed: a text, the same as a table, and for each of the sorts what is done with it; 0 is a fault. */
+struct job {
+    struct text text;
+    struct table table;
+    int (*run[SORTS])(const struct job *);
+};
+
+/* ---- what is timed ---- */
+
+static int ours(const struct job *j)
+{
+    uint8_t report[CHECK_REPORT_BYTES];
+    return check_design(j->text.bytes, j->text.len, report, sizeof report) == CHECK_ACCEPTED;
+}
+
+static int reference(const struct job *j)
+{
+    uint8_t report[CHECK_REPORT_BYTES];
+    return reference_check(j->text.bytes, j->text.len, report, sizeof report) == CHECK_ACCEPTED;
+}
+
+static int plain(const struct job *j) { return plain_walk(&j->table, 0, j->table.states, 0); }
+
+static int hoisted(const struct job *j) { return plain_walk(&j->table, 0, j->table.states, 1); }
+
+static int our_load(const struct job *j) { return desk_load(j->text.bytes, j->text.len) == 0; }
+
+static int reference_loads(const struct job *j)
+{
+    struct reference_desk *desk = reference_desk();
+    uint32_t number = reference_load(desk, j->text.bytes, j->text.len);
+    reference_free(desk);
+    return number == 0;
+}
+
+static int our_advances(const struct job *j) { return desk_advances(j->text.bytes, j->text.len, 1) == j->table.states; }
+
+static int reference_advances(const struct job *j)
+{
+    struct reference_desk *desk = reference_desk();
+    uint64_t made = 1, number;
+    uint32_t stands = 0;
+    reference_load(desk, j->text.bytes, j->text.len);
+    while ((stands = reference_advance(desk, 1, &number)) == REFERENCE_OPEN) made++;
+    reference_free(desk);
+    return stands == REFERENCE_ACCEPTED && made == j->table.states;
+}
+
+static int plain_advances(const struct job *j)
+{
+    for (size_t i = 0; i < j->table.states; i++)
+        if (!plain_walk(&j->table, i, 1, 0)) return 0;
+    return 1;
+}
+
+static int hoisted_advances(const struct job *j)
+{
+    for (size_t i = 0; i < j->table.states; i++)
+        if (!plain_walk(&j->table, i, 1, 1)) return 0;
+    return 1;
+}
+
+/* ---- the clock ---- */
+
+static double now(void)
+{
+    struct timespec t;
+    clock_gettime(CLOCK_PROCESS_CPUTIME_ID, &t);
+    return t.tv_sec + t.tv_nsec * 1e-9;
+}
+
+static int ordered(const void *a, const void *b)
+{
+    double x = *(const double *)a, y = *(const double *)b;
+    return (x > y) - (x < y);
+}
+
+/* Runs each sort in turn, and prints our time and the ratios. What takes under a hundredth of a second is run as often as fills it. */
+static void measure(const char *name, const struct job *j, int rounds)
+{
+    double took[SORTS][MOST_ROUNDS], start = now();
+    if (!j->run[OURS](j)) { fprintf(stderr, "%s: not as it has to be\n", name); exit(1); }
+    double once = now() - start;
+    long times = once < 0.01 ? (long)(0.01 / (once + 1e-9)) + 1 : 1;
+    for (int r = 0; r < rounds; r++)
+        for (int k = 0; k < SORTS; k++) {
+            if (!j->run[k]) continue;
+            start = now();
+            for (long i = 0; i < times; i++)
+                if (!j->run[k](j)) { fprintf(stderr, "%s: not as it has to be\n", name); exit(1); }
+            took[k][r] = (now() - start) / times;
+        }
+    for (int k = 0; k < SORTS; k++) qsort(took[k], rounds, sizeof(double), ordered);
+    printf("%-24s %8zu %12.3f", name, j->table.states, 1e3 * took[OURS][rounds / 2]);
+    for (int k = 1; k < SORTS; k++)
+        if (j->run[k]) printf(" %10.2f", took[OURS][rounds / 2] / took[k][rounds / 2]);
+        else printf(" %10s", "-");
+    printf("\n");
+    fflush(stdout);
+}
+
+/* ---- the texts ---- */
+
+static void read_job(const char *path, struct job *j)
+{
+    FILE *f = fopen(path, "rb");
+    if (!f) { perror(path); exit(2); }
+    j->text.len = fread(j->text.bytes, 1, sizeof j->text.bytes, f);
+    fclose(f);
+    read_table(path, &j->table);
+}
+
+static const char *last_name(const char *path)
+{
+    const char *slash = strrchr(path, '/');
+    return slash ? slash + 1 : path;
+}
+
+int main(int n, char **words)
+{
+    static struct job j;
+    char name[64];
+    int rounds = n > 3 ? atoi(words[1]) : 0;
+    if (rounds < 1 || rounds > MOST_ROUNDS) { fprintf(stderr, "usage: checks ROUNDS LIMITS TABLE..\n"); return 2; }
+    printf("%-24s %8s %12s %10s %10s %10s\n", "our time over that of", "states", "ours, ms", "C", "C hoisted", "reference");
+    for (int i = 3; i < n; i++) {
+        read_job(words[i], &j);
+        memcpy(j.run, ((int (*[])(const struct job *)){ours, plain, hoisted, reference}), sizeof j.run);
+        snprintf(name, sizeof name, "check %s", last_name(words[i]));
+        measure(name, &j, rounds);
+    }
+    read_job(words[2], &j);
+    memcpy(j.run, ((int (*[])(const struct job *)){our_load, NULL, NULL, reference_loads}), sizeof j.run);
+    snprintf(name, sizeof name, "load %s", last_name(words[2]));
+    measure(name, &j, rounds);
+    for (int i = 3; i < n; i++) {
+        read_job(words[i], &j);
+        if (j.table.states < 65536) continue;
+        memcpy(j.run, ((int (*[])(const struct job *)){our_advances, plain_advances, hoisted_advances, reference_advances}), sizeof j.run);
+        snprintf(name, sizeof name, "advances by 1, %s", last_name(words[i]));
+        measure(name, &j, rounds);
+    }
+}

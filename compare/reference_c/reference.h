@@ -1,0 +1,23 @@
+/* The reference checker for C programs. */
+#ifndef REFERENCE_H
+#define REFERENCE_H
+#include <stddef.h>
+#include <stdint.h>
+
+/* As check_design. */
+uint32_t reference_check(const uint8_t *text, size_t text_len, uint8_t *report, size_t report_len);
+
+/* A new desk, and its end. */
+struct reference_desk *reference_desk(void);
+void reference_free(struct reference_desk *desk);
+
+/* Each call of a desk gives 0, or the number by which it is turned down. */
+uint32_t reference_load(struct reference_desk *desk, const uint8_t *text, size_t text_len);
+uint32_t reference_verdict(const struct reference_desk *desk, uint16_t numbers[5]);
+uint32_t reference_drop(struct reference_desk *desk);
+
+/* Except that an advance gives how the desk stands, and a number: how many states it examined, or by which it is turned down. */
+enum { REFERENCE_OPEN, REFERENCE_ACCEPTED, REFERENCE_FAILED, REFERENCE_TURNED_DOWN };
+uint32_t reference_advance(struct reference_desk *desk, uint64_t n, uint64_t *number);
+
+#endif

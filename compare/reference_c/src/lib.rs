@@ -1,0 +1,83 @@
+//! The reference checker for C programs: its one-call check and its desk. reference.h says what each function does.
+
+use reference_checker::desk::{Advanced, Desk, Standing};
+use std::slice;
+
+unsafe fn lent<'a>(bytes: *const u8, len: usize) -> &'a [u8] {
+    if len == 0 {
+        &[]
+    } else {
+        slice::from_raw_parts(bytes, len)
+    }
+}
+
+fn done(answer: Result<(), u8>) -> u32 {
+    answer.map_or_else(u32::from, |()| 0)
+}
+
+/// # Safety
+/// The text's bytes are there, and so is the report's area, which nothing else uses.
+#[no_mangle]
+pub unsafe extern "C" fn reference_check(text: *const u8, text_len: usize, report: *mut u8, report_len: usize) -> u32 {
+    let buffer = if report_len == 0 { &mut [] } else { slice::from_raw_parts_mut(report, report_len) };
+    u32::from(reference_checker::check(lent(text, text_len), buffer))
+}
+
+#[no_mangle]
+pub extern "C" fn reference_desk() -> *mut Desk {
+    Box::into_raw(Box::new(Desk::new()))
+}
+
+/// # Safety
+/// The desk comes from `reference_desk` and is not used again.
+#[no_mangle]
+pub unsafe extern "C" fn reference_free(desk: *mut Desk) {
+    drop(Box::from_raw(desk));
+}
+
+/// # Safety
+/// The desk comes from `reference_desk`, and the text's bytes are there.
+#[no_mangle]
+pub unsafe extern "C" fn reference_load(desk: *mut Desk, text: *const u8, text_len: usize) -> u32 {
+    done((*desk).load(lent(text, text_len)))
+}
+
+/// # Safety
+/// The desk comes from `reference_desk`, and the number can be written.
+#[no_mangle]
+pub unsafe extern "C" fn reference_advance(desk: *mut Desk, n: u64, number: *mut u64) -> u32 {
+    match (*desk).advance(n) {
+        Ok(Advanced { standing, examined }) => {
+            *number = examined;
+            match standing {
+                Standing::Open => 0,
+                Standing::Accepted => 1,
+                Standing::Failed => 2,
+            }
+        }
+        Err(refusal) => {
+            *number = u64::from(refusal);
+            3
+        }
+    }
+}
+
+/// # Safety
+/// The desk comes from `reference_desk`, and five numbers can be written.
+#[no_mangle]
+pub unsafe extern "C" fn reference_verdict(desk: *const Desk, numbers: *mut u16) -> u32 {
+    match (*desk).verdict() {
+        Ok(report) => {
+            slice::from_raw_parts_mut(numbers, 5).copy_from_slice(&report.numbers());
+            0
+        }
+        Err(refusal) => u32::from(refusal),
+    }
+}
+
+/// # Safety
+/// The desk comes from `reference_desk`.
+#[no_mangle]
+pub unsafe extern "C" fn reference_drop(desk: *mut Desk) -> u32 {
+    done((*desk).drop())
+}

@@ -1,0 +1,34 @@
+-- The proof of `desk_advances`: it is safe and ends.
+use borrow.Author.Needs.{needs}
+use Prim.Native.Nat.{_-_}
+use Rattle.desk_c.proofs.desk_advances.Statement.{statement}
+use Rattle.desk_c.proofs.desk_advances.Tie as tie
+use Rattle.desk_c.proofs.desk_advances.Reads as reads
+use Rattle.desk_c.proofs.desk_advances.Lts as lts
+use Rattle.checker.proofs.Desk.advance.Reads as advance-reads
+use Rattle.checker.proofs.Desk.empty.Reads as empty-reads
+use Rattle.checker.proofs.Desk.load.Reads as load-reads
+use Rattle.desk_c.proofs.stays_open.Reads as stays-open-reads
+
+abbrev Inv-loop : tie.InvT-loop
+Inv-loop text n desk₀ made₀ desk made = Unit {0}
+
+abbrev μ-loop : tie.MeasureT-loop
+μ-loop text n desk₀ made₀ desk made = 65536 - made
+
+pub desk-advances-spec : {M : Type 1} → statement M
+desk-advances-spec =
+    tie.close
+    (tie.spec
+    Inv-loop
+    μ-loop
+    (λ c κs. search needs)
+    (λ c κs. search needs)
+    (λ c. search needs)
+    (λ c κs. search needs)
+    (λ c. search needs)
+    (λ c κs. search needs)
+    (λ c. search needs)
+    (λ c. search needs)
+    (λ c. search needs)
+    (λ c. search needs))
