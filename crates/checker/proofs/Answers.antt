@@ -11,11 +11,11 @@ use Rattle.layout.specs.Sizes.{stateCountIn, initialNumberIn}
 use Rattle.loader.specs.declared.Loaded.{Loaded}
 use Rattle.loader.specs.Load.{loadedOf}
 use Rattle.walk.specs.Told.{toldWalked}
-use Rattle.walk.specs.Walk.{startIn, walkIn}
+use Rattle.walk.specs.Walk.{startIn, planOf, walkBy}
 use Rattle.walk.specs.declared.Failure.{Failure}
 use Rattle.walk.specs.declared.Walked.{Walked}
 use Rattle.walk.specs.declared.Outcome.the-variants.{Pass, Fail}
-use Rattle.checker.specs.Said.{walkedIn}
+use Rattle.checker.specs.Said.{walkedBy}
 use Rattle.checker.proofs.Said.{said-told, count-within}
 use Rattle.checker.specs.declared.Phase.{Phase}
 use Rattle.checker.specs.declared.Phase.the-variants as phase
@@ -88,9 +88,10 @@ module _ (d : Desk) where
   -- ---- load on an empty desk
 
   module _ (l : Loaded) where
-    pub loaded : (m : Loaded) → l ≡ m → l .fault ≡ 0 → record { answer = done.Done; desk = opened l } ≡ loadEmpty d m
+    pub loaded : (m : Loaded) → l ≡ m → l .fault ≡ 0 → (p : List ℕ) → p ≡ planOf (l .fields) (l .starts) (l .counts)
+        → record { answer = done.Done; desk = record { fields = l .fields; starts = l .starts; counts = l .counts; plan = p; next = 0; phase = phase.Open } } ≡ loadEmpty d m
     unfolding loadEmpty
-    loaded m e h = rw (← e, h)
+    loaded m e h p ep = rw (← e, h, ep)
 
     pub not-loaded : (m : Loaded) → l ≡ m → l .fault ≢ 0 → (r : AfterLoad) → r ≡ notLoaded (l .fault) d → r ≡ loadEmpty d m
     unfolding loadEmpty
@@ -160,15 +161,15 @@ module _ (d : Desk) where
   start-failed s es e ee = rw (ee, es)
 
   module _ (n total k : ℕ) (et : total ≡ stateCountIn (d .fields) (d .starts) (d .counts)) (ek : k ≡ ahead n (d .next) total)
-      (w : Walked) (tw : toldWalked w ≡ walkIn (d .fields) (d .starts) (d .counts) k (d .next)) where
-    ew : w ≡ walkedIn (d .fields) (d .starts) (d .counts) k (d .next)
-    unfolding walkedIn
-    ew = said-told w (walkIn (d .fields) (d .starts) (d .counts) k (d .next)) tw
+      (w : Walked) (tw : toldWalked w ≡ walkBy (d .fields) (d .starts) (d .counts) (d .plan) k (d .next)) where
+    ew : w ≡ walkedBy (d .fields) (d .starts) (d .counts) (d .plan) k (d .next)
+    unfolding walkedBy
+    ew = said-told w (walkBy (d .fields) (d .starts) (d .counts) (d .plan) k (d .next)) tw
 
     pub next-fits : d .next < 2 ^ 64 → total < 2 ^ 64 → d .next + w .count < 18446744073709551616
     unfolding ahead
     next-fits a b =
-        let most : w .count ≤ k = rw ew (count-within (d .fields) (d .starts) (d .counts) k (d .next)) in
+        let most : w .count ≤ k = rw ew (count-within (d .fields) (d .starts) (d .counts) (d .plan) k (d .next)) in
         omega arith
 
     pub examined : (r : AfterAdvance) → r ≡ walkOn d w total → r ≡ examineNext d n

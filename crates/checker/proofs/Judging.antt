@@ -37,7 +37,7 @@ use Rattle.checker.proofs.Stages.{Stage, fresh, going, accepts, fails, 
 
 -- a text without fault is held, and nothing is tried yet
 pub opened-stage : (text : List ℕ) → faultOf text ≡ 0 → Stage text (opened (heldBy (fieldsByLine text)))
-opened-stage text ok = fresh (record { free = ok; fields-are = refl; starts-are = refl; counts-are = refl }) refl refl
+opened-stage text ok = fresh (record { free = ok; fields-are = refl; starts-are = refl; counts-are = refl; plan-is = refl }) refl refl
 
 pub loaded-free : (d : Desk) (text : List ℕ) → faultOf text ≡ 0 → loadEmpty d (loadedOf text) ≡ record { answer = done.Done; desk = opened (heldBy (fieldsByLine text)) }
 unfolding loadEmpty loadedOf
@@ -101,7 +101,7 @@ module _ (text : List ℕ) (e : Desk) (ee : e ≡ emptyDesk) (a : AfterLoad) (ea
       let f = loaded ∙ loaded-free emptyDesk text ok in
       let desk : Desk = opened (heldBy (fieldsByLine text)) in
       let same : a .desk ≡ desk = ap (λ x. x .desk) f in
-      let holds : HoldsText text desk = record { free = ok; fields-are = refl; starts-are = refl; counts-are = refl } in
+      let holds : HoldsText text desk = record { free = ok; fields-are = refl; starts-are = refl; counts-are = refl; plan-is = refl } in
       let adv = advance-fresh text desk 18446744073709551615 (λ n. omega arith) holds refl refl in
       let most = few text desk holds in
       rw (z, same) (decided-report text (advanceOf desk 18446744073709551615 .desk) (adv .stage) (adv .ends (omega arith)))

@@ -23,8 +23,10 @@ use Rattle.layout.specs.Sizes.{countsFit, stateCountIn, initialNumberIn}
 use Rattle.loader.specs.Load.{faultOf}
 use Rattle.loader.proofs.Passed.{admitted, design-in, counts-allowed}
 use Rattle.walk.specs.Told.{noWalk}
-use Rattle.walk.specs.Walk.{startIn, walkIn}
-use Rattle.checker.specs.Said.{saidFailure, saidWalked, walkedIn}
+use Rattle.walk.specs.Walk.{startIn, walkIn, planOf}
+use Rattle.walk.proofs.Walking.{by-plan}
+use Rattle.walk.proofs.Acceptance.{start-tried, states-walked}
+use Rattle.checker.specs.Said.{saidFailure, saidWalked, walkedBy}
 use Rattle.checker.specs.declared.Desk.{Desk}
 
 -- the design of a text
@@ -37,13 +39,13 @@ pub record HoldsText (text : List ℕ) (desk : Desk) : Type 0 where
   pub fields-are : desk .fields ≡ fieldsHeld (fieldsByLine text)
   pub starts-are : desk .starts ≡ startsHeld (fieldsByLine text)
   pub counts-are : desk .counts ≡ countsOf (fieldsByLine text)
+  pub plan-is : desk .plan ≡ planOf (desk .fields) (desk .starts) (desk .counts)
 
 -- ---- arrays that hold a design
 
 module _ (f s : List ℕ) (c : Counts) (fit : countsFit c ≡ true) (d : Design) (e : designIn f s c ≡ d) where
   start-of : startIn f s c ≡ holds1 d
-  unfolding startIn
-  start-of = rw fit (ap holds1 e)
+  start-of = start-tried f s c fit ∙ ap holds1 e
 
   total-of : states d ≤ 65536 → stateCountIn f s c ≡ states d
   unfolding stateCountIn
@@ -59,15 +61,11 @@ module _ (f s : List ℕ) (c : Counts) (fit : countsFit c ≡ true) (d : Design)
       least : min (stateNumber d (initialState (d .impl))) 65535 ≡ stateNumber d (initialState (d .impl))
       least = omega arith
 
-  walk-of : (n from : ℕ) → from + n ≤ states d → states d ≤ 65536 → walkedIn f s c n from ≡ saidWalked (walk (examine d) n from)
-  unfolding walkedIn walkIn
-  walk-of n from l few = ap saidWalked (there ∙ ap (λ x. walk (examine x) n from) e)
-    where
-      enough : leb (from + n) (min (states (designIn f s c)) 65536) ≡ true
-      enough = ap (λ x. leb (from + n) (min (states x) 65536)) e ∙ le-leb (from + n) (min (states d) 65536) (omega arith)
-
-      there : pick (countsFit c && leb (from + n) (min (states (designIn f s c)) 65536)) (walk (examine (designIn f s c)) n from) noWalk ≡ walk (examine (designIn f s c)) n from
-      there = ap (λ b. pick b (walk (examine (designIn f s c)) n from) noWalk) (ap (λ b. b && leb (from + n) (min (states (designIn f s c)) 65536)) fit ∙ enough)
+  walk-of : (n from : ℕ) → from + n ≤ states d → states d ≤ 65536 → walkedBy f s c (planOf f s c) n from ≡ saidWalked (walk (examine d) n from)
+  unfolding walkedBy
+  walk-of n from l few =
+      let same : states (designIn f s c) ≡ states d = ap states e in
+      ap saidWalked (by-plan f s c n from ∙ states-walked f s c fit (omega arith) n from (omega arith) ∙ ap (λ x. walk (examine x) n from) e)
 
 -- ---- a desk that holds a text
 
@@ -99,7 +97,8 @@ module _ (text : List ℕ) (desk : Desk) (h : HoldsText text desk) where
       rw (h .fields-are, h .starts-are, h .counts-are)
       (initial-of (fieldsHeld lines) (startsHeld lines) (countsOf lines) (counts-allowed text (h .free)) d (design-in text (h .free)) small)
 
-  pub walk-is : (n from : ℕ) → from + n ≤ states d → walkedIn (desk .fields) (desk .starts) (desk .counts) n from ≡ saidWalked (walk (examine d) n from)
+  pub walk-is : (n from : ℕ) → from + n ≤ states d
+      → walkedBy (desk .fields) (desk .starts) (desk .counts) (desk .plan) n from ≡ saidWalked (walk (examine d) n from)
   walk-is n from l =
-      rw (h .fields-are, h .starts-are, h .counts-are)
+      rw (h .plan-is, h .fields-are, h .starts-are, h .counts-are)
       (walk-of (fieldsHeld lines) (startsHeld lines) (countsOf lines) (counts-allowed text (h .free)) d (design-in text (h .free)) n from l few)

@@ -4,19 +4,18 @@ use mathlib.Core.Path.{_≡_, refl, sym, ap, _∙_}
 use mathlib.Core.Bool.{Bool, true, false}
 use mathlib.Core.List.{List}
 use native.Mathlib.Omega.{arith}
-use Rattle.foundation.specs.Walk.{Walked, walk}
+use Rattle.foundation.specs.Walk.{Walked}
 use Rattle.foundation.proofs.Walk.{count-most}
 use Rattle.terms.specs.Tree.{pick}
 use Rattle.criteria.specs.Failure.{Failure}
-use Rattle.decision.specs.Examine.{examine}
-use Rattle.design.specs.Loaded.{designIn}
 use Rattle.design.specs.declared.Counts.{Counts}
 use Rattle.walk.specs.Told.{told, toldWalked, noWalk}
-use Rattle.walk.specs.Walk.{statesThere, walkIn}
+use Rattle.walk.specs.Examine.{examineIn, walkOn}
+use Rattle.walk.specs.Walk.{statesThere, walkBy}
 use Rattle.walk.specs.declared.Outcome.{Outcome as Answer}
 use Rattle.walk.specs.declared.Outcome.the-variants.{Pass, Fail}
 use Rattle.walk.specs.declared.Walked.{Walked as WalkAnswer}
-use Rattle.checker.specs.Said.{said, saidWalked, walkedIn}
+use Rattle.checker.specs.Said.{said, saidWalked, walkedBy}
 
 said-back : (o : Answer) → said (told o) ≡ o
 said-back Pass = refl
@@ -25,10 +24,10 @@ said-back (Fail x) = refl
 pub said-told : (r : WalkAnswer) (w : Walked Failure) → toldWalked r ≡ w → r ≡ saidWalked w
 said-told r w e = (λ i. record { outcome = sym (said-back (r .outcome)) i; count = r .count }) ∙ ap saidWalked e
 
-count-by : (f s : List ℕ) (c : Counts) (n from : ℕ) (b : Bool) → pick b (walk (examine (designIn f s c)) n from) noWalk .count ≤ n
-count-by f s c n from true = count-most (examine (designIn f s c)) n from
-count-by f s c n from false = omega arith
-
-pub count-within : (f s : List ℕ) (c : Counts) (n from : ℕ) → walkedIn f s c n from .count ≤ n
-unfolding walkedIn walkIn
-count-within f s c n from = count-by f s c n from (statesThere f s c n from)
+pub count-within : (f s : List ℕ) (c : Counts) (p : List ℕ) (n from : ℕ) → walkedBy f s c p n from .count ≤ n
+unfolding walkedBy walkBy walkOn
+count-within f s c p n from = go (statesThere f s c n from)
+  where
+    go : (b : Bool) → pick b (walkOn f s c p n from) noWalk .count ≤ n
+    go true = count-most (λ k. examineIn f s c p k) n from
+    go false = omega arith

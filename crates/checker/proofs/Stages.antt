@@ -23,7 +23,7 @@ use Rattle.decision.specs.Verdict.{verdictOf}
 use Rattle.decision.proofs.Progress.{Progress, begins, goes-on, ends-at-start, ends-well, ends-badly}
 use Rattle.layout.specs.Sizes.{initialNumberIn}
 use Rattle.loader.proofs.Passed.{admitted}
-use Rattle.checker.specs.Said.{said, saidFailure, saidWalked, walkedIn}
+use Rattle.checker.specs.Said.{said, saidFailure, saidWalked}
 use Rattle.walk.specs.declared.Failure.{Failure as Said}
 use Rattle.checker.specs.declared.Phase.{Phase}
 use Rattle.checker.specs.declared.Phase.the-variants as phase
@@ -48,7 +48,7 @@ pub data Stage (text : List ℕ) (desk : Desk) : Type 0 where
 
 -- the same arrays
 moved : {text : List ℕ} {desk : Desk} (n : ℕ) (p : Phase) → HoldsText text desk → HoldsText text (placed desk n p)
-moved n p h = record { free = h .free; fields-are = h .fields-are; starts-are = h .starts-are; counts-are = h .counts-are }
+moved n p h = record { free = h .free; fields-are = h .fields-are; starts-are = h .starts-are; counts-are = h .counts-are; plan-is = h .plan-is }
 
 -- answers and phases are told apart
 failed-answer : {j k : ℕ} → advance.Failed j ≡ advance.Accepted k → ⊥

@@ -10,12 +10,12 @@ use Rattle.design.specs.declared.Counts.{Counts}
 use Rattle.layout.specs.Sizes.{stateCountIn, initialNumberIn}
 use Rattle.loader.specs.declared.Loaded.{Loaded}
 use Rattle.loader.specs.Load.{loadedOf}
-use Rattle.walk.specs.Walk.{startIn}
+use Rattle.walk.specs.Walk.{startIn, planOf}
 use Rattle.walk.specs.declared.Failure.{Failure}
 use Rattle.walk.specs.declared.Walked.{Walked}
 use Rattle.walk.specs.declared.Outcome.{Outcome}
 use Rattle.walk.specs.declared.Outcome.the-variants.{Pass, Fail}
-use Rattle.checker.specs.Said.{walkedIn}
+use Rattle.checker.specs.Said.{walkedBy}
 use Rattle.checker.specs.declared.Phase.{Phase}
 use Rattle.checker.specs.declared.Phase.the-variants as phase
 use Rattle.checker.specs.declared.Done.{Done}
@@ -36,13 +36,14 @@ emptyDesk = record {
   fields = replicate 4096 0;
   starts = replicate 84 0;
   counts = record { kind1 = 0; kind2 = 0; kind3 = 0; kind4 = 0 };
+  plan = replicate 256 0;
   next = 0;
   phase = phase.Empty;
 }
 
 -- the same design, at another state and in another phase
 abbrev pub placed : Desk → ℕ → Phase → Desk
-placed d n p = record { fields = d .fields; starts = d .starts; counts = d .counts; next = n; phase = p }
+placed d n p = record { fields = d .fields; starts = d .starts; counts = d .counts; plan = d .plan; next = n; phase = p }
 
 -- ---- "Load takes a text and opens the desk"
 
@@ -51,7 +52,7 @@ abbrev pub notLoaded : ℕ → Desk → AfterLoad
 notLoaded k d = record { answer = done.TurnedDown k; desk = d }
 
 abbrev pub opened : Loaded → Desk
-opened l = record { fields = l .fields; starts = l .starts; counts = l .counts; next = 0; phase = phase.Open }
+opened l = record { fields = l .fields; starts = l .starts; counts = l .counts; plan = planOf (l .fields) (l .starts) (l .counts); next = 0; phase = phase.Open }
 
 unfoldable pub loadEmpty : Desk → Loaded → AfterLoad
 loadEmpty d l = cond (eqb (l .fault) 0) (record { answer = done.Done; desk = opened l }) (notLoaded (l .fault) d)
@@ -97,7 +98,7 @@ unfoldable pub examineNext : Desk → ℕ → AfterAdvance
 examineNext d n =
     let total = stateCountIn (d .fields) (d .starts) (d .counts) in
     let k = ahead n (d .next) total in
-    walkOn d (walkedIn (d .fields) (d .starts) (d .counts) k (d .next)) total
+    walkOn d (walkedBy (d .fields) (d .starts) (d .counts) (d .plan) k (d .next)) total
 
 -- "Criterion 1 comes before state 0, in the first advance"; 8. "Advance by 0 states."
 unfoldable pub advanceOpen : Desk → ℕ → AfterAdvance

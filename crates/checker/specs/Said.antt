@@ -7,7 +7,7 @@ use Rattle.foundation.specs.Walk.{Walked}
 use Rattle.criteria.specs.Failure.{Failure}
 use Rattle.criteria.specs.Verdict as criteria
 use Rattle.design.specs.declared.Counts.{Counts}
-use Rattle.walk.specs.Walk.{walkIn}
+use Rattle.walk.specs.Walk.{walkBy}
 use Rattle.walk.specs.declared.Failure.{Failure as Said}
 use Rattle.walk.specs.declared.Outcome.{Outcome as Answer}
 use Rattle.walk.specs.declared.Outcome.the-variants.{Pass, Fail}
@@ -29,6 +29,6 @@ saidVerdict (criteria.failed x) = verdict.Failed (saidFailure x)
 abbrev pub saidWalked : Walked Failure → WalkAnswer
 saidWalked w = record { outcome = said (w .outcome); count = w .count }
 
--- the walk over n states from a number on, in the design that a desk's arrays hold
-unfoldable pub walkedIn : List ℕ → List ℕ → Counts → ℕ → ℕ → WalkAnswer
-walkedIn f s c n from = saidWalked (walkIn f s c n from)
+-- the walk over n states from a number on, by a plan, in the design that a desk's arrays hold
+unfoldable pub walkedBy : List ℕ → List ℕ → Counts → List ℕ → ℕ → ℕ → WalkAnswer
+walkedBy f s c p n from = saidWalked (walkBy f s c p n from)

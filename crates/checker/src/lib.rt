@@ -25,6 +25,8 @@ pub struct Desk {
     pub fields: [u16; Desk::MAX_FIELDS],
     pub starts: [u16; Desk::STARTS],
     pub counts: Counts,
+    // What the walk needs to know of every state, worked out when the text is loaded.
+    pub plan: [u16; walk::ENTRIES],
     // The number of the next state to examine.
     pub next: usize,
     pub phase: Phase,
@@ -100,6 +102,7 @@ impl Desk {
                 kind3: 0,
                 kind4: 0,
             },
+            plan: [0u16; walk::ENTRIES],
             next: 0,
             phase: Phase::Empty,
         }
@@ -211,12 +214,14 @@ impl Desk {
             let fields = loaded.fields;
             let starts = loaded.starts;
             let counts = loaded.counts;
+            let plan = walk::plan(&fields, &starts, counts);
             AfterLoad {
                 answer: Done::Done,
                 desk: Desk {
                     fields,
                     starts,
                     counts,
+                    plan,
                     next: 0,
                     phase: Phase::Open,
                 },
@@ -274,7 +279,7 @@ impl Desk {
         let total = layout::state_count(&self.fields, &self.starts, self.counts);
         let next = self.next;
         let k = ahead(n, next, total);
-        let walked = walk::walk(&self.fields, &self.starts, self.counts, next, k);
+        let walked = walk::walk(&self.fields, &self.starts, self.counts, &self.plan, next, k);
         self.walked_on(walked, total)
     }
 
@@ -314,10 +319,12 @@ impl Desk {
         let fields = self.fields;
         let starts = self.starts;
         let counts = self.counts;
+        let plan = self.plan;
         Desk {
             fields,
             starts,
             counts,
+            plan,
             next,
             phase,
         }

@@ -6,7 +6,7 @@ use mathlib.Core.List.{List}
 use Prim.Native.Nat.{ℕ, zero, suc, _+_, _-_, _≤_, _<_, min}
 use native.Mathlib.Numerals.{add-one}
 use native.Mathlib.Omega.{arith}
-use borrow.Author.Tests.{le-leb, lt-leb, not-true, not-false}
+use borrow.Author.Tests.{le-leb, lt-leb, leb-true, not-true, not-false}
 use lib.Dec.{leb}
 use lib.ListN.{length}
 use Rattle.foundation.specs.First.{Outcome, pass, fail}
@@ -38,7 +38,7 @@ use Rattle.quick.specs.Quick.{passesIn}
 use Rattle.quick.proofs.Decided.{quick-held}
 use Rattle.walk.specs.Told.{told, toldWalked, noWalk, namedBy}
 use Rattle.walk.specs.Examine.{examineIn, walkOn}
-use Rattle.walk.specs.Walk.{startIn, walkIn, statesThere, startMeets}
+use Rattle.walk.specs.Walk.{startIn, walkIn, statesThere, planOf, walkBy, startMeets}
 use Rattle.walk.specs.declared.Failure.{Failure as Said}
 use Rattle.walk.specs.declared.Outcome.{Outcome as Answer}
 use Rattle.walk.specs.declared.Outcome.the-variants.{Pass, Fail}
@@ -207,29 +207,47 @@ module _ (f s : List ℕ) (c : Counts) (m n from : ℕ) (most : m ≡ min (state
       let r : m ≡ min (min (states (designIn f s c)) 65537) 65536 = most ∙ rw e in
       rw e (lt-leb (from + n) (min (states (designIn f s c)) 65536) (omega arith))
 
-  pub none-past : (r : WalkAnswer) → m < from → toldWalked r ≡ noWalk → toldWalked r ≡ walkIn f s c n from
-  unfolding walkIn
-  none-past r l er = er ∙ rw (not-there (countsFit c) refl (omega arith))
+  module _ (p : List ℕ) (r : WalkAnswer) where
+    pub none-past : m < from → toldWalked r ≡ noWalk → toldWalked r ≡ walkBy f s c p n from
+    unfolding walkBy
+    none-past l er = er ∙ rw (not-there (countsFit c) refl (omega arith))
 
-  pub none-so-many : (r : WalkAnswer) → from ≤ m → m - from < n → toldWalked r ≡ noWalk → toldWalked r ≡ walkIn f s c n from
-  unfolding walkIn
-  none-so-many r l k er = er ∙ rw (not-there (countsFit c) refl (omega arith))
+    pub none-so-many : from ≤ m → m - from < n → toldWalked r ≡ noWalk → toldWalked r ≡ walkBy f s c p n from
+    unfolding walkBy
+    none-so-many l k er = er ∙ rw (not-there (countsFit c) refl (omega arith))
 
-  pub walked : (r : WalkAnswer) (h : Shape) (p : List ℕ) → from ≤ m → n ≤ m - from → h ≡ shapeOf c → p ≡ planIn f s (countsOf h) → toldWalked r ≡ walkOn f s (countsOf h) p n from
-      → toldWalked r ≡ walkIn f s c n from
-  unfolding walkIn walkOn theWalk.walk
-  walked r h p l k eh ep er = er ∙ ap (λ q. walkOn f s (countsOf h) q n from) ep ∙ go (countsFit c) refl
+    pub walked : (h : Shape) → from ≤ m → n ≤ m - from → h ≡ shapeOf c → toldWalked r ≡ walkOn f s (countsOf h) p n from → toldWalked r ≡ walkBy f s c p n from
+    unfolding walkBy walkOn theWalk.walk
+    walked h l k eh er = er ∙ go (countsFit c) refl
+      where
+        go : (b : Bool) → countsFit c ≡ b → walkOn f s (countsOf h) p n from ≡ pick (statesThere f s c n from) (walkOn f s c p n from) noWalk
+        go false e =
+            let z : m ≡ 0 = none-there e in
+            let n0 : n ≡ 0 = omega arith in
+            rw (e, n0)
+        go true e = rw (there e (omega arith)) (ap (λ q. walkOn f s q p n from) (ap countsOf eh ∙ counts-kept c e))
+
+-- ---- the plan, and that the walk by the plan of the arrays is the walk over the states of the design
+
+pub plan-made : (f s r : List ℕ) (c : Counts) (h : Shape) → h ≡ shapeOf c → r ≡ planIn f s (countsOf h) → r ≡ planOf f s c
+unfolding planOf
+plan-made f s r c h eh er = er ∙ ap (λ q. planIn f s (countsOf q)) eh
+
+module _ (f s : List ℕ) (c : Counts) (n from : ℕ) where
+  pub by-plan : walkBy f s c (planOf f s c) n from ≡ walkIn f s c n from
+  unfolding walkBy walkIn planOf walkOn
+  by-plan = go (countsFit c) refl
     where
       d : Design
       d = designIn f s c
 
-      go : (b : Bool) → countsFit c ≡ b → walkOn f s (countsOf h) (planIn f s (countsOf h)) n from ≡ pick (statesThere f s c n from) (theWalk.walk (examine d) n from) noWalk
-      go false e =
-          let z : m ≡ 0 = none-there e in
-          let n0 : n ≡ 0 = omega arith in
-          rw (e, n0)
-      go true e =
-          let in-all : from + n ≤ min (states d) 65536 = within e (omega arith) in
-          rw (there e (omega arith))
-          (ap (λ q. walkOn f s q (planIn f s q) n from) (ap countsOf eh ∙ counts-kept c e)
-          ∙ walk-alike (λ j. examineIn f s c (planIn f s c) j) (examine d) n from (λ j p u. examine-held f s c (fit c true (sym e) refl) j (omega arith)))
+      enough : countsFit c ≡ true → (b : Bool) → leb (from + n) (min (states d) 65536) ≡ b
+          → pick b (walkOn f s c (planIn f s c) n from) noWalk ≡ pick b (theWalk.walk (examine d) n from) noWalk
+      enough e false l = refl
+      enough e true l =
+          let within : from + n ≤ min (states d) 65536 = leb-true (from + n) (min (states d) 65536) l in
+          walk-alike (λ j. examineIn f s c (planIn f s c) j) (examine d) n from (λ j p u. examine-held f s c (fit c true (sym e) refl) j (omega arith))
+
+      go : (b : Bool) → countsFit c ≡ b → pick (statesThere f s c n from) (walkOn f s c (planIn f s (countsOf (shapeOf c))) n from) noWalk ≡ walkIn f s c n from
+      go false e = rw e
+      go true e = rw (counts-kept c e, e) (enough e _ refl)

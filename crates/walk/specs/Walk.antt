@@ -1,5 +1,6 @@
 -- What the public functions compute, for every arrays, counts and numbers: criterion 1 of the design in the arrays, and the walk over n
--- of its states from a number on. Where the counts do not fit, or there are not so many states, nothing is walked.
+-- of its states from a number on. Where the counts do not fit, or there are not so many states, nothing is walked. The walk goes by a
+-- plan; by the plan of the arrays it is the walk over the states of the design (`by-plan` in proofs/Walking).
 use mathlib.Core.Bool.{Bool, false, _&&_}
 use mathlib.Core.List.{List}
 use Prim.Native.Nat.{ℕ, _+_, min}
@@ -12,9 +13,11 @@ use Rattle.decision.specs.Tests.{holds1}
 use Rattle.decision.specs.Examine.{examine}
 use Rattle.design.specs.Loaded.{designIn}
 use Rattle.design.specs.declared.Counts.{Counts}
-use Rattle.layout.specs.Sizes.{countsFit}
+use Rattle.layout.specs.Sizes.{countsFit, shapeOf, countsOf}
+use Rattle.quick.specs.Plan.{planIn}
 use Rattle.steps.specs.Arrays.{initialIn, invariantIn, mappedIn, sameIn}
 use Rattle.walk.specs.Told.{noWalk}
+use Rattle.walk.specs.Examine.{walkOn}
 
 -- criterion 1
 unfoldable pub startIn : List ℕ → List ℕ → Counts → Bool
@@ -26,6 +29,13 @@ statesThere f s c n from = countsFit c && leb (from + n) (min (states (designIn 
 
 unfoldable pub walkIn : List ℕ → List ℕ → Counts → ℕ → ℕ → Walked Failure
 walkIn f s c n from = let w = walk (examine (designIn f s c)) n from in pick (statesThere f s c n from) w noWalk
+
+-- the plan of the arrays, and the walk by any plan
+unfoldable pub planOf : List ℕ → List ℕ → Counts → List ℕ
+planOf f s c = planIn f s (countsOf (shapeOf c))
+
+unfoldable pub walkBy : List ℕ → List ℕ → Counts → List ℕ → ℕ → ℕ → Walked Failure
+walkBy f s c p n from = pick (statesThere f s c n from) (walkOn f s c p n from) noWalk
 
 -- criterion 1 as the code tries it
 unfoldable pub startMeets : List ℕ → List ℕ → Counts → Bool

@@ -1,6 +1,6 @@
-// The walk over the states of the design in a desk's arrays: criterion 1 at the start, and criteria 2 to 9 at n states from a place on.
-// Every public function answers any arrays, any counts and any numbers. What a walk is, and what the examination of a state, is in
-// the crates foundation and decision.
+// The walk over the states of the design in a desk's arrays: criterion 1 at the start, and criteria 2 to 9 at n states from a place on,
+// by a plan that is made once for the design. Every public function answers any arrays, any counts and any numbers. What a walk is, and
+// what the examination of a state, is in the crates foundation and decision.
 use design::Counts;
 use layout::Shape;
 use lowest::Finding;
@@ -8,7 +8,7 @@ ghost use mathlib.Core.Path.{_≡_};
 ghost use Prim.Native.Nat.{_+_, _≤_, min};
 ghost use Rattle.layout.specs.Sizes.{countsOf, stateCountIn};
 ghost use Rattle.walk.specs.Told.{told, toldWalked, noWalk, namedBy};
-ghost use Rattle.walk.specs.Walk.{startMeets, startIn, walkIn};
+ghost use Rattle.walk.specs.Walk.{startMeets, startIn, planOf, walkBy};
 ghost use Rattle.walk.specs.Examine.{examineIn, walkOn};
 
 // A failure, the state by its number.
@@ -33,6 +33,9 @@ pub struct Walked {
 // The most states that are walked: their numbers fit 16 bits.
 const MAX_STATES: usize = 65536;
 
+// The entries of a plan.
+pub const ENTRIES: usize = 256;
+
 // Whether criterion 1 holds; not where the counts do not fit.
 pub fn start_holds<'a>(
     fields: &'a [u16; terms::MAX_FIELDS],
@@ -48,15 +51,27 @@ pub fn start_holds<'a>(
     }
 }
 
-// The walk over n states from number `from` on, where there are so many; else no state is walked.
+// The plan for a walk: what does not change from state to state.
+pub fn plan<'a>(
+    fields: &'a [u16; terms::MAX_FIELDS],
+    starts: &'a [u16; 84],
+    counts: Counts,
+) -> [u16; ENTRIES]
+    ensures { λ r. ⌜ r ≡ planOf (now (fields .entry)) (now (starts .entry)) counts ⌝ }
+{
+    quick::plan(fields, starts, layout::shape_of(counts))
+}
+
+// The walk by a plan over n states from number `from` on, where there are so many; else no state is walked.
 pub fn walk<'a>(
     fields: &'a [u16; terms::MAX_FIELDS],
     starts: &'a [u16; 84],
     counts: Counts,
+    plan: &'a [u16; ENTRIES],
     from: usize,
     n: usize,
 ) -> Walked
-    ensures { λ r. ⌜ toldWalked r ≡ walkIn (now (fields .entry)) (now (starts .entry)) counts n from ⌝ }
+    ensures { λ r. ⌜ toldWalked r ≡ walkBy (now (fields .entry)) (now (starts .entry)) counts (now (plan .entry)) n from ⌝ }
 {
     let most = walkable(fields, starts, counts);
     if most < from {
@@ -65,9 +80,7 @@ pub fn walk<'a>(
     if most - from < n {
         return no_walk();
     }
-    let shape = layout::shape_of(counts);
-    let plan = quick::plan(fields, starts, shape);
-    walk_on(fields, starts, shape, &plan, from, n)
+    walk_on(fields, starts, layout::shape_of(counts), plan, from, n)
 }
 
 // How many states may be walked.
@@ -115,7 +128,7 @@ fn walk_on<'a>(
     fields: &'a [u16; terms::MAX_FIELDS],
     starts: &'a [u16; 84],
     shape: Shape,
-    plan: &[u16; quick::ENTRIES],
+    plan: &[u16; ENTRIES],
     from: usize,
     n: usize,
 ) -> Walked
@@ -145,7 +158,7 @@ fn examine<'a>(
     fields: &'a [u16; terms::MAX_FIELDS],
     starts: &'a [u16; 84],
     shape: Shape,
-    plan: &[u16; quick::ENTRIES],
+    plan: &[u16; ENTRIES],
     number: u16,
 ) -> Outcome
     ensures { λ r. ⌜ told r ≡ examineIn (now (fields .entry)) (now (starts .entry)) (countsOf shape) (now (plan .entry)) number ⌝ }

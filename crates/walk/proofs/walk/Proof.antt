@@ -15,5 +15,4 @@ walk-spec =
     (λ c. search laws.none-so-many)
     (λ c κs. search needs)
     (λ c κs. search needs)
-    (λ c κs. search needs)
     (λ c. search laws.walked))
