@@ -37,12 +37,13 @@ use Rattle.layout.specs.Sizes.{Fit}
 use Rattle.steps.specs.Arrays.{padded, valuesAt, rowsFrom, sameIn, insideIn, mappedIn, measureIn, implLine, specLine}
 use Rattle.steps.proofs.Arrays.{each-length, row-there}
 use Rattle.steps.proofs.States as states
-use Rattle.quick.specs.Conjuncts.{frontOf, guardIn}
-use Rattle.quick.proofs.Conjuncts.{guards}
-use Rattle.quick.specs.Plan.{implBy, specBy, implAt, specAt, conditionFree, rowFree, specFree, implFree, looksOf, flagOf, implPartner, implLooks, implFlag, specPartner, specLooks, specFlag, implFront, specFront, entryIn, entriesFrom, planIn}
+use Rattle.conjuncts.specs.Conjuncts.{frontOf, guardIn}
+use Rattle.conjuncts.proofs.Conjuncts.{guards}
+use Rattle.plan.specs.Plan.{implBy, specBy, implAt, specAt, conditionFree, rowFree, specFree, implFree, looksOf, flagOf, implPartner, implLooks, implFlag, specPartner, specLooks, specFlag, implFront, specFront, entryOf, isRow, planIn}
+use Rattle.plan.proofs.Planned.{plan-at, row-of-impl, row-of-spec}
 use Rattle.quick.specs.Quick.{keptIn, answeredIn, stepTo, stepIn, stepOfRow, seen, onAt, looksIn, rowIn, plannedIn, implIn, repliedIf, replyLooks, replyIn, replyPlanned, specIn, passesIn}
 use Rattle.quick.specs.declared.Seen.{Seen}
-use Rattle.quick.specs.declared.Guarded.{Guarded}
+use Rattle.conjuncts.specs.declared.Guarded.{Guarded}
 
 -- a row's condition for the sum value e, taken for 0 where it is said to be sum-free
 abbrev onIn : Row → List ℕ → Bool → ℕ → Bool
@@ -126,20 +127,6 @@ arranged false b r = refl
 
 -- ---- the entries of the plan
 
-module _ (f s : List ℕ) (c : Counts) where
-  entry-at : (n i k : ℕ) → k < n → getD (entriesFrom f s c n i) k 0 ≡ entryIn f s c ((i + k) / 32) ((i + k) % 32 + 1)
-  unfolding entriesFrom
-  entry-at zero i k l = absurd (omega arith)
-  entry-at (suc n) i zero l = let e : i + 0 ≡ i = omega arith in rw e
-  entry-at (suc n) i (suc k) l = let e : suc i + k ≡ i + suc k = omega arith in entry-at n (suc i) k (omega arith) ∙ rw e
-
-  plan-at : (w i k : ℕ) → i < 32 → w < 8 → k ≡ w * 32 + i → getD (planIn f s c) k 0 ≡ entryIn f s c w (i + 1)
-  unfolding planIn
-  plan-at w i k l u e =
-      let q : (0 + k) / 32 ≡ w = omega arith in
-      let m : (0 + k) % 32 ≡ i = omega arith in
-      entry-at 256 0 k (omega arith) ∙ rw (q, m)
-
 flag-is : (b : Bool) → eqb (flagOf b) 1 ≡ b
 unfolding flagOf
 flag-is true = refl
@@ -186,7 +173,7 @@ row-same r x e h =
 
 module _ (f s : List ℕ) (c : Counts) (v t : List ℕ) (l : ℕ) where
   abbrev front : List ℕ → Guarded
-  front z = guardIn f z (frontOf f (l + 3) 32) (l + 3) 32
+  front z = guardIn f z 0 (frontOf f (l + 3) 32) (l + 3) 32
 
   -- the condition of the row in the line that starts at l
   on-guarded : (z : List ℕ) (n e : ℕ) → enabledB (line.rowOf n (drop l f)) z e ≡ front z .holds && evalF (readF (front z .depth) (drop (front z .at) f) .tree) z e
@@ -420,31 +407,31 @@ module _ (f s : List ℕ) (c : Counts) (fits : Fit c) (x : List ℕ) (long : len
   abbrev implLineAt : ℕ → List ℕ
   implLineAt i = lineFrom f s (implRowsAt c + i)
 
-  module _ (i : ℕ) (few : i < 32) where
+  module _ (i : ℕ) (few : i < 32) (there : isRow c (i + 1) ≡ true) where
     partner-entry : getD p i 0 ≡ j (implLineAt i)
-    unfolding entryIn implPartner implBy
+    unfolding entryOf implPartner implBy
     partner-entry =
-        plan-at f s c 0 i i few (omega arith) (omega arith) ∙ states.spec-row-of f s c (implBy f s c (i + 1) .action)
+        plan-at f s c 0 i i few (omega arith) (omega arith) there ∙ states.spec-row-of f s c (implBy f s c (i + 1) .action)
         ∙ ap (λ (z : Row). rowOf (d .spec) (z .action)) (impl-row i)
 
     looks-entry : getD p (32 + i) 0 ≡ looks (implLineAt i)
-    unfolding entryIn implLooks implPartner implBy specFree
+    unfolding entryOf implLooks implPartner implBy specFree
     looks-entry =
-        plan-at f s c 1 i (32 + i) few (omega arith) (omega arith)
+        plan-at f s c 1 i (32 + i) few (omega arith) (omega arith) there
         ∙ rw (states.spec-row-of f s c (implBy f s c (i + 1) .action), spec-partner (implBy f s c (i + 1) .action))
         (ap (λ (z : Row). looksOf (rowFree z && rowFree (partner (d .spec) (z .action))) (z .span)) (impl-row i))
 
     flag-entry : eqb (getD p (64 + i) 0) 1 ≡ sumFreeF (r (implLineAt i) .condition)
-    unfolding entryIn implFlag conditionFree implBy
+    unfolding entryOf implFlag conditionFree implBy
     flag-entry =
-        ap (λ m. eqb m 1) (plan-at f s c 2 i (64 + i) few (omega arith) (omega arith))
+        ap (λ m. eqb m 1) (plan-at f s c 2 i (64 + i) few (omega arith) (omega arith) there)
         ∙ flag-is (sumFreeF (implBy f s c (i + 1) .condition)) ∙ ap (λ (z : Row). sumFreeF (z .condition)) (impl-row i)
 
     front-entry : getD p (192 + i) 0 ≡ frontOf f (getD s (implRowsAt c + i) 0 + 3) 32
-    unfolding entryIn implFront implLine
+    unfolding entryOf implFront implLine
     front-entry =
         let e : implRowsAt c + (i + 1) - 1 ≡ implRowsAt c + i = omega arith in
-        plan-at f s c 6 i (192 + i) few (omega arith) (omega arith) ∙ rw e
+        plan-at f s c 6 i (192 + i) few (omega arith) (omega arith) there ∙ rw e
 
     planned-held : plannedIn f s c p i v t (measureIn f s c v) ≡ seen (A (implLineAt i)) (B (implLineAt i))
     unfolding plannedIn rowIn implLine
@@ -465,9 +452,9 @@ module _ (f s : List ℕ) (c : Counts) (fits : Fit c) (x : List ℕ) (long : len
   impl-held =
       rw (
         all-in (λ i. plannedIn f s c p i v t (measureIn f s c v) .holds) (λ i. A (implLineAt i)) (c .kind3) 0
-            (λ i z u. let few = fits .kind3 in ap (λ (g : Seen). g .holds) (planned-held i (omega arith)) ∙ seen-holds (A (implLineAt i)) (B (implLineAt i))),
+            (λ i z u. let few = fits .kind3 in ap (λ (g : Seen). g .holds) (planned-held i (omega arith) (row-of-impl c i (omega arith))) ∙ seen-holds (A (implLineAt i)) (B (implLineAt i))),
         all-in (λ i. plannedIn f s c p i v t (measureIn f s c v) .quiet) (λ i. A (implLineAt i) && B (implLineAt i)) (c .kind3) 0
-            (λ i z u. let few = fits .kind3 in ap (λ (g : Seen). g .quiet) (planned-held i (omega arith)) ∙ seen-quiet (A (implLineAt i)) (B (implLineAt i))),
+            (λ i z u. let few = fits .kind3 in ap (λ (g : Seen). g .quiet) (planned-held i (omega arith) (row-of-impl c i (omega arith))) ∙ seen-quiet (A (implLineAt i)) (B (implLineAt i))),
         all-both (λ i. A (implLineAt i)) (λ i. B (implLineAt i)) (c .kind3) 0,
       )
 
@@ -522,31 +509,31 @@ module _ (f s : List ℕ) (c : Counts) (fits : Fit c) (x : List ℕ) (long : len
     reply-held : allIn (λ e. repliedIf (onIn w t (sumFreeF (w .condition)) e) f s c (rowOf (d .impl) (w .action)) v e) backLooks 0 ≡ allIn replies (w .span) 0
     reply-held = all-alike _ replies backLooks 0 replied-held ∙ all-looks replies (sumFreeF (w .condition) && sumFreeF (back .condition)) (w .span) replies-once
 
-  module _ (i : ℕ) (few : i < 32) where
+  module _ (i : ℕ) (few : i < 32) (there : isRow c (i + 1) ≡ true) where
     back-entry : getD p (96 + i) 0 ≡ rowOf (d .impl) (w (specLineAt i) .action)
-    unfolding entryIn specPartner specBy
+    unfolding entryOf specPartner specBy
     back-entry =
-        plan-at f s c 3 i (96 + i) few (omega arith) (omega arith) ∙ states.impl-row-of f s c (specBy f s c (i + 1) .action)
+        plan-at f s c 3 i (96 + i) few (omega arith) (omega arith) there ∙ states.impl-row-of f s c (specBy f s c (i + 1) .action)
         ∙ ap (λ (z : Row). rowOf (d .impl) (z .action)) (spec-row i)
 
     back-looks-entry : getD p (128 + i) 0 ≡ backLooks (specLineAt i)
-    unfolding entryIn specLooks specPartner specBy implFree conditionFree
+    unfolding entryOf specLooks specPartner specBy implFree conditionFree
     back-looks-entry =
-        plan-at f s c 4 i (128 + i) few (omega arith) (omega arith)
+        plan-at f s c 4 i (128 + i) few (omega arith) (omega arith) there
         ∙ rw (states.impl-row-of f s c (specBy f s c (i + 1) .action), impl-partner (specBy f s c (i + 1) .action))
         (ap (λ (z : Row). looksOf (sumFreeF (z .condition) && sumFreeF (partner (d .impl) (z .action) .condition)) (z .span)) (spec-row i))
 
     back-flag-entry : eqb (getD p (160 + i) 0) 1 ≡ sumFreeF (w (specLineAt i) .condition)
-    unfolding entryIn specFlag conditionFree specBy
+    unfolding entryOf specFlag conditionFree specBy
     back-flag-entry =
-        ap (λ m. eqb m 1) (plan-at f s c 5 i (160 + i) few (omega arith) (omega arith))
+        ap (λ m. eqb m 1) (plan-at f s c 5 i (160 + i) few (omega arith) (omega arith) there)
         ∙ flag-is (sumFreeF (specBy f s c (i + 1) .condition)) ∙ ap (λ (z : Row). sumFreeF (z .condition)) (spec-row i)
 
     back-front-entry : getD p (224 + i) 0 ≡ frontOf f (getD s (specRowsAt c + i) 0 + 3) 32
-    unfolding entryIn specFront specLine
+    unfolding entryOf specFront specLine
     back-front-entry =
         let e : specRowsAt c + (i + 1) - 1 ≡ specRowsAt c + i = omega arith in
-        plan-at f s c 7 i (224 + i) few (omega arith) (omega arith) ∙ rw e
+        plan-at f s c 7 i (224 + i) few (omega arith) (omega arith) there ∙ rw e
 
     reply-planned-held : replyPlanned f s c p i v t ≡ allIn (replies (specLineAt i)) (w (specLineAt i) .span) 0
     unfolding replyPlanned replyIn specLine
@@ -563,7 +550,7 @@ module _ (f s : List ℕ) (c : Counts) (fits : Fit c) (x : List ℕ) (long : len
   unfolding specIn
   spec-held =
       all-in (λ i. replyPlanned f s c p i v t) (λ i. allIn (replies (specLineAt i)) (w (specLineAt i) .span) 0) (c .kind4) 0
-      (λ i z u. let few = fits .kind4 in reply-planned-held i (omega arith))
+      (λ i z u. let few = fits .kind4 in reply-planned-held i (omega arith) (row-of-spec c i (omega arith)))
       ∙ each-all (λ z. allIn (λ e. enabledB z y e ⇒ enabledB (partner (d .impl) (z .action)) x e) (z .span) 0) (line.rowOf (c .kind2)) (lineFrom f s) (c .kind4) (specRowsAt c)
 
   -- criterion 7 at a focus point, and nothing elsewhere

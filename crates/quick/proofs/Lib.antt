@@ -1,4 +1,2 @@
-pub mod Conjuncts
-pub mod Planned
 pub mod Seeing
 pub mod Decided

@@ -24,11 +24,11 @@ use Rattle.design.specs.Line.{rowOf}
 use Rattle.design.specs.declared.Counts.{Counts}
 use Rattle.steps.specs.Arrays.{padded, valuesAt, belowIn, sameIn, insideIn, mappedIn, measureIn, implLine, specLine}
 use Rattle.steps.proofs.All.{all-begin, all-turn, all-fail, all-end}
-use Rattle.quick.specs.Conjuncts.{guardIn}
-use Rattle.quick.specs.Plan.{implBy, specBy, implAt, specAt}
+use Rattle.conjuncts.specs.Conjuncts.{guardIn}
+use Rattle.plan.specs.Plan.{implBy, specBy, implAt, specAt}
 use Rattle.quick.specs.Quick.{keptIn, answeredIn, stepTo, stepIn, heldIf, seen, onAt, knownIn, lookIn, looksIn, rowIn, plannedIn, implIn, repliedIf, repliedIn, replyLooks, replyIn, replyPlanned, specIn, passesIn}
 use Rattle.quick.specs.declared.Seen.{Seen}
-use Rattle.quick.specs.declared.Guarded.{Guarded}
+use Rattle.conjuncts.specs.declared.Guarded.{Guarded}
 
 -- ---- a step
 
@@ -230,7 +230,7 @@ module _ (f s v t : List ℕ) (c : Counts) (at d j n m : ℕ) (free i : Bool) wh
   row-end e q l inv = seen-end H I told n q e l ∙ inv
 
 -- the conjuncts in front
-module _ (f s v t : List ℕ) (c : Counts) (k j n l m line : ℕ) (free : Bool) (g : Guarded) (el : line ≡ implLine s c k) (eg : g ≡ guardIn f v l (line + 3) 32) where
+module _ (f s v t : List ℕ) (c : Counts) (k j n l m line : ℕ) (free : Bool) (g : Guarded) (el : line ≡ implLine s c k) (eg : g ≡ guardIn f v 0 l (line + 3) 32) where
   pub row-off : not (g .holds) ≡ true → record { holds = true; quiet = true } ≡ rowIn f s c k j n free l v t m
   unfolding rowIn
   row-off h = rw (← el, ← eg, not-true (g .holds) h)
@@ -288,10 +288,10 @@ module _ (f s v : List ℕ) (c : Counts) (j e : ℕ) (on : Bool) where
   unfolding repliedIf implAt evalF
   reply-none h z = rw (not-false on h, z)
 
-  pub reply-on : (line : ℕ) (h : Held) → not on ≡ false → (j ≡ 0 → ⊥) → line ≡ implLine s c j → h ≡ answerF (line + 3) v e (readF 32 (drop (line + 3) f))
-      → h .holds ≡ repliedIf on f s c j v e
+  pub reply-on : (line : ℕ) (b : Bool) → not on ≡ false → (j ≡ 0 → ⊥) → line ≡ implLine s c j → b ≡ evalF (readF 32 (drop (line + 3) f) .tree) v e
+      → b ≡ repliedIf on f s c j v e
   unfolding repliedIf implAt implBy
-  reply-on line h ok some el eh = rw (not-false on ok, ne-eqb j 0 some, ← el, place f line 3 refl, eh)
+  reply-on line b ok some el eb = rw (not-false on ok, ne-eqb j 0 some, ← el, place f line 3 refl, eb)
 
 module _ (f s v t : List ℕ) (c : Counts) (at d j n : ℕ) (free : Bool) where
   abbrev R : ℕ → Bool
@@ -331,7 +331,7 @@ module _ (f s v t : List ℕ) (c : Counts) (at d j n : ℕ) (free : Bool) where
   unfolding replyLeft
   reply-end e l inv = sym (all-end R n e l) ∙ inv
 
-module _ (f s v t : List ℕ) (c : Counts) (k j n l line : ℕ) (free : Bool) (g : Guarded) (el : line ≡ specLine s c k) (eg : g ≡ guardIn f t l (line + 3) 32) where
+module _ (f s v t : List ℕ) (c : Counts) (k j n l line : ℕ) (free : Bool) (g : Guarded) (el : line ≡ specLine s c k) (eg : g ≡ guardIn f t 0 l (line + 3) 32) where
   pub reply-guarded : not (g .holds) ≡ true → true ≡ replyIn f s c k j n free l v t
   unfolding replyIn
   reply-guarded h = rw (← el, ← eg, not-true (g .holds) h)

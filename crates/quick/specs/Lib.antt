@@ -1,3 +1,1 @@
-pub mod Conjuncts
-pub mod Plan
 pub mod Quick

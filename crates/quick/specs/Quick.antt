@@ -16,8 +16,8 @@ use Rattle.criteria.specs.Step.{nextState, dataNumber}
 use Rattle.decision.specs.Tests.{enabledB, internalB}
 use Rattle.design.specs.declared.Counts.{Counts}
 use Rattle.steps.specs.Arrays.{padded, valuesAt, belowIn, sameIn, insideIn, mappedIn, measureIn, implLine, specLine}
-use Rattle.quick.specs.Conjuncts.{guardIn}
-use Rattle.quick.specs.Plan.{implBy, implAt, specAt}
+use Rattle.conjuncts.specs.Conjuncts.{guardIn}
+use Rattle.plan.specs.Plan.{implBy, implAt, specAt}
 use Rattle.quick.specs.declared.Seen.{Seen}
 
 -- ---- a step
@@ -77,7 +77,7 @@ lookIn f s c at d first free b j v t m e =
 -- row k with the partner j, n looks and l conjuncts in front of its condition
 unfoldable pub rowIn : List ℕ → List ℕ → Counts → ℕ → ℕ → ℕ → Bool → ℕ → List ℕ → List ℕ → ℕ → Seen
 rowIn f s c k j n free l v t m =
-    let front = guardIn f v l (implLine s c k + 3) 32 in
+    let front = guardIn f v 0 l (implLine s c k + 3) 32 in
     pick (front .holds) (looksIn f s c (front .at) (front .depth) free (internalB (implBy f s c k)) j n v t m) (seen true true)
 
 unfoldable pub plannedIn : List ℕ → List ℕ → Counts → List ℕ → ℕ → List ℕ → List ℕ → ℕ → Seen
@@ -100,7 +100,7 @@ replyLooks f s c at d free j n v t = allIn (λ e. repliedIf (onAt f t at d free 
 -- row k with the partner j, n looks and l conjuncts in front of its condition
 unfoldable pub replyIn : List ℕ → List ℕ → Counts → ℕ → ℕ → ℕ → Bool → ℕ → List ℕ → List ℕ → Bool
 replyIn f s c k j n free l v t =
-    let front = guardIn f t l (specLine s c k + 3) 32 in
+    let front = guardIn f t 0 l (specLine s c k + 3) 32 in
     pick (front .holds) (replyLooks f s c (front .at) (front .depth) free j n v t) true
 
 unfoldable pub replyPlanned : List ℕ → List ℕ → Counts → List ℕ → ℕ → List ℕ → List ℕ → Bool

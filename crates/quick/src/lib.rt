@@ -1,10 +1,8 @@
 // Whether a state passes, with no word on where it fails: one look at each row and sum value, all criteria at once. So a state that
 // passes is paid for once, and only one that fails is searched (crate lowest). Every function answers any arrays.
 //
-// What does not change from state to state is worked out before, in the plan: of each row its partner, the row of its action in the other
-// process; how many of its sum values need a look, one where nothing in the row and its partner reads the sum value; whether its
-// condition reads it; and how many conjuncts in front of its condition do not, so that a row that these rule out costs no more. What
-// each function computes is in specs/Plan and specs/Quick; that it is the quick test of the crate decision is in proofs/Decided.
+// What does not change from state to state is worked out before (crate plan). What each function computes is in specs/Quick; that it
+// is the quick test of the crate decision is in proofs/Decided.
 use eval::Held;
 use layout::Shape;
 ghost use mathlib.Core.Path.{_≡_};
@@ -15,285 +13,12 @@ ghost use Rattle.terms.specs.Tree.{pick};
 ghost use Rattle.eval.specs.Answer.{answerF};
 ghost use Rattle.design.specs.Line.{rowOf};
 ghost use Rattle.layout.specs.Sizes.{countsOf};
-ghost use Rattle.quick.specs.Conjuncts.{frontOf, conjunctIn, noConjunct, guardIn};
-ghost use Rattle.quick.specs.Plan.{valuesFree, rowFree, conditionFree, specFree, implFree, looksOf, flagOf, implPartner, implLooks, implFlag, specPartner, specLooks, specFlag, implFront, specFront, entryIn, planIn};
 ghost use Rattle.quick.specs.Quick.{keptIn, answeredIn, stepIn, heldIf, lookIn, looksIn, rowIn, plannedIn, implIn, repliedIf, repliedIn, replyLooks, replyIn, replyPlanned, specIn, passesIn};
-
-// The conjunct in front of a formula, if there is one: whether it holds; where the rest stands, and how deep that may be.
-pub struct Conjunct {
-    pub there: bool,
-    pub holds: bool,
-    pub next: usize,
-    pub depth: usize,
-}
-
-// Whether the conjuncts in front of a condition hold; where the rest of it stands, and how deep that may be.
-pub struct Guarded {
-    pub holds: bool,
-    pub at: usize,
-    pub depth: usize,
-}
 
 // What was seen of rows: whether each holds, and, if so, whether no internal one is enabled.
 pub struct Seen {
     pub holds: bool,
     pub quiet: bool,
-}
-
-// A plan has eight entries for each row number, four for the row of the implementation and four for that of the specification.
-pub const ENTRIES: usize = 256;
-
-const ROWS: usize = 32;
-
-// The mark of a conjunction.
-const AND: u16 = 15;
-
-// ---- the plan
-
-// Whether n values from a place on do not read the sum value.
-fn values_free(fields: &[u16; terms::MAX_FIELDS], at: usize, n: u8) -> bool
-    ensures { λ r. ⌜ r ≡ valuesFree (now (fields .entry)) at n ⌝ }
-{
-    let mut place = at;
-    let mut i = 0;
-    while i < n {
-        let x = sum_free::value_sum_free(fields, place, terms::MAX_DEPTH);
-        if !x.free {
-            return false;
-        }
-        place = x.next;
-        i += 1;
-    }
-    true
-}
-
-// Whether nothing in the row of the line that starts at a place reads the sum value, in a process of n parameters.
-fn row_free(fields: &[u16; terms::MAX_FIELDS], line: u16, n: u8) -> bool
-    ensures { λ r. ⌜ r ≡ rowFree (rowOf n (drop line (now (fields .entry)))) ⌝ }
-{
-    let condition = sum_free::formula_sum_free(fields, line as usize + 3, terms::MAX_DEPTH);
-    let data = sum_free::value_sum_free(fields, condition.next, terms::MAX_DEPTH);
-    condition.free & (data.free & values_free(fields, data.next, n))
-}
-
-// Whether the condition of the row of the line that starts at a place does not read the sum value.
-fn condition_free(fields: &[u16; terms::MAX_FIELDS], line: u16) -> bool
-    ensures { λ r. ⌜ r ≡ conditionFree (now (fields .entry)) line ⌝ }
-{
-    let condition = sum_free::formula_sum_free(fields, line as usize + 3, terms::MAX_DEPTH);
-    condition.free
-}
-
-// The same of row k of the specification as a whole, and of the condition of row k of the implementation; no row reads nothing.
-fn spec_free<'a>(
-    fields: &'a [u16; terms::MAX_FIELDS],
-    starts: &'a [u16; 84],
-    shape: Shape,
-    k: u16,
-) -> bool
-    ensures { λ r. ⌜ r ≡ specFree (now (fields .entry)) (now (starts .entry)) (countsOf shape) k ⌝ }
-{
-    if k == 0 {
-        return true;
-    }
-    row_free(fields, steps::spec_line(starts, shape, k), shape.kind2)
-}
-
-fn impl_free<'a>(
-    fields: &'a [u16; terms::MAX_FIELDS],
-    starts: &'a [u16; 84],
-    shape: Shape,
-    k: u16,
-) -> bool
-    ensures { λ r. ⌜ r ≡ implFree (now (fields .entry)) (now (starts .entry)) (countsOf shape) k ⌝ }
-{
-    if k == 0 {
-        return true;
-    }
-    condition_free(fields, steps::impl_line(starts, shape, k))
-}
-
-// How many conjuncts in front of the condition at a place do not read the sum value.
-fn front(desk: &[u16; terms::MAX_FIELDS], at: usize) -> u16
-    ensures { λ r. ⌜ r ≡ frontOf (now (desk .entry)) at 32 ⌝ }
-{
-    let fields: &[u16] = desk;
-    let mut place = at;
-    let mut depth = terms::MAX_DEPTH;
-    let mut n = 0;
-    while 0 < depth {
-        if fields.len() <= place {
-            return n;
-        }
-        if fields[place] != AND {
-            return n;
-        }
-        let left = sum_free::formula_sum_free(desk, place + 1, depth - 1);
-        if !left.free {
-            return n;
-        }
-        place = left.next;
-        depth -= 1;
-        n += 1;
-    }
-    n
-}
-
-// How many sum values need a look: one of those that there are where nothing reads them, and else all.
-fn looks(free: bool, span: u16) -> u16
-    ensures { λ r. ⌜ r ≡ looksOf free span ⌝ }
-{
-    if !free {
-        return span;
-    }
-    if span == 0 {
-        return 0;
-    }
-    1
-}
-
-fn flag(b: bool) -> u16
-    ensures { λ r. ⌜ r ≡ flagOf b ⌝ }
-{
-    if b { 1 } else { 0 }
-}
-
-// The entries of row k of the implementation: its partner's number, its looks, and whether its condition is sum-free.
-fn impl_partner<'a>(
-    fields: &'a [u16; terms::MAX_FIELDS],
-    starts: &'a [u16; 84],
-    shape: Shape,
-    k: u16,
-) -> u16
-    ensures { λ r. ⌜ r ≡ implPartner (now (fields .entry)) (now (starts .entry)) (countsOf shape) k ⌝ }
-{
-    let line = steps::impl_line(starts, shape, k);
-    steps::spec_row(fields, starts, shape, layout::field_of(fields, line, 1))
-}
-
-fn impl_looks<'a>(
-    fields: &'a [u16; terms::MAX_FIELDS],
-    starts: &'a [u16; 84],
-    shape: Shape,
-    k: u16,
-) -> u16
-    ensures { λ r. ⌜ r ≡ implLooks (now (fields .entry)) (now (starts .entry)) (countsOf shape) k ⌝ }
-{
-    let line = steps::impl_line(starts, shape, k);
-    let partner = impl_partner(fields, starts, shape, k);
-    let free = row_free(fields, line, shape.kind1) & spec_free(fields, starts, shape, partner);
-    looks(free, layout::field_of(fields, line, 2))
-}
-
-fn impl_flag<'a>(
-    fields: &'a [u16; terms::MAX_FIELDS],
-    starts: &'a [u16; 84],
-    shape: Shape,
-    k: u16,
-) -> u16
-    ensures { λ r. ⌜ r ≡ implFlag (now (fields .entry)) (now (starts .entry)) (countsOf shape) k ⌝ }
-{
-    flag(condition_free(fields, steps::impl_line(starts, shape, k)))
-}
-
-// Of row k of the specification: for criterion 7 the conditions are all that counts.
-fn spec_partner<'a>(
-    fields: &'a [u16; terms::MAX_FIELDS],
-    starts: &'a [u16; 84],
-    shape: Shape,
-    k: u16,
-) -> u16
-    ensures { λ r. ⌜ r ≡ specPartner (now (fields .entry)) (now (starts .entry)) (countsOf shape) k ⌝ }
-{
-    let line = steps::spec_line(starts, shape, k);
-    steps::impl_row(fields, starts, shape, layout::field_of(fields, line, 1))
-}
-
-fn spec_looks<'a>(
-    fields: &'a [u16; terms::MAX_FIELDS],
-    starts: &'a [u16; 84],
-    shape: Shape,
-    k: u16,
-) -> u16
-    ensures { λ r. ⌜ r ≡ specLooks (now (fields .entry)) (now (starts .entry)) (countsOf shape) k ⌝ }
-{
-    let line = steps::spec_line(starts, shape, k);
-    let partner = spec_partner(fields, starts, shape, k);
-    let free = condition_free(fields, line) & impl_free(fields, starts, shape, partner);
-    looks(free, layout::field_of(fields, line, 2))
-}
-
-fn spec_flag<'a>(
-    fields: &'a [u16; terms::MAX_FIELDS],
-    starts: &'a [u16; 84],
-    shape: Shape,
-    k: u16,
-) -> u16
-    ensures { λ r. ⌜ r ≡ specFlag (now (fields .entry)) (now (starts .entry)) (countsOf shape) k ⌝ }
-{
-    flag(condition_free(fields, steps::spec_line(starts, shape, k)))
-}
-
-// The conjuncts in front of the conditions of both.
-fn impl_front<'a>(
-    fields: &'a [u16; terms::MAX_FIELDS],
-    starts: &'a [u16; 84],
-    shape: Shape,
-    k: u16,
-) -> u16
-    ensures { λ r. ⌜ r ≡ implFront (now (fields .entry)) (now (starts .entry)) (countsOf shape) k ⌝ }
-{
-    front(fields, steps::impl_line(starts, shape, k) as usize + 3)
-}
-
-fn spec_front<'a>(
-    fields: &'a [u16; terms::MAX_FIELDS],
-    starts: &'a [u16; 84],
-    shape: Shape,
-    k: u16,
-) -> u16
-    ensures { λ r. ⌜ r ≡ specFront (now (fields .entry)) (now (starts .entry)) (countsOf shape) k ⌝ }
-{
-    front(fields, steps::spec_line(starts, shape, k) as usize + 3)
-}
-
-// An entry of one of the eight sorts.
-fn entry<'a>(
-    fields: &'a [u16; terms::MAX_FIELDS],
-    starts: &'a [u16; 84],
-    shape: Shape,
-    sort: usize,
-    k: u16,
-) -> u16
-    ensures { λ r. ⌜ r ≡ entryIn (now (fields .entry)) (now (starts .entry)) (countsOf shape) sort k ⌝ }
-{
-    match sort {
-        0 => impl_partner(fields, starts, shape, k),
-        1 => impl_looks(fields, starts, shape, k),
-        2 => impl_flag(fields, starts, shape, k),
-        3 => spec_partner(fields, starts, shape, k),
-        4 => spec_looks(fields, starts, shape, k),
-        5 => spec_flag(fields, starts, shape, k),
-        6 => impl_front(fields, starts, shape, k),
-        _ => spec_front(fields, starts, shape, k),
-    }
-}
-
-// All entries: those of one sort for all rows, then the next sort.
-pub fn plan<'a>(
-    fields: &'a [u16; terms::MAX_FIELDS],
-    starts: &'a [u16; 84],
-    shape: Shape,
-) -> [u16; ENTRIES]
-    ensures { λ r. ⌜ r ≡ planIn (now (fields .entry)) (now (starts .entry)) (countsOf shape) ⌝ }
-{
-    let mut out = [0u16; ENTRIES];
-    let mut i = 0;
-    while i < ENTRIES {
-        out[i] = entry(fields, starts, shape, i / ROWS, (i % ROWS) as u16 + 1);
-        i += 1;
-    }
-    out
 }
 
 // ---- a step of a row
@@ -393,84 +118,6 @@ fn held_if<'a>(
         step_holds(fields, starts, shape, at, internal, j, v, t, m, sum)
     } else {
         true
-    }
-}
-
-// The first conjunct of the formula at a place, if there is one: whether it holds for the sum value 0.
-fn first_conjunct(
-    desk: &[u16; terms::MAX_FIELDS],
-    at: usize,
-    depth: usize,
-    v: &[u16; terms::MAX_PARAMETERS],
-) -> Conjunct
-    ensures { λ r. ⌜ r ≡ conjunctIn (now (desk .entry)) (now (v .entry)) at depth ⌝ }
-{
-    let fields: &[u16] = desk;
-    if depth == 0 {
-        return no_conjunct(at, depth);
-    }
-    if fields.len() <= at {
-        return no_conjunct(at, depth);
-    }
-    if fields[at] != AND {
-        return no_conjunct(at, depth);
-    }
-    let left = eval::formula(desk, at + 1, v, 0, depth - 1);
-    Conjunct {
-        there: true,
-        holds: left.holds,
-        next: left.next,
-        depth: depth - 1,
-    }
-}
-
-fn no_conjunct(at: usize, depth: usize) -> Conjunct
-    ensures { λ r. ⌜ r ≡ noConjunct at depth ⌝ }
-{
-    Conjunct {
-        there: false,
-        holds: false,
-        next: at,
-        depth: depth,
-    }
-}
-
-// Whether the first n conjuncts of the condition at a place hold.
-fn guard(
-    fields: &[u16; terms::MAX_FIELDS],
-    at: usize,
-    v: &[u16; terms::MAX_PARAMETERS],
-    n: u16,
-) -> Guarded
-    ensures { λ r. ⌜ r ≡ guardIn (now (fields .entry)) (now (v .entry)) n at 32 ⌝ }
-{
-    let mut place = at;
-    let mut depth = terms::MAX_DEPTH;
-    let mut i = 0;
-    while i < n {
-        let left = first_conjunct(fields, place, depth, v);
-        if !left.there {
-            return Guarded {
-                holds: true,
-                at: place,
-                depth: depth,
-            };
-        }
-        if !left.holds {
-            return Guarded {
-                holds: false,
-                at: place,
-                depth: depth,
-            };
-        }
-        place = left.next;
-        depth = left.depth;
-        i += 1;
-    }
-    Guarded {
-        holds: true,
-        at: place,
-        depth: depth,
     }
 }
 
@@ -598,15 +245,15 @@ fn row_seen<'a>(
     j: u16,
     n: u16,
     free: bool,
-    conjuncts: u16,
+    fronts: u16,
     v: &[u16; terms::MAX_PARAMETERS],
     t: &[u16; terms::MAX_PARAMETERS],
     m: u16,
 ) -> Seen
-    ensures { λ r. ⌜ r ≡ rowIn (now (fields .entry)) (now (starts .entry)) (countsOf shape) k j n free conjuncts (now (v .entry)) (now (t .entry)) m ⌝ }
+    ensures { λ r. ⌜ r ≡ rowIn (now (fields .entry)) (now (starts .entry)) (countsOf shape) k j n free fronts (now (v .entry)) (now (t .entry)) m ⌝ }
 {
     let line = steps::impl_line(starts, shape, k);
-    let front = guard(fields, line as usize + 3, v, conjuncts);
+    let front = conjuncts::guard(fields, line as usize + 3, v, 0, fronts);
     if !front.holds {
         return Seen {
             holds: true,
@@ -635,7 +282,7 @@ fn row_planned<'a>(
     fields: &'a [u16; terms::MAX_FIELDS],
     starts: &'a [u16; 84],
     shape: Shape,
-    plan: &[u16; ENTRIES],
+    plan: &[u16; plan::ENTRIES],
     i: u8,
     v: &[u16; terms::MAX_PARAMETERS],
     t: &[u16; terms::MAX_PARAMETERS],
@@ -644,9 +291,9 @@ fn row_planned<'a>(
     ensures { λ r. ⌜ r ≡ plannedIn (now (fields .entry)) (now (starts .entry)) (countsOf shape) (now (plan .entry)) i (now (v .entry)) (now (t .entry)) m ⌝ }
 {
     let j = terms::field(plan, i as usize);
-    let n = terms::field(plan, ROWS + i as usize);
-    let free = terms::field(plan, 2 * ROWS + i as usize);
-    let conjuncts = terms::field(plan, 6 * ROWS + i as usize);
+    let n = terms::field(plan, plan::ROWS + i as usize);
+    let free = terms::field(plan, 2 * plan::ROWS + i as usize);
+    let fronts = terms::field(plan, 6 * plan::ROWS + i as usize);
     row_seen(
         fields,
         starts,
@@ -655,7 +302,7 @@ fn row_planned<'a>(
         j,
         n,
         free == 1,
-        conjuncts,
+        fronts,
         v,
         t,
         m,
@@ -667,7 +314,7 @@ fn rows_seen<'a>(
     fields: &'a [u16; terms::MAX_FIELDS],
     starts: &'a [u16; 84],
     shape: Shape,
-    plan: &[u16; ENTRIES],
+    plan: &[u16; plan::ENTRIES],
     v: &[u16; terms::MAX_PARAMETERS],
     t: &[u16; terms::MAX_PARAMETERS],
     m: u16,
@@ -714,8 +361,7 @@ fn replied_if<'a>(
         return false;
     }
     let line = steps::impl_line(starts, shape, j);
-    let condition = eval::formula(fields, line as usize + 3, v, sum, terms::MAX_DEPTH);
-    condition.holds
+    conjuncts::holds(fields, line as usize + 3, v, sum)
 }
 
 // One look at a row whose condition, or what is left of it, stands at a place: whether criterion 7 holds.
@@ -776,14 +422,14 @@ fn row_replied<'a>(
     j: u16,
     n: u16,
     free: bool,
-    conjuncts: u16,
+    fronts: u16,
     v: &[u16; terms::MAX_PARAMETERS],
     t: &[u16; terms::MAX_PARAMETERS],
 ) -> bool
-    ensures { λ r. ⌜ r ≡ replyIn (now (fields .entry)) (now (starts .entry)) (countsOf shape) k j n free conjuncts (now (v .entry)) (now (t .entry)) ⌝ }
+    ensures { λ r. ⌜ r ≡ replyIn (now (fields .entry)) (now (starts .entry)) (countsOf shape) k j n free fronts (now (v .entry)) (now (t .entry)) ⌝ }
 {
     let line = steps::spec_line(starts, shape, k);
-    let front = guard(fields, line as usize + 3, t, conjuncts);
+    let front = conjuncts::guard(fields, line as usize + 3, t, 0, fronts);
     if !front.holds {
         return true;
     }
@@ -806,17 +452,17 @@ fn reply_planned<'a>(
     fields: &'a [u16; terms::MAX_FIELDS],
     starts: &'a [u16; 84],
     shape: Shape,
-    plan: &[u16; ENTRIES],
+    plan: &[u16; plan::ENTRIES],
     i: u8,
     v: &[u16; terms::MAX_PARAMETERS],
     t: &[u16; terms::MAX_PARAMETERS],
 ) -> bool
     ensures { λ r. ⌜ r ≡ replyPlanned (now (fields .entry)) (now (starts .entry)) (countsOf shape) (now (plan .entry)) i (now (v .entry)) (now (t .entry)) ⌝ }
 {
-    let j = terms::field(plan, 3 * ROWS + i as usize);
-    let n = terms::field(plan, 4 * ROWS + i as usize);
-    let free = terms::field(plan, 5 * ROWS + i as usize);
-    let conjuncts = terms::field(plan, 7 * ROWS + i as usize);
+    let j = terms::field(plan, 3 * plan::ROWS + i as usize);
+    let n = terms::field(plan, 4 * plan::ROWS + i as usize);
+    let free = terms::field(plan, 5 * plan::ROWS + i as usize);
+    let fronts = terms::field(plan, 7 * plan::ROWS + i as usize);
     row_replied(
         fields,
         starts,
@@ -825,7 +471,7 @@ fn reply_planned<'a>(
         j,
         n,
         free == 1,
-        conjuncts,
+        fronts,
         v,
         t,
     )
@@ -836,7 +482,7 @@ fn rows_replied<'a>(
     fields: &'a [u16; terms::MAX_FIELDS],
     starts: &'a [u16; 84],
     shape: Shape,
-    plan: &[u16; ENTRIES],
+    plan: &[u16; plan::ENTRIES],
     v: &[u16; terms::MAX_PARAMETERS],
     t: &[u16; terms::MAX_PARAMETERS],
 ) -> bool
@@ -859,7 +505,7 @@ pub fn passes<'a>(
     fields: &'a [u16; terms::MAX_FIELDS],
     starts: &'a [u16; 84],
     shape: Shape,
-    plan: &[u16; ENTRIES],
+    plan: &[u16; plan::ENTRIES],
     v: &[u16; terms::MAX_PARAMETERS],
     t: &[u16; terms::MAX_PARAMETERS],
 ) -> bool

@@ -296,9 +296,9 @@ with-end f s b n a i l inv = go ∙ inv
 -- ---- invariant, mapping, measure
 
 module _ (f s v : List ℕ) (c : Counts) (i line : ℕ) (there : i ≡ invariantAt c) where
-  pub invariant-is : (h : Held) → line ≡ getD s i 0 → h ≡ answerF (line + 1) v 0 (readF 32 (drop (line + 1) f)) → h .holds ≡ invariantIn f s c v
+  pub invariant-is : (b : Bool) → line ≡ getD s i 0 → b ≡ evalF (readF 32 (drop (line + 1) f) .tree) v 0 → b ≡ invariantIn f s c v
   unfolding invariantIn
-  invariant-is h el eh = rw (← there, ← el, place f line 1 refl, eh)
+  invariant-is b el eb = rw (← there, ← el, place f line 1 refl, eb)
 
   pub mapped-is : (w : List ℕ) → line ≡ getD s (i + 1) 0 → w ≡ padded (valuesAt f (line + 1) (c .kind2) v 0) → w ≡ mappedIn f s c v
   unfolding mappedIn valuesAt

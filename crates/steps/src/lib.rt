@@ -275,8 +275,7 @@ pub fn invariant<'a>(
     ensures { λ r. ⌜ r ≡ invariantIn (now (fields .entry)) (now (starts .entry)) (countsOf shape) (now (v .entry)) ⌝ }
 {
     let line = layout::line(starts, invariant_line(shape));
-    let f = eval::formula(fields, line as usize + 1, v, 0, terms::MAX_DEPTH);
-    f.holds
+    conjuncts::holds(fields, line as usize + 1, v, 0)
 }
 
 // Whether the values are those of a state of the implementation in which the invariant holds.

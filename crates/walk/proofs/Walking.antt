@@ -33,7 +33,7 @@ use Rattle.lowest.specs.declared.Place.{Place}
 use Rattle.lowest.specs.declared.Finding.{Finding}
 use Rattle.lowest.specs.declared.Finding.the-variants.{Nothing, Found}
 use Rattle.lowest.proofs.Decided.{search-held}
-use Rattle.quick.specs.Plan.{planIn}
+use Rattle.plan.specs.Plan.{planIn}
 use Rattle.quick.specs.Quick.{passesIn}
 use Rattle.quick.proofs.Decided.{quick-held}
 use Rattle.walk.specs.Told.{told, toldWalked, noWalk, namedBy}

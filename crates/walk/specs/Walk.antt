@@ -14,7 +14,7 @@ use Rattle.decision.specs.Examine.{examine}
 use Rattle.design.specs.Loaded.{designIn}
 use Rattle.design.specs.declared.Counts.{Counts}
 use Rattle.layout.specs.Sizes.{countsFit, shapeOf, countsOf}
-use Rattle.quick.specs.Plan.{planIn}
+use Rattle.plan.specs.Plan.{planIn}
 use Rattle.steps.specs.Arrays.{initialIn, invariantIn, mappedIn, sameIn}
 use Rattle.walk.specs.Told.{noWalk}
 use Rattle.walk.specs.Examine.{walkOn}

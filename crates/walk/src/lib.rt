@@ -34,7 +34,7 @@ pub struct Walked {
 const MAX_STATES: usize = 65536;
 
 // The entries of a plan.
-pub const ENTRIES: usize = 256;
+pub const ENTRIES: usize = plan::ENTRIES;
 
 // Whether criterion 1 holds; not where the counts do not fit.
 pub fn start_holds<'a>(
@@ -59,7 +59,7 @@ pub fn plan<'a>(
 ) -> [u16; ENTRIES]
     ensures { λ r. ⌜ r ≡ planOf (now (fields .entry)) (now (starts .entry)) counts ⌝ }
 {
-    quick::plan(fields, starts, layout::shape_of(counts))
+    plan::plan(fields, starts, layout::shape_of(counts))
 }
 
 // The walk by a plan over n states from number `from` on, where there are so many; else no state is walked.

@@ -1,0 +1,17 @@
+-- By the law of what is returned.
+use borrow.Author.Needs.{needs}
+use Rattle.plan.proofs.Planned as laws
+use Rattle.plan.proofs.impl_looks.Statement.{statement}
+use Rattle.plan.proofs.impl_looks.Tie as tie
+
+pub impl-looks-spec : {M : Type 1} → statement M
+impl-looks-spec =
+    tie.close
+    (tie.spec
+    (λ c κs. search needs)
+    (λ c κs. search needs)
+    (λ c κs. search needs)
+    (λ c κs. search needs)
+    (λ c κs. search needs)
+    (λ c κs. search needs)
+    (λ c. search laws.impl-looks-is))
