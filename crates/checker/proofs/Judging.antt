@@ -18,17 +18,17 @@ use Rattle.decision.specs.Verdict.{verdictOf}
 use Rattle.design.specs.Lines.{designOf}
 use Rattle.loader.specs.declared.Loaded.{Loaded}
 use Rattle.loader.specs.Load.{faultOf, refusedBy, heldBy, loadedOf}
-use Rattle.checker.specs.Said.{saidFailure, saidVerdict}
-use Rattle.checker.specs.declared.Phase.{Phase}
-use Rattle.checker.specs.declared.Phase.the-variants as phase
-use Rattle.checker.specs.declared.Done.{Done}
-use Rattle.checker.specs.declared.Done.the-variants as done
-use Rattle.checker.specs.declared.Verdict.{Verdict}
-use Rattle.checker.specs.declared.Desk.{Desk}
-use Rattle.checker.specs.declared.AfterLoad.{AfterLoad}
-use Rattle.checker.specs.declared.AfterAdvance.{AfterAdvance}
-use Rattle.checker.specs.declared.AfterVerdict.{AfterVerdict}
-use Rattle.checker.specs.Desk.{emptyDesk, opened, notLoaded, loadEmpty, loadBy, loadOf, advanceOf, tellBy, tellOf}
+use Rattle.checker.specs.Said.{saidVerdict}
+use Rattle.desk.specs.declared.Phase.{Phase}
+use Rattle.desk.specs.declared.Phase.the-variants as phase
+use Rattle.desk.specs.declared.Done.{Done}
+use Rattle.desk.specs.declared.Done.the-variants as done
+use Rattle.desk.specs.declared.Verdict.{Verdict}
+use Rattle.desk.specs.declared.Desk.{Desk}
+use Rattle.desk.specs.declared.AfterLoad.{AfterLoad}
+use Rattle.desk.specs.declared.AfterAdvance.{AfterAdvance}
+use Rattle.desk.specs.declared.AfterVerdict.{AfterVerdict}
+use Rattle.desk.specs.Desk.{emptyDesk, opened, notLoaded, loadEmpty, loadBy, loadOf, advanceOf, tellBy, tellOf}
 use Rattle.checker.specs.OneCall.{verdictReport, refusedReport, designReport, judgedOf, answerOf, bufferAfter}
 use Rattle.checker.proofs.Opened.{designText, HoldsText, few}
 use Rattle.checker.proofs.Stages.{Stage, fresh, going, accepts, fails, Advances, advance-fresh}

@@ -26,8 +26,8 @@ use Rattle.walk.specs.Told.{noWalk}
 use Rattle.walk.specs.Walk.{startIn, walkIn, planOf}
 use Rattle.walk.proofs.Walking.{by-plan}
 use Rattle.walk.proofs.Acceptance.{start-tried, states-walked}
-use Rattle.checker.specs.Said.{saidFailure, saidWalked, walkedBy}
-use Rattle.checker.specs.declared.Desk.{Desk}
+use Rattle.desk.specs.Said.{saidFailure, saidWalked, walkedBy}
+use Rattle.desk.specs.declared.Desk.{Desk}
 
 -- the design of a text
 abbrev pub designText : List ℕ → Design

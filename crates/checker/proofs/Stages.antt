@@ -23,17 +23,17 @@ use Rattle.decision.specs.Verdict.{verdictOf}
 use Rattle.decision.proofs.Progress.{Progress, begins, goes-on, ends-at-start, ends-well, ends-badly}
 use Rattle.layout.specs.Sizes.{initialNumberIn}
 use Rattle.loader.proofs.Passed.{admitted}
-use Rattle.checker.specs.Said.{said, saidFailure, saidWalked}
+use Rattle.desk.specs.Said.{said, saidFailure, saidWalked}
 use Rattle.walk.specs.declared.Failure.{Failure as Said}
-use Rattle.checker.specs.declared.Phase.{Phase}
-use Rattle.checker.specs.declared.Phase.the-variants as phase
-use Rattle.checker.specs.declared.Advance.{Advance}
-use Rattle.checker.specs.declared.Advance.the-variants as advance
-use Rattle.checker.specs.declared.Desk.{Desk}
-use Rattle.checker.specs.declared.AfterAdvance.{AfterAdvance}
-use Rattle.checker.specs.Answers.{countSaid}
+use Rattle.desk.specs.declared.Phase.{Phase}
+use Rattle.desk.specs.declared.Phase.the-variants as phase
+use Rattle.desk.specs.declared.Advance.{Advance}
+use Rattle.desk.specs.declared.Advance.the-variants as advance
+use Rattle.desk.specs.declared.Desk.{Desk}
+use Rattle.desk.specs.declared.AfterAdvance.{AfterAdvance}
+use Rattle.desk.specs.Answers.{countSaid}
 use Rattle.checker.specs.Count.{examined}
-use Rattle.checker.specs.Desk.{placed, ahead, failStart, afterPass, afterWalk, walkOn, examineNext, advanceOpen, advanceBy, advanceOf}
+use Rattle.desk.specs.Desk.{placed, ahead, failStart, afterPass, afterWalk, walkOn, examineNext, advanceOpen, advanceBy, advanceOf}
 use Rattle.checker.proofs.Opened.{designText, HoldsText, few, start-is, total-is, initial-is, walk-is}
 
 pub data Stage (text : List ℕ) (desk : Desk) : Type 0 where

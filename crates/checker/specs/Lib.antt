@@ -1,5 +1,3 @@
 pub mod Said
-pub mod Desk
 pub mod OneCall
-pub mod Answers
 pub mod Count

@@ -14,8 +14,8 @@ use Rattle.criteria.specs.Verdict as criteria
 use Rattle.decision.specs.Verdict.{verdictOf}
 use Rattle.design.specs.Lines.{designOf}
 use Rattle.loader.specs.Load.{faultOf}
-use Rattle.checker.specs.declared.Verdict.{Verdict}
-use Rattle.checker.specs.declared.Verdict.the-variants as verdict
+use Rattle.desk.specs.declared.Verdict.{Verdict}
+use Rattle.desk.specs.declared.Verdict.the-variants as verdict
 
 -- "verdict (0, 1, 2), criterion or turned-down number, state, row, sum value; unused fields are 0"
 abbrev pub refusedReport : ℕ → Report

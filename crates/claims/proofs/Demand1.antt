@@ -18,26 +18,26 @@ use Rattle.criteria.specs.Failure.{Failure}
 use Rattle.design.specs.Faults.{DesignText, LowestFault}
 use Rattle.loader.specs.Load.{faultOf}
 use Rattle.loader.proofs.Lowest.{free-exactly, lowest-fault}
-use Rattle.checker.specs.declared.Phase.{Phase}
-use Rattle.checker.specs.declared.Phase.the-variants as phase
-use Rattle.checker.specs.declared.Done.the-variants as done
-use Rattle.checker.specs.declared.Advance.the-variants as progress
-use Rattle.checker.specs.declared.Verdict.the-variants as verdict
-use Rattle.checker.specs.declared.Desk.{Desk}
-use Rattle.checker.specs.declared.AfterLoad.{AfterLoad}
-use Rattle.checker.specs.declared.AfterAdvance.{AfterAdvance}
-use Rattle.checker.specs.declared.AfterVerdict.{AfterVerdict}
-use Rattle.checker.specs.declared.AfterDrop.{AfterDrop}
-use Rattle.checker.specs.Desk.{emptyDesk, notLoaded, notAdvanced, loadOf, advanceOf, tellBy, tellOf, dropBy, dropOf}
-use Rattle.checker.specs.Answers.{doneNumber}
+use Rattle.desk.specs.declared.Phase.{Phase}
+use Rattle.desk.specs.declared.Phase.the-variants as phase
+use Rattle.desk.specs.declared.Done.the-variants as done
+use Rattle.desk.specs.declared.Advance.the-variants as progress
+use Rattle.desk.specs.declared.Verdict.the-variants as verdict
+use Rattle.desk.specs.declared.Desk.{Desk}
+use Rattle.desk.specs.declared.AfterLoad.{AfterLoad}
+use Rattle.desk.specs.declared.AfterAdvance.{AfterAdvance}
+use Rattle.desk.specs.declared.AfterVerdict.{AfterVerdict}
+use Rattle.desk.specs.declared.AfterDrop.{AfterDrop}
+use Rattle.desk.specs.Desk.{emptyDesk, notLoaded, notAdvanced, loadOf, advanceOf, tellBy, tellOf, dropBy, dropOf}
+use Rattle.desk.specs.Answers.{doneNumber}
 use Rattle.checker.specs.OneCall.{refusedReport}
 use Rattle.checker.proofs.Opened.{designText, HoldsText}
 use Rattle.checker.proofs.Stages.{Stage}
 use Rattle.checker.proofs.Judging.{opened-stage, loaded-free, loaded-fault}
-use Rattle.checker.proofs.Desk.load.Reads as load-reads
-use Rattle.checker.proofs.Desk.advance.Reads as advance-reads
-use Rattle.checker.proofs.Desk.verdict.Reads as verdict-reads
-use Rattle.checker.proofs.Desk.drop.Reads as drop-reads
+use Rattle.desk.proofs.Desk.load.Reads as load-reads
+use Rattle.desk.proofs.Desk.advance.Reads as advance-reads
+use Rattle.desk.proofs.Desk.verdict.Reads as verdict-reads
+use Rattle.desk.proofs.Desk.drop.Reads as drop-reads
 use Rattle.claims.proofs.Kept.{load-at, advance-at, by-none}
 use Rattle.claims.proofs.OneCall.{Checks, answered, written, short-answer, short-buffer, long-answer, long-buffer, judged-fault}
 

@@ -13,14 +13,14 @@ use Rattle.design.specs.Faults.{DesignText}
 use Rattle.loader.specs.Load.{faultOf}
 use Rattle.loader.proofs.Lowest.{free-exactly}
 use Rattle.loader.proofs.Passed.{is-design-text, admitted}
-use Rattle.checker.specs.declared.Desk.{Desk}
-use Rattle.checker.specs.declared.AfterVerdict.{AfterVerdict}
+use Rattle.desk.specs.declared.Desk.{Desk}
+use Rattle.desk.specs.declared.AfterVerdict.{AfterVerdict}
 use Rattle.checker.specs.Said.{saidVerdict}
 use Rattle.checker.specs.Count.{examined}
 use Rattle.checker.specs.OneCall.{designReport}
 use Rattle.checker.proofs.Opened.{designText}
 use Rattle.checker.proofs.Judging.{decided-answer}
-use Rattle.checker.proofs.Desk.verdict.Reads as verdict-reads
+use Rattle.desk.proofs.Desk.verdict.Reads as verdict-reads
 use Rattle.claims.specs.Calls.{Called, Walked}
 use Rattle.claims.proofs.Lists.{Calls}
 use Rattle.claims.proofs.OneCall.{Checks, answered, written, long-answer, long-buffer, judged-free}

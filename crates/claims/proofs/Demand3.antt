@@ -11,9 +11,9 @@ use Rattle.criteria.proofs.Demand3.{demand3}
 use Rattle.decision.proofs.Demand2.{demand2}
 use Rattle.design.specs.Faults.{DesignText}
 use Rattle.loader.proofs.Passed.{is-design-text, admitted}
-use Rattle.checker.specs.declared.Done.{Done}
-use Rattle.checker.specs.declared.Done.the-variants as done
-use Rattle.checker.specs.declared.Desk.{Desk}
+use Rattle.desk.specs.declared.Done.{Done}
+use Rattle.desk.specs.declared.Done.the-variants as done
+use Rattle.desk.specs.declared.Desk.{Desk}
 use Rattle.checker.proofs.Opened.{designText}
 use Rattle.claims.specs.Calls.{Called, load, AcceptedIn, Walked}
 use Rattle.claims.proofs.Lists.{Calls}

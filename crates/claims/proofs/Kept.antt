@@ -14,17 +14,17 @@ use Rattle.criteria.specs.Verdict.{accepted}
 use Rattle.decision.specs.Verdict.{verdictOf}
 use Rattle.loader.specs.Load.{faultOf, loadedOf}
 use Rattle.walk.specs.declared.Failure.{Failure}
-use Rattle.checker.specs.declared.Phase.{Phase}
-use Rattle.checker.specs.declared.Phase.the-variants as phase
-use Rattle.checker.specs.declared.Done.{Done}
-use Rattle.checker.specs.declared.Done.the-variants as done
-use Rattle.checker.specs.declared.Advance.the-variants as progress
-use Rattle.checker.specs.declared.Desk.{Desk}
-use Rattle.checker.specs.declared.AfterLoad.{AfterLoad}
-use Rattle.checker.specs.declared.AfterAdvance.{AfterAdvance}
-use Rattle.checker.specs.declared.AfterVerdict.{AfterVerdict}
-use Rattle.checker.specs.declared.AfterDrop.{AfterDrop}
-use Rattle.checker.specs.Desk.{emptyDesk, notLoaded, loadEmpty, loadBy, loadOf, notAdvanced, advanceOpen, advanceBy, advanceOf, tellBy, tellOf, dropBy, dropOf}
+use Rattle.desk.specs.declared.Phase.{Phase}
+use Rattle.desk.specs.declared.Phase.the-variants as phase
+use Rattle.desk.specs.declared.Done.{Done}
+use Rattle.desk.specs.declared.Done.the-variants as done
+use Rattle.desk.specs.declared.Advance.the-variants as progress
+use Rattle.desk.specs.declared.Desk.{Desk}
+use Rattle.desk.specs.declared.AfterLoad.{AfterLoad}
+use Rattle.desk.specs.declared.AfterAdvance.{AfterAdvance}
+use Rattle.desk.specs.declared.AfterVerdict.{AfterVerdict}
+use Rattle.desk.specs.declared.AfterDrop.{AfterDrop}
+use Rattle.desk.specs.Desk.{emptyDesk, notLoaded, loadEmpty, loadBy, loadOf, notAdvanced, advanceOpen, advanceBy, advanceOf, tellBy, tellOf, dropBy, dropOf}
 use Rattle.checker.proofs.Opened.{designText, HoldsText}
 use Rattle.checker.proofs.Stages.{Stage, fresh, going, accepts, fails, Advances, advance-fresh, advance-going}
 use Rattle.checker.proofs.Judging.{opened-stage, loaded-free, loaded-fault}

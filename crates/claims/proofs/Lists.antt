@@ -6,16 +6,16 @@ use mathlib.Core.Path.{_≡_}
 use mathlib.Core.List.{List, [], _∷_}
 use denote.Ref.{RefT, now}
 use contract.Lifetimes.{Lfts}
-use Rattle.checker.specs.declared.Desk.{Desk}
-use Rattle.checker.specs.declared.AfterLoad.{AfterLoad}
-use Rattle.checker.specs.declared.AfterAdvance.{AfterAdvance}
-use Rattle.checker.specs.declared.AfterVerdict.{AfterVerdict}
-use Rattle.checker.specs.declared.AfterDrop.{AfterDrop}
-use Rattle.checker.proofs.Desk.empty.Reads as empty-reads
-use Rattle.checker.proofs.Desk.load.Reads as load-reads
-use Rattle.checker.proofs.Desk.advance.Reads as advance-reads
-use Rattle.checker.proofs.Desk.verdict.Reads as verdict-reads
-use Rattle.checker.proofs.Desk.drop.Reads as drop-reads
+use Rattle.desk.specs.declared.Desk.{Desk}
+use Rattle.desk.specs.declared.AfterLoad.{AfterLoad}
+use Rattle.desk.specs.declared.AfterAdvance.{AfterAdvance}
+use Rattle.desk.specs.declared.AfterVerdict.{AfterVerdict}
+use Rattle.desk.specs.declared.AfterDrop.{AfterDrop}
+use Rattle.desk.proofs.Desk.empty.Reads as empty-reads
+use Rattle.desk.proofs.Desk.load.Reads as load-reads
+use Rattle.desk.proofs.Desk.advance.Reads as advance-reads
+use Rattle.desk.proofs.Desk.verdict.Reads as verdict-reads
+use Rattle.desk.proofs.Desk.drop.Reads as drop-reads
 use Rattle.claims.specs.Calls.{Called, load, advance, verdict, drop}
 
 -- after these calls, the latest first, the desk is this

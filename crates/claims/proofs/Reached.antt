@@ -16,19 +16,19 @@ use Rattle.decision.specs.Tests.{holds1}
 use Rattle.decision.specs.Examine.{examine}
 use Rattle.reader.specs.Text.{fieldsByLine}
 use Rattle.loader.specs.Load.{faultOf, heldBy, loadedOf}
-use Rattle.checker.specs.declared.Phase.{Phase}
-use Rattle.checker.specs.declared.Phase.the-variants as phase
-use Rattle.checker.specs.declared.Done.{Done}
-use Rattle.checker.specs.declared.Done.the-variants as done
-use Rattle.checker.specs.declared.Advance.the-variants as progress
-use Rattle.checker.specs.declared.Desk.{Desk}
-use Rattle.checker.specs.declared.AfterLoad.{AfterLoad}
-use Rattle.checker.specs.declared.AfterAdvance.{AfterAdvance}
-use Rattle.checker.specs.declared.AfterVerdict.{AfterVerdict}
-use Rattle.checker.specs.declared.AfterDrop.{AfterDrop}
-use Rattle.checker.specs.Answers.{countSaid}
+use Rattle.desk.specs.declared.Phase.{Phase}
+use Rattle.desk.specs.declared.Phase.the-variants as phase
+use Rattle.desk.specs.declared.Done.{Done}
+use Rattle.desk.specs.declared.Done.the-variants as done
+use Rattle.desk.specs.declared.Advance.the-variants as progress
+use Rattle.desk.specs.declared.Desk.{Desk}
+use Rattle.desk.specs.declared.AfterLoad.{AfterLoad}
+use Rattle.desk.specs.declared.AfterAdvance.{AfterAdvance}
+use Rattle.desk.specs.declared.AfterVerdict.{AfterVerdict}
+use Rattle.desk.specs.declared.AfterDrop.{AfterDrop}
+use Rattle.desk.specs.Answers.{countSaid}
 use Rattle.checker.specs.Count.{examined}
-use Rattle.checker.specs.Desk.{emptyDesk, opened, loadEmpty, loadBy, loadOf, notAdvanced, advanceOf, tellOf, dropOf}
+use Rattle.desk.specs.Desk.{emptyDesk, opened, loadEmpty, loadBy, loadOf, notAdvanced, advanceOf, tellOf, dropOf}
 use Rattle.checker.proofs.Opened.{designText, HoldsText}
 use Rattle.checker.proofs.Stages.{Stage, fresh, going, accepts, fails, Advances, advance-fresh, advance-going, some-states}
 use Rattle.checker.proofs.Judging.{opened-stage, loaded-free, loaded-fault}

@@ -3,12 +3,12 @@
 -- latest first. How a desk is handed from call to call is in proofs/Lists, by the contracts of the methods themselves.
 use Prim.Native.Nat.{ℕ, _+_}
 use mathlib.Core.List.{List, [], _∷_}
-use Rattle.checker.specs.declared.Done.{Done}
-use Rattle.checker.specs.declared.Done.the-variants as done
-use Rattle.checker.specs.declared.Advance.{Advance}
-use Rattle.checker.specs.declared.Advance.the-variants as progress
-use Rattle.checker.specs.declared.Verdict.{Verdict}
-use Rattle.checker.specs.Answers.{countSaid}
+use Rattle.desk.specs.declared.Done.{Done}
+use Rattle.desk.specs.declared.Done.the-variants as done
+use Rattle.desk.specs.declared.Advance.{Advance}
+use Rattle.desk.specs.declared.Advance.the-variants as progress
+use Rattle.desk.specs.declared.Verdict.{Verdict}
+use Rattle.desk.specs.Answers.{countSaid}
 
 -- a call with its argument, and its answer
 pub data Called : Type 0 where

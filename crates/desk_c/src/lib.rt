@@ -1,7 +1,7 @@
 // The desk for C programs, each time from a new one: a load, and a load with advances to the end. The benchmark in bench/ links this.
-use checker::Advance;
-use checker::Desk;
-use checker::Done;
+use desk::Advance;
+use desk::Desk;
+use desk::Done;
 
 // The most advances that are made: as many as there can be states.
 const MOST: u64 = 65536;

@@ -4,14 +4,14 @@
 // largest u64. The answers are `load 0`, `open N`, `accepted N`, `failed N`, `verdict` and the report's five numbers, `drop 0`, and
 // `turned down N`. A line that is no call, and a text that is not there in full, end the program with a line that has the number of the
 // call's line; the lines of the texts are not counted.
-use checker::Advance;
-use checker::AfterLoad;
-use checker::Desk;
-use checker::Done;
+use desk::Advance;
+use desk::AfterLoad;
+use desk::Desk;
+use desk::Done;
 ghost use mathlib.Core.Path.{_≡_};
 ghost use Prim.Native.Nat.{_≤_};
 ghost use lib.ListN.{take};
-ghost use Rattle.checker.specs.Desk.{loadOf};
+ghost use Rattle.desk.specs.Desk.{loadOf};
 
 const LINE_END: u8 = 10;
 

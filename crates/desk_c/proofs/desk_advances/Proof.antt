@@ -5,9 +5,9 @@ use Rattle.desk_c.proofs.desk_advances.Statement.{statement}
 use Rattle.desk_c.proofs.desk_advances.Tie as tie
 use Rattle.desk_c.proofs.desk_advances.Reads as reads
 use Rattle.desk_c.proofs.desk_advances.Lts as lts
-use Rattle.checker.proofs.Desk.advance.Reads as advance-reads
-use Rattle.checker.proofs.Desk.empty.Reads as empty-reads
-use Rattle.checker.proofs.Desk.load.Reads as load-reads
+use Rattle.desk.proofs.Desk.advance.Reads as advance-reads
+use Rattle.desk.proofs.Desk.empty.Reads as empty-reads
+use Rattle.desk.proofs.Desk.load.Reads as load-reads
 use Rattle.desk_c.proofs.stays_open.Reads as stays-open-reads
 
 abbrev Inv-loop : tie.InvT-loop

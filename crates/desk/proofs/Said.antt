@@ -1,0 +1,33 @@
+-- Laws of specs/Said: what was told is said again as it was (`said-told`), and a walk examines no more states than it may.
+use Prim.Native.Nat.{ℕ, _≤_}
+use mathlib.Core.Path.{_≡_, refl, sym, ap, _∙_}
+use mathlib.Core.Bool.{Bool, true, false}
+use mathlib.Core.List.{List}
+use native.Mathlib.Omega.{arith}
+use Rattle.foundation.specs.Walk.{Walked}
+use Rattle.foundation.proofs.Walk.{count-most}
+use Rattle.terms.specs.Tree.{pick}
+use Rattle.criteria.specs.Failure.{Failure}
+use Rattle.design.specs.declared.Counts.{Counts}
+use Rattle.walk.specs.Told.{told, toldWalked, noWalk}
+use Rattle.walk.specs.Examine.{examineIn, walkOn}
+use Rattle.walk.specs.Walk.{statesThere, walkBy}
+use Rattle.walk.specs.declared.Outcome.{Outcome as Answer}
+use Rattle.walk.specs.declared.Outcome.the-variants.{Pass, Fail}
+use Rattle.walk.specs.declared.Walked.{Walked as WalkAnswer}
+use Rattle.desk.specs.Said.{said, saidWalked, walkedBy}
+
+said-back : (o : Answer) → said (told o) ≡ o
+said-back Pass = refl
+said-back (Fail x) = refl
+
+pub said-told : (r : WalkAnswer) (w : Walked Failure) → toldWalked r ≡ w → r ≡ saidWalked w
+said-told r w e = (λ i. record { outcome = sym (said-back (r .outcome)) i; count = r .count }) ∙ ap saidWalked e
+
+pub count-within : (f s : List ℕ) (c : Counts) (p : List ℕ) (n from : ℕ) → walkedBy f s c p n from .count ≤ n
+unfolding walkedBy walkBy walkOn
+count-within f s c p n from = go (statesThere f s c n from)
+  where
+    go : (b : Bool) → pick b (walkOn f s c p n from) noWalk .count ≤ n
+    go true = count-most (λ k. examineIn f s c p k) n from
+    go false = omega arith

@@ -1,0 +1,142 @@
+-- The desk (01, "The desk", "Turned down by the input" 8, "Turned down by the state"): what each call answers and the desk it leaves,
+-- for every desk and every argument. A desk here is any record of that type; which desks there are in a list of calls is in the
+-- crate claims. What loading a text comes to is in loader/specs/Load, what a walk over states in walk/specs.
+use Prim.Native.Nat.{ℕ, _+_, _-_, min}
+use mathlib.Core.Bool.{Bool, true, false, cond}
+use mathlib.Core.List.{List}
+use lib.Dec.{eqb, leb}
+use lib.ListN.{replicate}
+use Rattle.design.specs.declared.Counts.{Counts}
+use Rattle.layout.specs.Sizes.{stateCountIn, initialNumberIn}
+use Rattle.loader.specs.declared.Loaded.{Loaded}
+use Rattle.loader.specs.Load.{loadedOf}
+use Rattle.walk.specs.Walk.{startIn, planOf}
+use Rattle.walk.specs.declared.Failure.{Failure}
+use Rattle.walk.specs.declared.Walked.{Walked}
+use Rattle.walk.specs.declared.Outcome.{Outcome}
+use Rattle.walk.specs.declared.Outcome.the-variants.{Pass, Fail}
+use Rattle.desk.specs.Said.{walkedBy}
+use Rattle.desk.specs.declared.Phase.{Phase}
+use Rattle.desk.specs.declared.Phase.the-variants as phase
+use Rattle.desk.specs.declared.Done.{Done}
+use Rattle.desk.specs.declared.Done.the-variants as done
+use Rattle.desk.specs.declared.Advance.{Advance}
+use Rattle.desk.specs.declared.Advance.the-variants as advance
+use Rattle.desk.specs.declared.Verdict.{Verdict}
+use Rattle.desk.specs.declared.Verdict.the-variants as verdict
+use Rattle.desk.specs.declared.Desk.{Desk}
+use Rattle.desk.specs.declared.AfterLoad.{AfterLoad}
+use Rattle.desk.specs.declared.AfterAdvance.{AfterAdvance}
+use Rattle.desk.specs.declared.AfterVerdict.{AfterVerdict}
+use Rattle.desk.specs.declared.AfterDrop.{AfterDrop}
+
+-- "A new desk is empty."
+abbrev pub emptyDesk : Desk
+emptyDesk = record {
+  fields = replicate 4096 0;
+  starts = replicate 84 0;
+  counts = record { kind1 = 0; kind2 = 0; kind3 = 0; kind4 = 0 };
+  plan = replicate 256 0;
+  next = 0;
+  phase = phase.Empty;
+}
+
+-- the same design, at another state and in another phase
+abbrev pub placed : Desk → ℕ → Phase → Desk
+placed d n p = record { fields = d .fields; starts = d .starts; counts = d .counts; plan = d .plan; next = n; phase = p }
+
+-- ---- "Load takes a text and opens the desk"
+
+-- "A desk call turned down returns its number .. and the desk unchanged"
+abbrev pub notLoaded : ℕ → Desk → AfterLoad
+notLoaded k d = record { answer = done.TurnedDown k; desk = d }
+
+abbrev pub opened : Loaded → Desk
+opened l = record { fields = l .fields; starts = l .starts; counts = l .counts; plan = planOf (l .fields) (l .starts) (l .counts); next = 0; phase = phase.Open }
+
+unfoldable pub loadEmpty : Desk → Loaded → AfterLoad
+loadEmpty d l = cond (eqb (l .fault) 0) (record { answer = done.Done; desk = opened l }) (notLoaded (l .fault) d)
+
+-- 12. "Load on a desk that isn't empty."
+abbrev pub loadBy : Phase → Desk → List ℕ → AfterLoad
+loadBy phase.Empty d text = loadEmpty d (loadedOf text)
+loadBy phase.Open d text = notLoaded 12 d
+loadBy phase.Accepted d text = notLoaded 12 d
+loadBy (phase.Failed f) d text = notLoaded 12 d
+
+unfoldable pub loadOf : Desk → List ℕ → AfterLoad
+loadOf d text = loadBy (d .phase) d text
+
+-- ---- "advance examines the next n states, or those that remain"
+
+abbrev pub notAdvanced : ℕ → Desk → AfterAdvance
+notAdvanced k d = record { answer = advance.TurnedDown k; desk = d }
+
+-- how many those are
+unfoldable pub ahead : ℕ → ℕ → ℕ → ℕ
+ahead n next total = min n (total - next)
+
+-- "how many states it examined, the failing one included; 0 if criterion 1 failed"; "criterion 1 reports the initial state"
+unfoldable pub failStart : Desk → AfterAdvance
+failStart d =
+    let failure : Failure = record { criterion = 1; state = initialNumberIn (d .fields) (d .starts) (d .counts); row = 0; sum = 0 } in
+    record { answer = advance.Failed 0; desk = placed d 0 (phase.Failed failure) }
+
+-- "The check is decided when a criterion fails or the last state is done."
+abbrev pub afterPass : Bool → Desk → ℕ → ℕ → AfterAdvance
+afterPass true d count at = record { answer = advance.Accepted count; desk = placed d at phase.Accepted }
+afterPass false d count at = record { answer = advance.Open count; desk = placed d at phase.Open }
+
+abbrev pub afterWalk : Outcome → Desk → ℕ → ℕ → ℕ → AfterAdvance
+afterWalk (Fail f) d count at total = record { answer = advance.Failed count; desk = placed d at (phase.Failed f) }
+afterWalk Pass d count at total = afterPass (leb total at) d count at
+
+unfoldable pub walkOn : Desk → Walked → ℕ → AfterAdvance
+walkOn d w total = afterWalk (w .outcome) d (w .count) (d .next + w .count) total
+
+unfoldable pub examineNext : Desk → ℕ → AfterAdvance
+examineNext d n =
+    let total = stateCountIn (d .fields) (d .starts) (d .counts) in
+    let k = ahead n (d .next) total in
+    walkOn d (walkedBy (d .fields) (d .starts) (d .counts) (d .plan) k (d .next)) total
+
+-- "Criterion 1 comes before state 0, in the first advance"; 8. "Advance by 0 states."
+unfoldable pub advanceOpen : Desk → ℕ → AfterAdvance
+advanceOpen d n =
+    cond (eqb n 0) (notAdvanced 8 d)
+    (cond (eqb (d .next) 0)
+    (cond (startIn (d .fields) (d .starts) (d .counts)) (examineNext d n) (failStart d))
+    (examineNext d n))
+
+-- 11. "Advance, verdict or drop on an empty desk." 14. "Advance when decided." "These come before the input's."
+abbrev pub advanceBy : Phase → Desk → ℕ → AfterAdvance
+advanceBy phase.Empty d n = notAdvanced 11 d
+advanceBy phase.Open d n = advanceOpen d n
+advanceBy phase.Accepted d n = notAdvanced 14 d
+advanceBy (phase.Failed f) d n = notAdvanced 14 d
+
+unfoldable pub advanceOf : Desk → ℕ → AfterAdvance
+advanceOf d n = advanceBy (d .phase) d n
+
+-- ---- "verdict returns the report's numbers"
+
+-- 13. "Verdict while open."
+abbrev pub tellBy : Phase → Desk → AfterVerdict
+tellBy phase.Empty d = record { answer = verdict.TurnedDown 11; desk = d }
+tellBy phase.Open d = record { answer = verdict.TurnedDown 13; desk = d }
+tellBy phase.Accepted d = record { answer = verdict.Accepted; desk = d }
+tellBy (phase.Failed f) d = record { answer = verdict.Failed f; desk = d }
+
+unfoldable pub tellOf : Desk → AfterVerdict
+tellOf d = tellBy (d .phase) d
+
+-- ---- "drop empties the desk, open or decided"
+
+abbrev pub dropBy : Phase → Desk → AfterDrop
+dropBy phase.Empty d = record { answer = done.TurnedDown 11; desk = d }
+dropBy phase.Open d = record { answer = done.Done; desk = emptyDesk }
+dropBy phase.Accepted d = record { answer = done.Done; desk = emptyDesk }
+dropBy (phase.Failed f) d = record { answer = done.Done; desk = emptyDesk }
+
+unfoldable pub dropOf : Desk → AfterDrop
+dropOf d = dropBy (d .phase) d

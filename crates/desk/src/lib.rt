@@ -1,0 +1,330 @@
+// The desk: a design is loaded, its states are examined in as many calls as one likes, and the verdict is told (01, "The desk"). Each
+// call takes the desk and gives the next one back beside its answer; a call turned down gives it back as it was. What each call
+// answers is in specs/Desk, one equation for every desk and every argument.
+use design::Counts;
+use walk::Failure;
+use walk::Outcome;
+use walk::Walked;
+ghost use mathlib.Core.Path.{_≡_};
+ghost use Prim.Native.Nat.{_+_, _<_};
+ghost use Rattle.loader.specs.Load.{loadedOf};
+ghost use Rattle.desk.specs.Desk.{emptyDesk, notLoaded, loadEmpty, loadOf, notAdvanced, failStart, examineNext, walkOn, advanceOpen, advanceOf, tellOf, dropOf, placed, ahead};
+
+// What a desk is: empty, open or decided.
+pub enum Phase {
+    Empty,
+    Open,
+    Accepted,
+    Failed(Failure),
+}
+
+pub struct Desk {
+    // The fields of the text's lines, and where each line starts.
+    pub fields: [u16; Desk::MAX_FIELDS],
+    pub starts: [u16; Desk::STARTS],
+    pub counts: Counts,
+    // What the walk needs to know of every state, worked out when the text is loaded.
+    pub plan: [u16; walk::ENTRIES],
+    // The number of the next state to examine.
+    pub next: usize,
+    pub phase: Phase,
+}
+
+// The answer of a load or a drop: done, or the number by which it is turned down.
+pub enum Done {
+    Done,
+    TurnedDown(u16),
+}
+
+// The answer of an advance, with how many states it examined; or the number by which it is turned down.
+pub enum Advance {
+    Open(usize),
+    Accepted(usize),
+    Failed(usize),
+    TurnedDown(u16),
+}
+
+// The answer of a verdict; or the number by which it is turned down.
+pub enum Verdict {
+    Accepted,
+    Failed(Failure),
+    TurnedDown(u16),
+}
+
+// Each answer beside the next desk.
+pub struct AfterLoad {
+    pub answer: Done,
+    pub desk: Desk,
+}
+
+pub struct AfterAdvance {
+    pub answer: Advance,
+    pub desk: Desk,
+}
+
+pub struct AfterVerdict {
+    pub answer: Verdict,
+    pub desk: Desk,
+}
+
+pub struct AfterDrop {
+    pub answer: Done,
+    pub desk: Desk,
+}
+
+impl Desk {
+    // The limits of a text: its fields in all, the depth of a term, parameters and rows of a process, lines, states.
+    pub const MAX_FIELDS: usize = 4096;
+
+    pub const MAX_DEPTH: usize = 32;
+
+    pub const MAX_PARAMETERS: usize = 8;
+
+    pub const MAX_ROWS: usize = 32;
+
+    pub const MAX_STATES: usize = 65536;
+
+    // A start for each of 8 + 8 + 32 + 32 + 3 lines, and the end of the last.
+    pub const STARTS: usize = 84;
+
+    // A new desk.
+    pub fn empty() -> Desk
+        ensures { λ r. ⌜ r ≡ emptyDesk ⌝ }
+    {
+        Desk {
+            fields: [0u16; Desk::MAX_FIELDS],
+            starts: [0u16; Desk::STARTS],
+            counts: Counts {
+                kind1: 0,
+                kind2: 0,
+                kind3: 0,
+                kind4: 0,
+            },
+            plan: [0u16; walk::ENTRIES],
+            next: 0,
+            phase: Phase::Empty,
+        }
+    }
+
+    // Takes a text and opens the desk.
+    pub fn load(self, text: &[u8]) -> AfterLoad
+        ensures { λ r. ⌜ r ≡ loadOf self (now (text .entry)) ⌝ }
+    {
+        let phase = self.phase;
+        match phase {
+            Phase::Empty => self.load_empty(text),
+            Phase::Open => self.not_loaded(12),
+            Phase::Accepted => self.not_loaded(12),
+            Phase::Failed(_) => self.not_loaded(12),
+        }
+    }
+
+    // Examines the next n states, or those that remain.
+    pub fn advance(self, n: u64) -> AfterAdvance
+        ensures { λ r. ⌜ r ≡ advanceOf self n ⌝ }
+    {
+        let phase = self.phase;
+        match phase {
+            Phase::Empty => self.not_advanced(11),
+            Phase::Open => self.advance_open(n),
+            Phase::Accepted => self.not_advanced(14),
+            Phase::Failed(_) => self.not_advanced(14),
+        }
+    }
+
+    // Tells the report's numbers; the desk stays as it is.
+    pub fn verdict(self) -> AfterVerdict
+        ensures { λ r. ⌜ r ≡ tellOf self ⌝ }
+    {
+        let phase = self.phase;
+        match phase {
+            Phase::Empty => AfterVerdict {
+                answer: Verdict::TurnedDown(11),
+                desk: self,
+            },
+            Phase::Open => AfterVerdict {
+                answer: Verdict::TurnedDown(13),
+                desk: self,
+            },
+            Phase::Accepted => AfterVerdict {
+                answer: Verdict::Accepted,
+                desk: self,
+            },
+            Phase::Failed(failure) => AfterVerdict {
+                answer: Verdict::Failed(failure),
+                desk: self,
+            },
+        }
+    }
+
+    // Empties the desk, open or decided.
+    pub fn drop(self) -> AfterDrop
+        ensures { λ r. ⌜ r ≡ dropOf self ⌝ }
+    {
+        let phase = self.phase;
+        match phase {
+            Phase::Empty => AfterDrop {
+                answer: Done::TurnedDown(11),
+                desk: self,
+            },
+            Phase::Open => AfterDrop {
+                answer: Done::Done,
+                desk: Desk::empty(),
+            },
+            Phase::Accepted => AfterDrop {
+                answer: Done::Done,
+                desk: Desk::empty(),
+            },
+            Phase::Failed(_) => AfterDrop {
+                answer: Done::Done,
+                desk: Desk::empty(),
+            },
+        }
+    }
+
+    fn not_loaded(self, number: u16) -> AfterLoad
+        ensures { λ r. ⌜ r ≡ notLoaded number self ⌝ }
+    {
+        AfterLoad {
+            answer: Done::TurnedDown(number),
+            desk: self,
+        }
+    }
+
+    // Load on an empty desk.
+    fn load_empty(self, text: &[u8]) -> AfterLoad
+        ensures { λ r. ⌜ r ≡ loadEmpty self (loadedOf (now (text .entry))) ⌝ }
+    {
+        let loaded = loader::load(text);
+        let fault = loaded.fault;
+        if fault == 0 {
+            let fields = loaded.fields;
+            let starts = loaded.starts;
+            let counts = loaded.counts;
+            let plan = walk::plan(&fields, &starts, counts);
+            AfterLoad {
+                answer: Done::Done,
+                desk: Desk {
+                    fields,
+                    starts,
+                    counts,
+                    plan,
+                    next: 0,
+                    phase: Phase::Open,
+                },
+            }
+        } else {
+            self.not_loaded(fault)
+        }
+    }
+
+    fn not_advanced(self, number: u16) -> AfterAdvance
+        ensures { λ r. ⌜ r ≡ notAdvanced number self ⌝ }
+    {
+        AfterAdvance {
+            answer: Advance::TurnedDown(number),
+            desk: self,
+        }
+    }
+
+    // Advance on an open desk. Criterion 1 comes before state 0, in the first advance.
+    fn advance_open(self, n: u64) -> AfterAdvance
+        ensures { λ r. ⌜ r ≡ advanceOpen self n ⌝ }
+    {
+        if n == 0 {
+            return self.not_advanced(8);
+        }
+        if self.next == 0 {
+            if walk::start_holds(&self.fields, &self.starts, self.counts) {
+                return self.examine_next(n);
+            }
+            return self.fail_start();
+        }
+        self.examine_next(n)
+    }
+
+    // The start fails: no state is examined.
+    fn fail_start(self) -> AfterAdvance
+        ensures { λ r. ⌜ r ≡ failStart self ⌝ }
+    {
+        let failure = Failure {
+            criterion: 1,
+            state: layout::initial_number(&self.fields, &self.starts, self.counts),
+            row: 0,
+            sum: 0,
+        };
+        AfterAdvance {
+            answer: Advance::Failed(0),
+            desk: self.placed(0, Phase::Failed(failure)),
+        }
+    }
+
+    // The next n states, or those that remain.
+    fn examine_next(self, n: u64) -> AfterAdvance
+        ensures { λ r. ⌜ r ≡ examineNext self n ⌝ }
+    {
+        let total = layout::state_count(&self.fields, &self.starts, self.counts);
+        let next = self.next;
+        let k = ahead(n, next, total);
+        let walked = walk::walk(&self.fields, &self.starts, self.counts, &self.plan, next, k);
+        self.walked_on(walked, total)
+    }
+
+    // After a walk: failed, accepted if the last state is done, or still open.
+    fn walked_on(self, walked: Walked, total: usize) -> AfterAdvance
+        requires { ⌜ self .next + walked .count < 18446744073709551616 ⌝ }
+        ensures { λ r. ⌜ r ≡ walkOn self walked total ⌝ }
+    {
+        let outcome = walked.outcome;
+        let count = walked.count;
+        let at = self.next + count;
+        match outcome {
+            Outcome::Fail(failure) => AfterAdvance {
+                answer: Advance::Failed(count),
+                desk: self.placed(at, Phase::Failed(failure)),
+            },
+            Outcome::Pass => {
+                if total <= at {
+                    AfterAdvance {
+                        answer: Advance::Accepted(count),
+                        desk: self.placed(at, Phase::Accepted),
+                    }
+                } else {
+                    AfterAdvance {
+                        answer: Advance::Open(count),
+                        desk: self.placed(at, Phase::Open),
+                    }
+                }
+            }
+        }
+    }
+
+    // The desk with another next state and phase.
+    fn placed(self, next: usize, phase: Phase) -> Desk
+        ensures { λ r. ⌜ r ≡ placed self next phase ⌝ }
+    {
+        let fields = self.fields;
+        let starts = self.starts;
+        let counts = self.counts;
+        let plan = self.plan;
+        Desk {
+            fields,
+            starts,
+            counts,
+            plan,
+            next,
+            phase,
+        }
+    }
+}
+
+// The states that an advance by n examines.
+fn ahead(n: u64, next: usize, total: usize) -> usize
+    ensures { λ r. ⌜ r ≡ ahead n next total ⌝ }
+{
+    if total <= next {
+        return 0;
+    }
+    let left = total - next;
+    if n < left as u64 { n as usize } else { left }
+}
