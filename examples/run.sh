@@ -1,12 +1,16 @@
 #!/usr/bin/env bash
-# Checks every table of examples/ with check_table and compares with reports.tsv, byte for byte. Ends with 1 if any differs.
+# Checks every table of examples/ with check_table and with the C program buy, and compares with reports.tsv, byte for byte. Ends with 1 if
+# any differs.
 set -euo pipefail
 cd "$(dirname "$0")/.."
 program=target/bin/check_table
 [ -x "$program" ] || { echo "examples: $program isn't built yet; ./check examples/pump.txt builds it" >&2; exit 1; }
 
+library=target/staticlib/libchecker.a
+[ -f "$library" ] || rt staticlib checker >&2
 work=$(mktemp -d)
 trap 'rm -rf "$work"' EXIT
+${CC:-cc} -std=c11 -Wall -Wextra -Iinclude examples/buy.c "$library" -o "$work/buy"
 count=0
 differ=0
 for file in examples/*.txt; do
@@ -17,6 +21,7 @@ for file in examples/*.txt; do
         echo "examples: $name: check_table writes \"$(cat "$work/got")\", the report is \"$(cat "$work/want")\""
         differ=1
     fi
+    { "$work/buy" "$file" || true; } | sed 's/.*: //' | cmp -s - "$work/want" || { echo "examples: $name: buy writes another report"; differ=1; }
     count=$((count + 1))
 done
 # Each report has its table.
@@ -24,4 +29,4 @@ while IFS=$'\t' read -r name _; do
     [ -f "examples/$name.txt" ] || { echo "examples: $name: a report without a table"; differ=1; }
 done < examples/reports.tsv
 [ "$differ" = 0 ] || exit 1
-echo "examples: $count tables, no difference"
+echo "examples: $count tables, by check_table and by buy: no difference"

@@ -37,6 +37,7 @@ expect() {
 }
 expect words.txt "${boards[@]}"
 expect words.json --json "${boards[@]}"
+expect examples.txt examples/*.txt
 expect pump.txt --show "$tables/P_given.txt"
 expect abp.txt --show "$tables/abp_noloss.txt"
 expect columns.txt --columns linkcheck/test/typed.txt
@@ -45,6 +46,9 @@ expect pump.spec.aut --aut spec "$tables/P_given.txt"
 expect pump.impl.dot --dot impl "$tables/P_given.txt"
 expect pump.spec.dot --dot spec "$tables/P_given.txt"
 cmp "$tables/P_given.txt" linkcheck/expected/columns.txt
+# The pages show what is said.
+shown() { grep -qxF -e "    $1" "$2" || fail "$2 does not show: $1"; }
+while read -r line; do shown "$line" examples/README.md; done < linkcheck/expected/examples.txt
 for look in aut dot; do
     "$linkcheck" --$look "$tables/P_given.txt" > "$work/out" || fail "--$look: status $?"
     cat linkcheck/expected/pump.{impl,spec}.$look | diff - "$work/out" || fail "--$look is not that of both sides"
@@ -160,8 +164,9 @@ looks_at_each() {
     done
 }
 checked="no sanitizer"
-if linkcheck/build.sh "$work/sanitized" -g -fsanitize=address,undefined -fno-sanitize-recover=all 2> "$work/error"; then
-    export ASAN_OPTIONS=exitcode=99 UBSAN_OPTIONS=print_stacktrace=1
+export ASAN_OPTIONS=exitcode=99 UBSAN_OPTIONS=print_stacktrace=1
+if linkcheck/build.sh "$work/sanitized" -g -fsanitize=address,undefined -fno-sanitize-recover=all 2> "$work/error" \
+    && "$work/sanitized" --help > /dev/null 2>&1; then
     looks "$tables" "$work/sanitized"
     cmp "$work/words" "$work/looked" || fail "the sanitizers' build answers otherwise"
     looks "$work/damaged" "$work/sanitized"
@@ -170,7 +175,7 @@ if linkcheck/build.sh "$work/sanitized" -g -fsanitize=address,undefined -fno-san
     looks_at_each "$work/sanitized"
     checked="the address and undefined behaviour sanitizers"
 fi
-if command -v valgrind > /dev/null; then
+if valgrind -q --error-exitcode=99 "$linkcheck" --help > /dev/null 2>&1; then
     mkdir "$work/some"
     cp "$work"/damaged/[1-9]?? "$work/some" 2> /dev/null || cp "$work"/damaged/? "$work/some"
     looks "$work/some" valgrind -q --error-exitcode=99 --leak-check=full "$linkcheck"

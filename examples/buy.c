@@ -1,0 +1,21 @@
+/* buy FILE: whether the board in a table may be bought. It is the least that a C program does to call the checker; linkcheck/ is the
+ * whole of it. */
+#include <stdio.h>
+#include "checker.h"
+
+int main(int words, char **word)
+{
+    static uint8_t text[28673]; /* one byte more than a text may have: a longer one is turned down by it */
+    uint8_t report[CHECK_REPORT_BYTES];
+    FILE *file = words == 2 ? fopen(word[1], "rb") : NULL;
+    if (!file) {
+        fprintf(stderr, "usage: buy FILE\n");
+        return 64;
+    }
+    size_t length = fread(text, 1, sizeof text, file);
+    fclose(file);
+    uint32_t verdict = check_design(text, length, report, sizeof report);
+    printf("%s: ", verdict == CHECK_ACCEPTED ? "buy" : "do not buy");
+    fwrite(report, 1, sizeof report, stdout);
+    return (int)verdict;
+}
