@@ -1,5 +1,5 @@
-/* buy FILE: whether the board in a table may be bought. It is the least that a C program does to call the checker; linkcheck/ is the
- * whole of it. */
+/* buy FILE: whether the board in a table may be bought. It is the least that a C program does to call the checker; linkcheck/verdict.c is
+ * the one to copy for a program that goes on after a fault. */
 #include <stdio.h>
 #include "checker.h"
 
@@ -13,6 +13,10 @@ int main(int words, char **word)
         return 64;
     }
     size_t length = fread(text, 1, sizeof text, file);
+    if (ferror(file)) {
+        perror(word[1]);
+        return 65;
+    }
     fclose(file);
     uint32_t verdict = check_design(text, length, report, sizeof report);
     printf("%s: ", verdict == CHECK_ACCEPTED ? "buy" : "do not buy");

@@ -19,7 +19,8 @@ extern "C" {
 #define CHECK_REPORT_BYTES 31
 
 /*
- * Checks the design text of text_len bytes at text, and writes its report to the first 31 of the report_len bytes at report.
+ * Checks the design text of text_len bytes at text, and writes its report to the first 31 of the report_len bytes at report, if there are
+ * so many. docs/DESIGN-TEXT.md says what a design text is, and what criteria, faults, states and rows are.
  *
  * Returns
  *   0  accepted: every criterion holds
@@ -33,12 +34,14 @@ extern "C" {
  *    1 to  6  0            1                                    2
  *    7 to 12  0            the criterion, 1 to 9                the number of the lowest fault, 1 to 7
  *   13 to 18  0            the state                            0
- *   19 to 24  0            the row, counted from 1; 0 for none  0
+ *   19 to 24  0            the row, counted from 1              0
  *   25 to 30  0            the sum value                        0
  *   31        byte 10
  *
- * For example "     1     8     9     3     0\n": criterion 8 fails in state 9, for row 3 and sum value 0. The bytes of the report area
- * after the 31st keep their content. There is no byte 0 at the end.
+ * For example "     1     8     9     3     0\n": criterion 8 fails in state 9, for row 3 and sum value 0. A state's number counts the values
+ * of its parameters in mixed radix, the first most significant. The row is the implementation's; in criterion 7 it is the
+ * specification's, and criteria 1 and 2 have row 0. The bytes of the report area after the 31st keep their content. There is no byte 0 at
+ * the end.
  *
  * Any bytes may be in the text. It is only read, and nothing of it is kept. The two areas must not overlap. An area of length 0 may have
  * any address, NULL among them.

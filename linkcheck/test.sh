@@ -49,6 +49,8 @@ cmp "$tables/P_given.txt" linkcheck/expected/columns.txt
 # The pages show what is said.
 shown() { grep -qxF -e "    $1" "$2" || fail "$2 does not show: $1"; }
 while read -r line; do shown "$line" examples/README.md; done < linkcheck/expected/examples.txt
+"$linkcheck" examples/pump.txt examples/bad-yesterdays-diesel.txt > "$work/out" || true
+while read -r line; do shown "$line" README.md; done < "$work/out"
 for look in aut dot; do
     "$linkcheck" --$look "$tables/P_given.txt" > "$work/out" || fail "--$look: status $?"
     cat linkcheck/expected/pump.{impl,spec}.$look | diff - "$work/out" || fail "--$look is not that of both sides"
