@@ -25,7 +25,6 @@ use Rattle.design.specs.declared.Counts.{Counts}
 use Rattle.design.specs.Loaded.{designIn}
 use Rattle.action_check.specs.ActionsFit.{visibleB, bareB, sameSpanB, actionsFit, actionsFitIn}
 use Rattle.action_check.proofs.Lines.{was-yes}
-use Rattle.action_check.proofs.Laws.{few}
 
 -- the term `0 0`
 zero-is : (v : Value) → isZero v ≡ true → v ≡ num 0
@@ -218,4 +217,4 @@ module _ (d : Design) where
 
 pub in-arrays : (fields starts : List ℕ) (c : Counts) → c .kind1 ≤ 8 → c .kind2 ≤ 8 → c .kind3 ≤ 32 → c .kind4 ≤ 32
     → actionsFitIn fields starts c ≡ actionsFit (designIn fields starts c)
-in-arrays fields starts c h1 h2 h3 h4 = rw (← few c h1 h2 h3 h4)
+in-arrays fields starts c h1 h2 h3 h4 = rw (le-leb (c .kind1) 8 h1, le-leb (c .kind2) 8 h2, le-leb (c .kind3) 32 h3, le-leb (c .kind4) 32 h4)

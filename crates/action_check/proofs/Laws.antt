@@ -25,62 +25,27 @@ use Rattle.eval.specs.declared.Held.{Held}
 use Rattle.decision.specs.Admitted.{isZero}
 use Rattle.design.specs.declared.Counts.{Counts}
 use Rattle.design.specs.Loaded.{lineFrom}
-use Rattle.action_check.specs.ActionsFit.{fewLines, actionsFitIn}
+use Rattle.layout.specs.Sizes.{countsFit, Fit}
+use Rattle.layout.proofs.Sizes.{fit}
+use Rattle.action_check.specs.ActionsFit.{actionsFitIn}
 use Rattle.action_check.specs.Lines as lines
 use Rattle.action_check.proofs.Lines.{was-no, was-yes, rows-fit}
 
 -- ---- the counts
 
-module _ (c : Counts) where
-  pub many1 : 8 < c .kind1 → false ≡ fewLines c
-  many1 h = rw (lt-ltb 8 (c .kind1) h)
-
-  module _ (h1 : c .kind1 ≤ 8) where
-    pub many2 : 8 < c .kind2 → false ≡ fewLines c
-    many2 h = rw (le-ltb 8 (c .kind1) h1, lt-ltb 8 (c .kind2) h)
-
-    module _ (h2 : c .kind2 ≤ 8) where
-      pub many3 : 32 < c .kind3 → false ≡ fewLines c
-      many3 h = rw (le-ltb 8 (c .kind1) h1, le-ltb 8 (c .kind2) h2, lt-ltb 32 (c .kind3) h)
-
-      module _ (h3 : c .kind3 ≤ 32) where
-        pub many4 : 32 < c .kind4 → false ≡ fewLines c
-        many4 h = rw (le-ltb 8 (c .kind1) h1, le-ltb 8 (c .kind2) h2, le-ltb 32 (c .kind3) h3, lt-ltb 32 (c .kind4) h)
-
-        pub few : c .kind4 ≤ 32 → true ≡ fewLines c
-        few h = rw (le-ltb 8 (c .kind1) h1, le-ltb 8 (c .kind2) h2, le-ltb 32 (c .kind3) h3, le-ltb 32 (c .kind4) h)
-
--- where they are few, the line numbers fit
-record Few (c : Counts) : Type 0 where
-  one : c .kind1 ≤ 8
-  two : c .kind2 ≤ 8
-  three : c .kind3 ≤ 32
-  four : c .kind4 ≤ 32
-
-at-most : (m n : ℕ) → not (ltb m n) ≡ true → n ≤ m
-at-most m n e = let l = ltb-false m n (was-no (ltb m n) e) in omega arith
-
-module _ (c : Counts) (b : Bool) (eb : b ≡ fewLines c) (nb : not b ≡ false) where
-  all-few : Few c
-  all-few =
-      let h : fewLines c ≡ true = sym eb ∙ was-yes b nb in
-      let h2 = and-right (not (ltb 8 (c .kind1))) _ h in
-      let h3 = and-right (not (ltb 8 (c .kind2))) _ h2 in
-      record {
-        one = at-most 8 (c .kind1) (and-left _ _ h);
-        two = at-most 8 (c .kind2) (and-left _ _ h2);
-        three = at-most 32 (c .kind3) (and-left _ _ h3);
-        four = at-most 32 (c .kind4) (and-right (not (ltb 32 (c .kind3))) _ h3);
-      }
+-- where they fit, the line numbers do
+module _ (c : Counts) (b : Bool) (eb : b ≡ countsFit c) (nb : not b ≡ false) where
+  all-fit : Fit c
+  all-fit = fit c b eb (was-yes b nb)
 
   pub fits-impl : Fits w64 (c .kind1 + c .kind2)
-  fits-impl = let f = all-few in omega arith
+  fits-impl = let f = all-fit in omega arith
 
   pub fits-spec : Fits w64 (c .kind1 + c .kind2 + c .kind3)
-  fits-spec = let f = all-few in omega arith
+  fits-spec = let f = all-fit in omega arith
 
   pub fits-end : Fits w64 (c .kind1 + c .kind2 + c .kind3 + c .kind4)
-  fits-end = let f = all-few in omega arith
+  fits-end = let f = all-fit in omega arith
 
 -- ---- a value's first two fields
 
@@ -214,7 +179,7 @@ module _ (fields starts : List ℕ) (from middle end : ℕ) where
           pub spans : not d ≡ false → (e : Bool) → e ≡ lines.between (lines.agrees fields starts middle end) from middle → e ≡ whole
           spans n e ee = rw (← ea, was-yes a na, ← eb, was-yes b nb, ← ec, was-yes c nc, ← ed, was-yes d n) ee
 
-module _ (fields starts : List ℕ) (c : Counts) (b : Bool) (eb : b ≡ fewLines c) where
+module _ (fields starts : List ℕ) (c : Counts) (b : Bool) (eb : b ≡ countsFit c) where
   pub too-many : not b ≡ true → false ≡ actionsFitIn fields starts c
   too-many n = rw (← eb, was-no b n)
 

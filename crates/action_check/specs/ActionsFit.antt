@@ -10,6 +10,7 @@ use Rattle.criteria.specs.Design.{Design, Row}
 use Rattle.decision.specs.Admitted.{oneEachB, isZero}
 use Rattle.design.specs.declared.Counts.{Counts}
 use Rattle.design.specs.Loaded.{designIn}
+use Rattle.layout.specs.Sizes.{countsFit}
 
 -- no row has action 0
 abbrev pub visibleB : List Row → Bool
@@ -33,10 +34,6 @@ actionsFit d =
     && (bareB (d .impl .rows)
     && sameSpanB (d .impl .rows) (d .spec .rows))))
 
--- the counts of lines are those that a text may have (fault 4)
-abbrev pub fewLines : Counts → Bool
-fewLines c = not (ltb 8 (c .kind1)) && (not (ltb 8 (c .kind2)) && (not (ltb 32 (c .kind3)) && not (ltb 32 (c .kind4))))
-
--- of the design that a desk's arrays hold, where the counts are so
+-- of the design that a desk's arrays hold, where the counts of lines are those that a text may have (fault 4)
 abbrev pub actionsFitIn : List ℕ → List ℕ → Counts → Bool
-actionsFitIn fields starts c = fewLines c && actionsFit (designIn fields starts c)
+actionsFitIn fields starts c = countsFit c && actionsFit (designIn fields starts c)

@@ -7,7 +7,7 @@ ghost use mathlib.Core.Path.{_≡_};
 ghost use Prim.Native.Nat.{_<_};
 ghost use lib.ListN.{getD};
 ghost use Rattle.design.specs.Loaded.{lineFrom};
-ghost use Rattle.action_check.specs.ActionsFit.{fewLines, actionsFitIn};
+ghost use Rattle.action_check.specs.ActionsFit.{actionsFitIn};
 ghost use Rattle.action_check.specs.Lines as lines;
 
 // The start of each line is kept, and one more for the end.
@@ -31,7 +31,7 @@ pub fn actions_fit<'a>(
 ) -> bool
     ensures { λ r. ⌜ r ≡ actionsFitIn (now (fields .entry)) (now (starts .entry)) counts ⌝ }
 {
-    if !few_lines(counts) {
+    if !layout::counts_fit(counts) {
         return false;
     }
     let impl_rows = counts.kind1 + counts.kind2;
@@ -43,25 +43,6 @@ pub fn actions_fit<'a>(
         spec_rows,
         spec_rows + counts.kind4,
     )
-}
-
-// Whether a text may have so many lines of each kind.
-fn few_lines(counts: Counts) -> bool
-    ensures { λ r. ⌜ r ≡ fewLines counts ⌝ }
-{
-    if design::MAX_PARAMETERS < counts.kind1 {
-        return false;
-    }
-    if design::MAX_PARAMETERS < counts.kind2 {
-        return false;
-    }
-    if design::MAX_ROWS < counts.kind3 {
-        return false;
-    }
-    if design::MAX_ROWS < counts.kind4 {
-        return false;
-    }
-    true
 }
 
 // Whether the rows are free of fault 7: those of the implementation from one line on, those of the specification from the middle to

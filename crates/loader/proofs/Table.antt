@@ -28,7 +28,7 @@ use Rattle.design.proofs.Loaded.{lines-held}
 use Rattle.design.proofs.Same.{Made, parameters1, design-held}
 use Rattle.layout.specs.Sizes.{countsFit, stateCountIn}
 use Rattle.line_check.proofs.LineFits.{by-line}
-use Rattle.action_check.specs.ActionsFit.{fewLines, actionsFit, actionsFitIn}
+use Rattle.action_check.specs.ActionsFit.{actionsFit, actionsFitIn}
 use Rattle.action_check.proofs.ActionsFit.{in-arrays}
 use Rattle.loader.specs.Load.{lineTest, termsFitAll, tableFault, Holds}
 
