@@ -6,9 +6,8 @@ set -euo pipefail
 cd "$(dirname "$0")/.."
 out=target/bench
 mkdir -p "$out"
-for library in checker desk_c; do
-    rt staticlib "$library" > "$out/log" 2>&1 || { tail -n 20 "$out/log"; exit 1; }
-done
+tools/library.sh checker
+tools/library.sh desk_c
 compare/reference_c/build.sh
 python3 bench/tables.py "$out"
 library=target/staticlib/libchecker.a

@@ -8,7 +8,8 @@ count=${1:-100000}
 seed=${2:-$(date +%s)}
 work=$(mktemp -d)
 trap 'rm -rf "$work"' EXIT
-{ rt staticlib checker && rt check desk_calls; } > "$work/log" 2>&1 || { tail -n 20 "$work/log"; exit 1; }
+tools/library.sh checker
+rt check desk_calls > "$work/log" 2>&1 || { tail -n 20 "$work/log"; exit 1; }
 compare/reference_c/build.sh
 ${CC:-cc} -std=c11 -O2 -Wall -Wextra compare/fuzz.c target/staticlib/libchecker.a target/reference/release/libreference_c.a \
     -lpthread -ldl -lm -o "$work/fuzz"

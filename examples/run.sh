@@ -7,7 +7,7 @@ program=target/bin/check_table
 [ -x "$program" ] || { echo "examples: $program isn't built yet; ./check examples/pump.txt builds it" >&2; exit 1; }
 
 library=target/staticlib/libchecker.a
-[ -f "$library" ] || rt staticlib checker >&2
+tools/library.sh checker
 work=$(mktemp -d)
 trap 'rm -rf "$work"' EXIT
 ${CC:-cc} -std=c11 -Wall -Wextra -Iinclude examples/buy.c "$library" -o "$work/buy"

@@ -3,9 +3,7 @@
 # a term costs a call, and evaluation takes up to half as long again. Run it after a change of crates/eval, in the repository's root.
 set -eu
 cd "$(dirname "$0")/.."
-log=$(mktemp)
-trap 'rm -f "$log"' EXIT
-rt staticlib eval_c > "$log" 2>&1 || { cat "$log"; exit 1; }
+tools/library.sh eval_c
 names=$(nm target/staticlib/libeval_c.a | awk '{ print $NF }')
 bad=0
 for front in eval::value eval::formula; do

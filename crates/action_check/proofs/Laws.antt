@@ -7,8 +7,8 @@ use mathlib.Core.List.{List, [], _∷_}
 use Prim.Native.Nat.{ℕ, _+_, _<_, _≤_}
 use native.Mathlib.Omega.{arith}
 use native.Mathlib.Numerals.{add-one}
-use borrow.Author.Tests.{lt-ltb, le-ltb, ltb-false, eq-eqb, ne-eqb}
-use lib.Dec.{eqb, ltb}
+use borrow.Author.Tests.{eq-eqb, ne-eqb}
+use lib.Dec.{eqb}
 use mir.Syntax.{w64}
 use mir.Val.{Fits}
 use lib.ListN.{length, getD, drop, drop-of-length-le}
@@ -16,7 +16,6 @@ use lib.Seq.{getD-drop, drop-cons, drop-drop}
 use Rattle.terms.specs.Tree.{Value, Formula, pick}
 use Rattle.terms.specs.Mark.{valueMark}
 use Rattle.terms.specs.Read.{Reader, readV, readF, valueBy}
-use Rattle.terms.proofs.And.{and-left, and-right}
 use Rattle.terms.proofs.Read.{step-v, place}
 use Rattle.terms.specs.declared.ValueMark.{ValueMark}
 use Rattle.terms.specs.declared.ValueMark.the-variants as vm

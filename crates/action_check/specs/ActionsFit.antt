@@ -3,7 +3,7 @@
 use mathlib.Core.Bool.{Bool, not, _&&_}
 use mathlib.Core.List.{List}
 use Prim.Native.Nat.{ℕ}
-use lib.Dec.{eqb, ltb}
+use lib.Dec.{eqb}
 use Rattle.foundation.specs.Nth.{eachB}
 use Rattle.foundation.specs.Reflects.{_⇒_}
 use Rattle.criteria.specs.Design.{Design, Row}

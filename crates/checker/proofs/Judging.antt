@@ -2,7 +2,7 @@
 use Prim.Native.Nat.{ℕ, _+_, _≤_, _<_}
 use mathlib.Core.Path.{_≡_, refl, sym, ap, _∙_}
 use mathlib.Core.Logic.{_≢_}
-use mathlib.Core.Bool.{Bool, true, false, cond}
+use mathlib.Core.Bool.{Bool, true, false}
 use mathlib.Core.List.{List, _++_}
 use native.Mathlib.Omega.{arith}
 use borrow.Author.Tests.{eqb-true, eqb-false, ne-eqb, lt-ltb, le-ltb}
@@ -11,13 +11,10 @@ use lib.ListN.{length, drop}
 use Rattle.reader.specs.Text.{fieldsByLine}
 use Rattle.writer.specs.declared.Report.{Report}
 use Rattle.writer.specs.Report as bytes
-use Rattle.criteria.specs.Design.{states}
 use Rattle.criteria.specs.Verdict.{accepted, failed}
 use Rattle.criteria.specs.Verdict as criteria
 use Rattle.decision.specs.Verdict.{verdictOf}
-use Rattle.design.specs.Lines.{designOf}
-use Rattle.loader.specs.declared.Loaded.{Loaded}
-use Rattle.loader.specs.Load.{faultOf, refusedBy, heldBy, loadedOf}
+use Rattle.loader.specs.Load.{faultOf, heldBy, loadedOf}
 use Rattle.checker.specs.Said.{saidVerdict}
 use Rattle.desk.specs.declared.Phase.{Phase}
 use Rattle.desk.specs.declared.Phase.the-variants as phase
@@ -28,10 +25,10 @@ use Rattle.desk.specs.declared.Desk.{Desk}
 use Rattle.desk.specs.declared.AfterLoad.{AfterLoad}
 use Rattle.desk.specs.declared.AfterAdvance.{AfterAdvance}
 use Rattle.desk.specs.declared.AfterVerdict.{AfterVerdict}
-use Rattle.desk.specs.Desk.{emptyDesk, opened, notLoaded, loadEmpty, loadBy, loadOf, advanceOf, tellBy, tellOf}
+use Rattle.desk.specs.Desk.{emptyDesk, opened, notLoaded, loadEmpty, loadOf, advanceOf, tellBy, tellOf}
 use Rattle.checker.specs.OneCall.{verdictReport, refusedReport, designReport, judgedOf, answerOf, bufferAfter}
 use Rattle.checker.proofs.Opened.{designText, HoldsText, few}
-use Rattle.checker.proofs.Stages.{Stage, fresh, going, accepts, fails, Advances, advance-fresh}
+use Rattle.checker.proofs.Stages.{Stage, fresh, going, accepts, fails, advance-fresh}
 
 -- ---- a load on an empty desk
 

@@ -1,32 +1,27 @@
 -- What a desk that holds a text's lines comes to, in the words of the text's design: the start, the number of states, the number of
 -- the initial state, and a walk. From here on nothing speaks of arrays.
-use Prim.Native.Nat.{ℕ, _+_, _-_, _≤_, _<_, min}
-use mathlib.Core.Path.{_≡_, refl, sym, ap, _∙_}
-use mathlib.Core.Bool.{Bool, true, false, _&&_}
+use Prim.Native.Nat.{ℕ, _+_, _-_, _≤_, min}
+use mathlib.Core.Path.{_≡_, ap, _∙_}
+use mathlib.Core.Bool.{true}
 use mathlib.Core.List.{List}
 use native.Mathlib.Omega.{arith}
-use borrow.Author.Tests.{le-leb}
-use lib.Dec.{leb}
 use Rattle.foundation.specs.Walk.{walk}
 use Rattle.foundation.proofs.Radix.{number-below}
 use Rattle.reader.specs.Text.{fieldsByLine}
-use Rattle.criteria.specs.Design.{Design, Admitted, sizes, states, stateNumber, initialState}
-use Rattle.criteria.specs.Failure.{startFailure}
+use Rattle.criteria.specs.Design.{Design, sizes, states, stateNumber, initialState}
 use Rattle.criteria.proofs.Parameters.{initial-in-size}
 use Rattle.decision.specs.Tests.{holds1}
 use Rattle.decision.specs.Examine.{examine}
 use Rattle.design.specs.Lines.{countsOf, designOf}
 use Rattle.design.specs.Loaded.{fieldsHeld, startsHeld, designIn}
 use Rattle.design.specs.declared.Counts.{Counts}
-use Rattle.terms.specs.Tree.{pick}
 use Rattle.layout.specs.Sizes.{countsFit, stateCountIn, initialNumberIn}
 use Rattle.loader.specs.Load.{faultOf}
 use Rattle.loader.proofs.Passed.{admitted, design-in, counts-allowed}
-use Rattle.walk.specs.Told.{noWalk}
-use Rattle.walk.specs.Walk.{startIn, walkIn, planOf}
+use Rattle.walk.specs.Walk.{startIn, planOf}
 use Rattle.walk.proofs.Walking.{by-plan}
 use Rattle.walk.proofs.Acceptance.{start-tried, states-walked}
-use Rattle.desk.specs.Said.{saidFailure, saidWalked, walkedBy}
+use Rattle.desk.specs.Said.{saidWalked, walkedBy}
 use Rattle.desk.specs.declared.Desk.{Desk}
 
 -- the design of a text

@@ -1,16 +1,16 @@
 -- How far the check of a text has come on a desk that holds it (`Stage`), and that an advance leads from stage to stage
 -- (`advance-stage`): what is kept while it is open is that the start and all states so far pass, and what it ends with is the
 -- verdict on the text's design.
-use Prim.Native.Nat.{ℕ, suc, _+_, _-_, _≤_, _<_, min}
+use Prim.Native.Nat.{ℕ, _+_, _-_, _≤_, _<_, min}
 use mathlib.Core.Path.{_≡_, refl, sym, ap, _∙_}
 use mathlib.Core.Logic.{_≢_}
 use mathlib.Core.Bool.{Bool, true, false}
 use mathlib.Core.List.{List}
 use native.Mathlib.Omega.{arith}
-use borrow.Author.Tests.{eq-eqb, ne-eqb, le-leb, lt-leb, leb-true, leb-false, eqb-true, eqb-false}
-use lib.Dec.{eqb, leb}
+use borrow.Author.Tests.{eq-eqb, ne-eqb, leb-true, leb-false}
+use lib.Dec.{leb}
 use Rattle.foundation.specs.First.{Outcome, pass, fail}
-use Rattle.foundation.specs.Walk.{Walked, walk}
+use Rattle.foundation.specs.Walk.{walk}
 use Rattle.foundation.proofs.Walk.{pass-count, all-walk, from-there, walk-over}
 use Rattle.foundation.proofs.Radix.{number-below}
 use Rattle.criteria.specs.Design.{Design, sizes, states, initialState}
@@ -23,18 +23,17 @@ use Rattle.decision.specs.Verdict.{verdictOf}
 use Rattle.decision.proofs.Progress.{Progress, begins, goes-on, ends-at-start, ends-well, ends-badly}
 use Rattle.layout.specs.Sizes.{initialNumberIn}
 use Rattle.loader.proofs.Passed.{admitted}
-use Rattle.desk.specs.Said.{said, saidFailure, saidWalked}
+use Rattle.desk.specs.Said.{said, saidFailure}
 use Rattle.walk.specs.declared.Failure.{Failure as Said}
 use Rattle.desk.specs.declared.Phase.{Phase}
 use Rattle.desk.specs.declared.Phase.the-variants as phase
-use Rattle.desk.specs.declared.Advance.{Advance}
 use Rattle.desk.specs.declared.Advance.the-variants as advance
 use Rattle.desk.specs.declared.Desk.{Desk}
 use Rattle.desk.specs.declared.AfterAdvance.{AfterAdvance}
 use Rattle.desk.specs.Answers.{countSaid}
 use Rattle.checker.specs.Count.{examined}
 use Rattle.desk.specs.Desk.{placed, ahead, failStart, afterPass, afterWalk, walkOn, examineNext, advanceOpen, advanceBy, advanceOf}
-use Rattle.checker.proofs.Opened.{designText, HoldsText, few, start-is, total-is, initial-is, walk-is}
+use Rattle.checker.proofs.Opened.{designText, HoldsText, start-is, total-is, initial-is, walk-is}
 
 pub data Stage (text : List ℕ) (desk : Desk) : Type 0 where
   -- loaded, nothing tried

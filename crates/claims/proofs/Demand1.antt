@@ -1,27 +1,19 @@
 -- Demand 1 (00), over the contracts of the functions: a design text is loaded by an empty desk and its check comes to an end; every
 -- other text, call or short report buffer is turned down with the number that the list gives it, and the desk stays unchanged.
 use Prim.Native.Nat.{ℕ, _≤_, _<_}
-use mathlib.Core.Path.{_≡_, refl, sym, ap, _∙_}
-use mathlib.Core.Logic.{_≢_, _⊎_, inl, inr}
-use mathlib.Core.Bool.{Bool, true, false}
+use mathlib.Core.Path.{_≡_, refl, ap, _∙_}
+use mathlib.Core.Logic.{_≢_}
 use mathlib.Core.List.{List, _++_}
-use native.Mathlib.Omega.{arith}
-use borrow.Author.Tests.{eqb-true, eqb-false}
-use lib.Dec.{eqb}
 use lib.ListN.{length, drop}
 use denote.Ref.{RefT, now}
 use contract.Lifetimes.{Lfts}
 use Rattle.writer.specs.Report as bytes
-use Rattle.criteria.specs.Design.{states}
-use Rattle.criteria.specs.Verdict.{Verdict, accepted, failed}
-use Rattle.criteria.specs.Failure.{Failure}
 use Rattle.design.specs.Faults.{DesignText, LowestFault}
 use Rattle.loader.specs.Load.{faultOf}
 use Rattle.loader.proofs.Lowest.{free-exactly, lowest-fault}
 use Rattle.desk.specs.declared.Phase.{Phase}
 use Rattle.desk.specs.declared.Phase.the-variants as phase
 use Rattle.desk.specs.declared.Done.the-variants as done
-use Rattle.desk.specs.declared.Advance.the-variants as progress
 use Rattle.desk.specs.declared.Verdict.the-variants as verdict
 use Rattle.desk.specs.declared.Desk.{Desk}
 use Rattle.desk.specs.declared.AfterLoad.{AfterLoad}
@@ -31,9 +23,8 @@ use Rattle.desk.specs.declared.AfterDrop.{AfterDrop}
 use Rattle.desk.specs.Desk.{emptyDesk, notLoaded, notAdvanced, loadOf, advanceOf, tellBy, tellOf, dropBy, dropOf}
 use Rattle.desk.specs.Answers.{doneNumber}
 use Rattle.checker.specs.OneCall.{refusedReport}
-use Rattle.checker.proofs.Opened.{designText, HoldsText}
-use Rattle.checker.proofs.Stages.{Stage}
-use Rattle.checker.proofs.Judging.{opened-stage, loaded-free, loaded-fault}
+use Rattle.checker.proofs.Opened.{HoldsText}
+use Rattle.checker.proofs.Judging.{loaded-free, loaded-fault}
 use Rattle.desk.proofs.Desk.load.Reads as load-reads
 use Rattle.desk.proofs.Desk.advance.Reads as advance-reads
 use Rattle.desk.proofs.Desk.verdict.Reads as verdict-reads

@@ -1,7 +1,7 @@
 -- Demand 2 (00), over the contracts of the functions: however the walk is divided among calls, the verdict is that of the nine
 -- criteria, it is there once the advances add up to the states, and the counts are those of one walk.
 use Prim.Native.Nat.{ℕ, _≤_}
-use mathlib.Core.Path.{_≡_, refl, sym, ap, _∙_}
+use mathlib.Core.Path.{_≡_, ap, _∙_}
 use mathlib.Core.List.{List, _++_}
 use lib.ListN.{length, drop}
 use Rattle.writer.specs.Report as bytes
@@ -12,7 +12,7 @@ use Rattle.decision.proofs.Demand2.{demand2}
 use Rattle.design.specs.Faults.{DesignText}
 use Rattle.loader.specs.Load.{faultOf}
 use Rattle.loader.proofs.Lowest.{free-exactly}
-use Rattle.loader.proofs.Passed.{is-design-text, admitted}
+use Rattle.loader.proofs.Passed.{admitted}
 use Rattle.desk.specs.declared.Desk.{Desk}
 use Rattle.desk.specs.declared.AfterVerdict.{AfterVerdict}
 use Rattle.checker.specs.Said.{saidVerdict}

@@ -1,11 +1,11 @@
 -- What every list of desk calls keeps: the desk is empty, or it holds the text of the last load that returned 0 and has come to a
 -- stage of its check (`kept`). So where an advance answers accepted, the verdict on that text's design is acceptance
 -- (`accepted-verdict`).
-use Prim.Native.Nat.{ℕ, suc, _+_, _≤_, _<_}
+use Prim.Native.Nat.{ℕ}
 use mathlib.Core.Path.{_≡_, refl, sym, ap, _∙_}
 use mathlib.Core.Logic.{_≢_}
 use mathlib.Core.Bool.{Bool, true, false}
-use mathlib.Core.List.{List, [], _∷_, nil≢cons}
+use mathlib.Core.List.{List, _∷_, nil≢cons}
 use native.Mathlib.Omega.{arith}
 use borrow.Author.Tests.{eqb-true, eqb-false, eq-eqb}
 use lib.Dec.{eqb}
@@ -13,19 +13,15 @@ use denote.Ref.{now}
 use Rattle.criteria.specs.Verdict.{accepted}
 use Rattle.decision.specs.Verdict.{verdictOf}
 use Rattle.loader.specs.Load.{faultOf, loadedOf}
-use Rattle.walk.specs.declared.Failure.{Failure}
 use Rattle.desk.specs.declared.Phase.{Phase}
 use Rattle.desk.specs.declared.Phase.the-variants as phase
 use Rattle.desk.specs.declared.Done.{Done}
 use Rattle.desk.specs.declared.Done.the-variants as done
 use Rattle.desk.specs.declared.Advance.the-variants as progress
 use Rattle.desk.specs.declared.Desk.{Desk}
-use Rattle.desk.specs.declared.AfterLoad.{AfterLoad}
 use Rattle.desk.specs.declared.AfterAdvance.{AfterAdvance}
-use Rattle.desk.specs.declared.AfterVerdict.{AfterVerdict}
-use Rattle.desk.specs.declared.AfterDrop.{AfterDrop}
-use Rattle.desk.specs.Desk.{emptyDesk, notLoaded, loadEmpty, loadBy, loadOf, notAdvanced, advanceOpen, advanceBy, advanceOf, tellBy, tellOf, dropBy, dropOf}
-use Rattle.checker.proofs.Opened.{designText, HoldsText}
+use Rattle.desk.specs.Desk.{loadEmpty, loadBy, loadOf, notAdvanced, advanceOpen, advanceBy, advanceOf, tellBy, tellOf, dropBy, dropOf}
+use Rattle.checker.proofs.Opened.{designText}
 use Rattle.checker.proofs.Stages.{Stage, fresh, going, accepts, fails, Advances, advance-fresh, advance-going}
 use Rattle.checker.proofs.Judging.{opened-stage, loaded-free, loaded-fault}
 use Rattle.claims.specs.Calls.{Called, load, advance, verdict, drop, NoLoad, refused, advanced, told, dropped, LastLoad, here, before, AcceptedIn}

@@ -1,7 +1,7 @@
 -- The pump table of 01 and its nine variants as texts: each is a design text, and the one-call check reports it as 01 says (`pump-reports`),
 -- from the criteria (the crate pump has the designs). And the counts of the two that are advanced by 5.
 use Prim.Native.Nat.{ℕ, suc, _≤_}
-use mathlib.Core.Path.{_≡_, refl, sym, ap, _∙_}
+use mathlib.Core.Path.{_≡_, refl, ap, _∙_}
 use mathlib.Core.List.{List, [], _∷_, _++_}
 use lib.ListN.{length, drop}
 use Rattle.foundation.specs.First.{firstIn, allIn}

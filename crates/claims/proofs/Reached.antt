@@ -1,10 +1,10 @@
 -- Where a load and advances have come (`reached`): how many states were examined, that the last one is reached once the advances
 -- add up to it, and that accepted was answered if the desk is so.
-use Prim.Native.Nat.{ℕ, _+_, _≤_, _<_, min}
+use Prim.Native.Nat.{ℕ, _+_, _≤_, min}
 use mathlib.Core.Path.{_≡_, refl, sym, ap, _∙_}
 use mathlib.Core.Logic.{_≢_, _⊎_, inl, inr}
 use mathlib.Core.Bool.{Bool, true, false}
-use mathlib.Core.List.{List, [], _∷_, nil≢cons}
+use mathlib.Core.List.{List, _∷_, nil≢cons}
 use native.Mathlib.Omega.{arith}
 use borrow.Author.Tests.{eqb-true, eqb-false}
 use lib.Dec.{eqb}
@@ -13,7 +13,6 @@ use Rattle.foundation.specs.Walk.{walk}
 use Rattle.terms.specs.Tree.{pick}
 use Rattle.criteria.specs.Design.{Design, states}
 use Rattle.decision.specs.Tests.{holds1}
-use Rattle.decision.specs.Examine.{examine}
 use Rattle.reader.specs.Text.{fieldsByLine}
 use Rattle.loader.specs.Load.{faultOf, heldBy, loadedOf}
 use Rattle.desk.specs.declared.Phase.{Phase}
@@ -22,17 +21,14 @@ use Rattle.desk.specs.declared.Done.{Done}
 use Rattle.desk.specs.declared.Done.the-variants as done
 use Rattle.desk.specs.declared.Advance.the-variants as progress
 use Rattle.desk.specs.declared.Desk.{Desk}
-use Rattle.desk.specs.declared.AfterLoad.{AfterLoad}
 use Rattle.desk.specs.declared.AfterAdvance.{AfterAdvance}
-use Rattle.desk.specs.declared.AfterVerdict.{AfterVerdict}
-use Rattle.desk.specs.declared.AfterDrop.{AfterDrop}
 use Rattle.desk.specs.Answers.{countSaid}
 use Rattle.checker.specs.Count.{examined}
-use Rattle.desk.specs.Desk.{emptyDesk, opened, loadEmpty, loadBy, loadOf, notAdvanced, advanceOf, tellOf, dropOf}
-use Rattle.checker.proofs.Opened.{designText, HoldsText}
+use Rattle.desk.specs.Desk.{opened, loadEmpty, loadOf, advanceOf, tellOf}
+use Rattle.checker.proofs.Opened.{designText}
 use Rattle.checker.proofs.Stages.{Stage, fresh, going, accepts, fails, Advances, advance-fresh, advance-going, some-states}
 use Rattle.checker.proofs.Judging.{opened-stage, loaded-free, loaded-fault}
-use Rattle.claims.specs.Calls.{Called, load, advance, verdict, drop, NoLoad, LastLoad, here, before, AcceptedIn, Walked}
+use Rattle.claims.specs.Calls.{Called, load, advance, verdict, NoLoad, LastLoad, here, before, AcceptedIn, Walked}
 use Rattle.claims.specs.Calls as calls
 use Rattle.claims.proofs.Lists.{Calls, new, then-load, then-advance, then-verdict, then-drop, latest, earlier}
 use Rattle.claims.proofs.Kept.{Kept, empty, holds, kept, load-at, advance-at, by-none, tell-desk}

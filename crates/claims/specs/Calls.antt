@@ -2,7 +2,7 @@
 -- drop), with any arguments and in any order, those turned down included". A list is given by its calls with their answers, the
 -- latest first. How a desk is handed from call to call is in proofs/Lists, by the contracts of the methods themselves.
 use Prim.Native.Nat.{ℕ, _+_}
-use mathlib.Core.List.{List, [], _∷_}
+use mathlib.Core.List.{List, _∷_}
 use Rattle.desk.specs.declared.Done.{Done}
 use Rattle.desk.specs.declared.Done.the-variants as done
 use Rattle.desk.specs.declared.Advance.{Advance}

@@ -3,14 +3,14 @@
 use Prim.Native.Nat.{ℕ, zero, suc, _+_, _≤_, _<_}
 use mathlib.Core.Path.{_≡_, refl, sym, ap, _∙_}
 use mathlib.Core.Logic.{_≢_, _⊎_, inl, inr}
-use mathlib.Core.Bool.{Bool, true, false, cond, _&&_, true≢false}
+use mathlib.Core.Bool.{Bool, true, false, _&&_, true≢false}
 use mathlib.Core.List.{List, [], _∷_, _++_, List·Memᴰ, List·Memᴰ·head, List·Memᴰ·tail, List·Memᴰ·not-nil}
 use native.Mathlib.Omega.{arith}
 use borrow.Author.Tests.{ne-eqb, eqb-true, eqb-false, leb-false}
 use lib.Dec.{eqb, leb}
 use lib.ListN.{length, getD}
 use Rattle.foundation.specs.Reflects.{Reflects, so, not-so, _⇒_}
-use Rattle.foundation.proofs.Reflects.{by-and, by-or, by-iff, by-if, by-eqb, says-yes, is-so}
+use Rattle.foundation.proofs.Reflects.{by-and, by-iff, by-if, by-eqb, says-yes, is-so}
 use Rattle.foundation.proofs.First.{by-all}
 use Rattle.design.specs.Lines.{kindOf, ofKind, countOf}
 use Rattle.design.specs.Faults.{IsParameter, IsRow, fewest, most, Allowed, Falls, here, later, Fault4, unknown, falling, wrong-count, not-three, too-few}

@@ -1,12 +1,12 @@
 -- What a desk's arrays hold is what was put there: line i is the i-th line (`line-held`, `line-from`), so the lines that they hold
 -- are those given (`lines-held`).
 use Prim.Native.Nat.{ℕ, zero, suc, _+_, _-_, _≤_, _<_}
-use mathlib.Core.Path.{_≡_, refl, sym, ap, _∙_}
+use mathlib.Core.Path.{_≡_, refl, ap, _∙_}
 use mathlib.Core.List.{List, [], _∷_, _++_, map, append-assoc}
 use native.Mathlib.Omega.{arith}
 use native.Mathlib.Numerals.{add-one}
 use lib.ListN.{length, getD, take, drop, replicate, length-replicate, length-append, List·getD-append}
-use lib.Seq.{sets, sets-eq, drop-append-add, drop-cons, take-append-seam, take-length}
+use lib.Seq.{sets-eq, drop-append-add, drop-cons, take-append-seam, take-length}
 use Rattle.reader.specs.Text.{countAll}
 use Rattle.design.specs.Loaded.{lineFrom, lineAt, eachLine, heldLines, joined, startsFrom, fieldsHeld, startsHeld}
 

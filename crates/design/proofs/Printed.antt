@@ -1,18 +1,18 @@
 -- What is printed of a design says it again (`printed`).
-use Prim.Native.Nat.{ℕ, zero, suc, _≤_}
+use Prim.Native.Nat.{ℕ, suc}
 use mathlib.Core.Path.{_≡_, refl, sym, ap, _∙_}
 use mathlib.Core.Bool.{Bool, true, false, cond}
-use mathlib.Core.List.{List, [], _∷_, _++_, map, append-assoc, append-nil}
+use mathlib.Core.List.{List, [], _∷_, _++_, map, append-nil}
 use lib.Dec.{eqb}
-use lib.ListN.{length, drop}
+use lib.ListN.{length}
 use lib.Seq.{drop-append-seam}
 use Rattle.terms.specs.Tree.{Value, Formula}
 use Rattle.terms.specs.Print.{printV, printF}
-use Rattle.terms.specs.Read.{Read, leaf}
+use Rattle.terms.specs.Read.{leaf}
 use Rattle.terms.proofs.Printing.{print-read-v, print-read-f}
-use Rattle.criteria.specs.Design.{Design, Process, Parameter, Row}
-use Rattle.design.specs.Line.{valueIn, formulaIn, valuesIn, parameterOf, rowOf, invariantOf, mappingOf, measureOf}
-use Rattle.design.specs.Lines.{kindOf, ofKind, theLine, countOf, designOf}
+use Rattle.criteria.specs.Design.{Design, Parameter, Row}
+use Rattle.design.specs.Line.{valueIn, formulaIn, valuesIn, parameterOf, rowOf}
+use Rattle.design.specs.Lines.{kindOf, ofKind, theLine, designOf}
 use Rattle.design.specs.Print.{printValues, parameterLine, rowLine, lastLines, printLines, ValueFits, FormulaFits, ValuesFit, RowFits, RowsFit, Printable}
 use Rattle.design.specs.Print as print
 

@@ -1,7 +1,7 @@
 -- The design that a desk's arrays hold is that of the lines put there, where these have no fault 4 and no fault 6 (`design-held`).
 use Prim.Native.Nat.{ℕ, zero, suc, _+_, _-_, _≤_, _<_}
 use mathlib.Core.Path.{_≡_, refl, sym, ap, _∙_}
-use mathlib.Core.Logic.{_⊎_, inl, inr}
+use mathlib.Core.Logic.{inl, inr}
 use mathlib.Core.Bool.{Bool, true, false, cond}
 use mathlib.Core.List.{List, [], _∷_, _++_, map, append-assoc, List·Memᴰ, List·Memᴰ·head, List·Memᴰ·tail, List·Memᴰ·not-nil}
 use native.Mathlib.Omega.{arith}
@@ -10,7 +10,6 @@ use lib.Dec.{eqb}
 use lib.ListN.{length, getD, take, drop, length-append, List·getD-append}
 use lib.Seq.{take-append-seam, drop-append-seam, getD-append-add}
 use Rattle.reader.specs.Text.{countAll}
-use Rattle.criteria.specs.Design.{Design}
 use Rattle.design.specs.Line.{parameterOf, rowOf, invariantOf, mappingOf, measureOf}
 use Rattle.design.specs.Lines.{kindOf, ofKind, theLine, countOf, countsOf, designOf}
 use Rattle.design.specs.Faults.{IsParameter, IsRow, value, formula, Terms, nValues, LineTerms, of-implementation, of-specification, invariant, mapping, measure}

@@ -10,7 +10,7 @@ use lib.Seq.{drop-append-seam, drop-append-le}
 use Rattle.terms.specs.Tree.{Value, Formula, okV, okF}
 use Rattle.terms.specs.Depth.{depthV, depthF}
 use Rattle.terms.specs.Print.{printV, printF}
-use Rattle.terms.specs.Read.{leaf, readV, readF}
+use Rattle.terms.specs.Read.{leaf}
 use Rattle.terms.proofs.Printing.{print-read-v, print-read-f}
 use Rattle.criteria.specs.Design.{Row}
 use Rattle.design.specs.Line.{valueIn, formulaIn, valuesIn, parameterOf, rowOf, invariantOf, mappingOf, measureOf}

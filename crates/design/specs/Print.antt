@@ -8,7 +8,7 @@ use lib.ListN.{length}
 use Rattle.terms.specs.Tree.{Value, Formula, okV, okF}
 use Rattle.terms.specs.Depth.{depthV, depthF}
 use Rattle.terms.specs.Print.{printV, printF}
-use Rattle.criteria.specs.Design.{Design, Process, Parameter, Row}
+use Rattle.criteria.specs.Design.{Design, Parameter, Row}
 
 -- values one after the other
 abbrev pub printValues : List Value → List ℕ

@@ -1,12 +1,11 @@
 -- What each call returns, by the phase of its desk and the tests that led there, is what specs/Desk says.
 use Prim.Native.Nat.{ℕ, _+_, _-_, _^_, _≤_, _<_}
-use mathlib.Core.Path.{_≡_, refl, sym, ap, _∙_}
+use mathlib.Core.Path.{_≡_, sym, ap, _∙_}
 use mathlib.Core.Logic.{_≢_}
-use mathlib.Core.Bool.{Bool, true, false, cond}
+use mathlib.Core.Bool.{Bool, true, false}
 use mathlib.Core.List.{List}
 use native.Mathlib.Omega.{arith}
 use borrow.Author.Tests.{eq-eqb, ne-eqb, le-leb, lt-leb}
-use lib.Dec.{eqb, leb}
 use Rattle.layout.specs.Sizes.{stateCountIn, initialNumberIn}
 use Rattle.loader.specs.declared.Loaded.{Loaded}
 use Rattle.loader.specs.Load.{loadedOf}
@@ -20,12 +19,11 @@ use Rattle.desk.proofs.Said.{said-told, count-within}
 use Rattle.desk.specs.declared.Phase.{Phase}
 use Rattle.desk.specs.declared.Phase.the-variants as phase
 use Rattle.desk.specs.declared.Advance.the-variants as advance
-use Rattle.desk.specs.declared.Verdict.the-variants as verdict
 use Rattle.desk.specs.declared.Done.the-variants as done
 use Rattle.desk.specs.declared.Desk.{Desk}
 use Rattle.desk.specs.declared.AfterLoad.{AfterLoad}
 use Rattle.desk.specs.declared.AfterAdvance.{AfterAdvance}
-use Rattle.desk.specs.Desk.{emptyDesk, placed, notLoaded, opened, loadEmpty, loadBy, loadOf, notAdvanced, ahead, failStart, walkOn, examineNext, advanceOpen, advanceBy, advanceOf, tellBy, tellOf, dropBy, dropOf}
+use Rattle.desk.specs.Desk.{emptyDesk, placed, notLoaded, loadEmpty, loadBy, loadOf, notAdvanced, ahead, failStart, walkOn, examineNext, advanceOpen, advanceBy, advanceOf, tellBy, tellOf, dropBy, dropOf}
 
 module _ (d : Desk) where
   -- ---- by phase

@@ -11,7 +11,7 @@ use lib.ListN.{length, getD, drop, drop-of-length-le}
 use lib.Seq.{drop-cons}
 use Rattle.terms.specs.Tree.{evalV, evalF, pick, arithOf, compareOf, joinOf}
 use Rattle.terms.specs.Mark.{valueMark, formulaMark}
-use Rattle.terms.specs.Read.{readV, readF, valueBy, formulaBy}
+use Rattle.terms.specs.Read.{readV, readF}
 use Rattle.terms.proofs.Read.{step-v, step-f, place}
 use Rattle.terms.specs.declared.Arith.{Arith}
 use Rattle.terms.specs.declared.Compare.{Compare}

@@ -1,7 +1,7 @@
 -- Laws of specs/Sizes: what fitting counts say, and the turns of the loops that multiply sizes and count up the initial state's number.
 -- A number that is cut off stays cut off whatever it is multiplied by, and by 0 it is 0 in either case: so cutting off at every turn
 -- is cutting off at the end.
-use mathlib.Core.Path.{_≡_, refl, sym, _∙_, ap}
+use mathlib.Core.Path.{_≡_, sym, _∙_, ap}
 use mathlib.Core.Bool.{Bool, true, false, _&&_}
 use mathlib.Core.List.{List, [], _∷_}
 use Prim.Native.Nat.{ℕ, zero, suc, _+_, _-_, _*_, _≤_, _<_, min}

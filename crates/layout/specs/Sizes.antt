@@ -7,7 +7,7 @@ use Prim.Native.Nat.{ℕ, _≤_, min}
 use lib.Dec.{leb}
 use Rattle.foundation.specs.Radix.{product, numberOf}
 use Rattle.terms.specs.Tree.{pick}
-use Rattle.criteria.specs.Design.{Parameter, Process, sizes, initialState, states, stateNumber}
+use Rattle.criteria.specs.Design.{Parameter, sizes, initialState, states, stateNumber}
 use Rattle.design.specs.Line.{parameterOf}
 use Rattle.design.specs.Loaded.{lineFrom, eachLine, designIn}
 use Rattle.design.specs.declared.Counts.{Counts}

@@ -1,22 +1,21 @@
 -- The design of a design text is admitted: its sizes, initial values and spans are in bounds, and its rows keep fault 7's rules.
 use Prim.Native.Nat.{ℕ, zero, suc, _≤_, _<_}
-use mathlib.Core.Path.{_≡_, refl, sym, ap, _∙_}
+use mathlib.Core.Path.{refl}
 use mathlib.Core.Logic.{inl, inr}
-use mathlib.Core.List.{List, [], _∷_, map, List·Memᴰ, List·Memᴰ·head, List·Memᴰ·tail, List·Memᴰ·not-nil}
+use mathlib.Core.List.{List, [], _∷_, map, List·Memᴰ·head, List·Memᴰ·tail, List·Memᴰ·not-nil}
 use native.Mathlib.Omega.{arith}
-use lib.ListN.{length, getD}
-use Rattle.foundation.specs.Nth.{Nth, EachIs}
-use Rattle.foundation.specs.Radix.{product}
+use lib.ListN.{getD}
+use Rattle.foundation.specs.Nth.{EachIs}
 use Rattle.foundation.proofs.Nth.{nth-nil, nth-cons}
 use Rattle.reader.specs.Line.{Each16}
 use Rattle.reader.specs.Line as line
 use Rattle.reader.specs.Text.{fieldsByLine, Lines}
 use Rattle.reader.specs.Text as text
 use Rattle.reader.proofs.Written.{text-lines-good}
-use Rattle.criteria.specs.Design.{Parameter, Row, Admitted, states}
+use Rattle.criteria.specs.Design.{Parameter, Row, Admitted}
 use Rattle.design.specs.Line.{parameterOf, rowOf}
-use Rattle.design.specs.Lines.{kindOf, ofKind, designOf}
-use Rattle.design.specs.Faults.{IsParameter, IsRow, sizeOf, second, fifth, seventh, DesignText}
+use Rattle.design.specs.Lines.{ofKind, designOf}
+use Rattle.design.specs.Faults.{IsParameter, IsRow, second, fifth, seventh, DesignText}
 use Rattle.design.proofs.Each.{EachLine, each-cons}
 use Rattle.design.proofs.Fault5.{Bounds, bounds-of}
 use Rattle.design.proofs.Same.{of-kind}

@@ -1,25 +1,21 @@
 -- What `loader::load` returns where its search ends: a fault of the columns, too many lines, a fault of the lines, or none.
 use Prim.Native.Nat.{ℕ, _+_, _≤_, _<_}
-use mathlib.Core.Path.{_≡_, refl, sym, ap, _∙_}
+use mathlib.Core.Path.{_≡_, sym, ap, _∙_}
 use mathlib.Core.Logic.{_≢_}
-use mathlib.Core.Bool.{Bool, true, false, cond}
-use mathlib.Core.List.{List, [], _++_}
+use mathlib.Core.List.{List, []}
 use native.Mathlib.Omega.{arith}
 use borrow.Author.Tests.{ne-eqb}
-use lib.Dec.{eqb}
 use lib.ListN.{length, replicate, length-append}
-use Rattle.foundation.specs.Reflects.{Reflects, so, not-so}
 use Rattle.foundation.proofs.Reflects.{is-not}
-use Rattle.reader.specs.Text.{fieldsByLine, countAll, columnsFault}
+use Rattle.reader.specs.Text.{fieldsByLine, columnsFault}
 use Rattle.reader.proofs.Faults.{columns-free, most-in-all}
-use Rattle.design.specs.Lines.{ofKind, countOf, countsOf}
+use Rattle.design.specs.Lines.{ofKind, countsOf}
 use Rattle.design.specs.Loaded.{heldLines, fieldsHeld, startsHeld}
-use Rattle.design.specs.Tests.{layoutFits}
 use Rattle.design.specs.declared.Counts.{Counts}
 use Rattle.design.proofs.Fault4.{Layout, by-layout, layout-of, in-order}
 use Rattle.design.proofs.Loaded.{lines-held}
 use Rattle.loader.specs.Filled.{Filled}
-use Rattle.loader.specs.Load.{tableFault, faultOf, refusedBy, heldBy, loadedOf, Holds}
+use Rattle.loader.specs.Load.{tableFault, faultOf, refusedBy, loadedOf, Holds}
 use Rattle.loader.specs.declared.Loaded.{Loaded}
 
 -- ---- lines without fault 4 are at most 83

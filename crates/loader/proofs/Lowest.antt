@@ -1,25 +1,24 @@
 -- The fault that loading gives is the lowest anywhere in the text (`lowest-fault`), and none is given exactly to a design text
 -- (`free-exactly`), whose design is then admitted (`text-admitted`).
 use Prim.Native.Nat.{ℕ, _≤_, _<_}
-use mathlib.Core.Path.{_≡_, refl, sym, ap, _∙_}
+use mathlib.Core.Path.{_≡_, refl}
 use mathlib.Core.Logic.{_≢_, _↔_}
-use mathlib.Core.Bool.{Bool, true, false, cond, not, true≢false}
-use mathlib.Core.List.{List, List·Memᴰ}
+use mathlib.Core.Bool.{Bool, true, false, cond}
+use mathlib.Core.List.{List}
 use native.Mathlib.Omega.{arith}
 use borrow.Author.Tests.{eqb-true, eqb-false}
 use lib.Dec.{eqb}
-use Rattle.foundation.specs.Reflects.{Reflects, so, not-so}
 use Rattle.foundation.proofs.Reflects.{says-yes, by-value}
 use Rattle.reader.specs.Text.{fieldsByLine, Fault1, Fault2, Fault3, ColumnsFault, columnsFault}
 use Rattle.reader.specs.Text as text
 use Rattle.reader.proofs.Faults.{columns-lowest, ColumnsFree, columns-free}
-use Rattle.design.specs.Lines.{kindOf, countOf, designOf}
+use Rattle.design.specs.Lines.{countOf, designOf}
 use Rattle.design.specs.Faults.{Fault4, Fault5, Fault6, Fault7, Fault, first, second, third, fourth, fifth, sixth, seventh, LowestFault, DesignText}
-use Rattle.design.specs.Tests.{eachLineIs, layoutFits, boundsFit}
+use Rattle.design.specs.Tests.{layoutFits, boundsFit}
 use Rattle.design.proofs.Each.{by-each-line, some-line}
 use Rattle.design.proofs.Fault4.{by-layout, has-fault4}
 use Rattle.design.proofs.Fault5.{by-bounds, has-fault5}
-use Rattle.line_check.proofs.LineFits.{by-line, no-fault6, fault6-at}
+use Rattle.line_check.proofs.LineFits.{no-fault6, fault6-at}
 use Rattle.action_check.specs.ActionsFit.{actionsFit}
 use Rattle.action_check.proofs.ActionsFit.{by-actions, has-fault7}
 use Rattle.loader.specs.Load.{lineTest, termsFitAll, tableFault, faultOf}

@@ -1,16 +1,15 @@
 -- Of a text that is loaded: its lines stand in order and are made of their terms, so the arrays hold its design (`design-in`).
-use Prim.Native.Nat.{ℕ, _≤_}
-use mathlib.Core.Path.{_≡_, refl, sym, ap, _∙_}
+use Prim.Native.Nat.{ℕ}
+use mathlib.Core.Path.{_≡_, refl}
 use mathlib.Core.Bool.{Bool, true, false, cond}
 use mathlib.Core.List.{List}
 use native.Mathlib.Omega.{arith}
 use borrow.Author.Tests.{eqb-true, eqb-false, le-leb}
 use lib.Dec.{eqb}
-use lib.ListN.{length}
 use Rattle.foundation.proofs.Reflects.{says-yes}
-use Rattle.reader.specs.Text.{fieldsByLine, countAll, columnsFault}
+use Rattle.reader.specs.Text.{fieldsByLine, columnsFault}
 use Rattle.reader.proofs.Faults.{columns-free, most-in-all}
-use Rattle.criteria.specs.Design.{Design, Admitted}
+use Rattle.criteria.specs.Design.{Admitted}
 use Rattle.design.specs.Lines.{kindOf, countOf, countsOf, designOf}
 use Rattle.design.specs.Faults.{DesignText}
 use Rattle.design.specs.Loaded.{fieldsHeld, startsHeld, designIn}
@@ -22,7 +21,7 @@ use Rattle.layout.specs.Sizes.{countsFit}
 use Rattle.line_check.proofs.LineFits.{by-line}
 use Rattle.action_check.specs.ActionsFit.{actionsFit}
 use Rattle.loader.specs.Load.{lineTest, termsFitAll, tableFault, faultOf}
-use Rattle.loader.proofs.Table.{Allows, allows}
+use Rattle.loader.proofs.Table.{allows}
 use Rattle.loader.proofs.Loading.{few-lines}
 use Rattle.loader.proofs.Lowest.{free-exactly}
 use Rattle.loader.proofs.Admitted.{text-admitted}

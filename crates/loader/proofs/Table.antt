@@ -3,11 +3,10 @@
 -- of the lines, so the actions are those of its rows.
 use Prim.Native.Nat.{ℕ, _≤_, _<_, min}
 use mathlib.Core.Path.{_≡_, refl, sym, ap, _∙_}
-use mathlib.Core.Bool.{Bool, true, false, cond, not, _&&_}
-use mathlib.Core.List.{List, [], _∷_, map, List·Memᴰ}
+use mathlib.Core.Bool.{Bool, true, false, not}
+use mathlib.Core.List.{List, [], _∷_, map}
 use native.Mathlib.Omega.{arith}
 use borrow.Author.Tests.{le-leb, lt-leb, not-true, not-false}
-use lib.Dec.{leb}
 use lib.ListN.{length}
 use mir.Syntax.{w16}
 use mir.Val.{Fits}
@@ -15,11 +14,11 @@ use Rattle.foundation.specs.Radix.{product}
 use Rattle.foundation.proofs.Reflects.{says-yes}
 use Rattle.reader.specs.Text.{fieldsByLine, countAll, columnsFault}
 use Rattle.reader.proofs.Faults.{columns-free, most-in-all}
-use Rattle.criteria.specs.Design.{Parameter, states}
+use Rattle.criteria.specs.Design.{Parameter}
 use Rattle.design.specs.Line.{parameterOf}
 use Rattle.design.specs.Lines.{kindOf, ofKind, countOf, countsOf, designOf}
 use Rattle.design.specs.Faults.{sizeOf}
-use Rattle.design.specs.Loaded.{heldLines, fieldsHeld, startsHeld, designIn}
+use Rattle.design.specs.Loaded.{heldLines, fieldsHeld, startsHeld}
 use Rattle.design.specs.Tests.{eachLineIs, layoutFits, numbersFit, boundsFit}
 use Rattle.design.specs.declared.Counts.{Counts}
 use Rattle.design.proofs.Fault4.{Layout, by-layout, layout-of}

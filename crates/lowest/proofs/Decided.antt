@@ -2,20 +2,20 @@
 -- a state x of the design and t its mapped state.
 use mathlib.Core.Path.{_≡_, refl, sym, _∙_, ap}
 use mathlib.Core.Logic.{_⊎_, inl, inr, _≢_}
-use mathlib.Core.Bool.{Bool, true, false, not, _&&_}
+use mathlib.Core.Bool.{Bool, true, false, not}
 use mathlib.Core.List.{List}
 use Prim.Native.Nat.{ℕ, zero, suc, _≤_, _<_}
 use native.Mathlib.Omega.{arith}
 use lib.Dec.{eqb}
 use lib.ListN.{length, length-map}
-use Rattle.foundation.specs.First.{Outcome, pass, fail, failIf, orElse, firstIn, allIn}
-use Rattle.foundation.specs.Trial.{Place, place, firstPlace, inCriterion}
+use Rattle.foundation.specs.First.{fail, failIf, orElse, firstIn, allIn}
+use Rattle.foundation.specs.Trial.{place, firstPlace, inCriterion}
 use Rattle.foundation.specs.Radix.{sameB}
 use Rattle.foundation.specs.Reflects.{_⇒_}
 use Rattle.foundation.proofs.First.{first-alike, all-alike}
 use Rattle.foundation.proofs.Trial.{place-passes}
 use Rattle.terms.specs.Tree.{pick}
-use Rattle.criteria.specs.Design.{Design, Row, State, mapped, values}
+use Rattle.criteria.specs.Design.{Design, Row, mapped}
 use Rattle.criteria.specs.Step.{nextState}
 use Rattle.criteria.specs.Rows.{rowAt, internalTest}
 use Rattle.criteria.proofs.Rows.{row-at-is}
@@ -29,7 +29,7 @@ use Rattle.layout.specs.Sizes.{Fit}
 use Rattle.steps.specs.Arrays.{padded, stepOf, sameIn, implStep, specStep}
 use Rattle.steps.proofs.Arrays.{each-length}
 use Rattle.steps.proofs.States as states
-use Rattle.lowest.specs.Tests.{quietAt, rowQuiet, focusIn, holds2In, holds3In, holds4In, holds5In, holds6In, holds7In, holds8In, holds9In}
+use Rattle.lowest.specs.Tests.{rowQuiet, focusIn, holds2In, holds3In, holds4In, holds5In, holds6In, holds7In, holds8In, holds9In}
 use Rattle.lowest.specs.Search.{spanIn, rowsIn, holdsIn, inRowIn, inRowsIn, inCriteriaIn, searchIn}
 
 -- two tests that agree where there is a row agree behind the test whether there is one

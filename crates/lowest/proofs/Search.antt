@@ -6,7 +6,7 @@ use mathlib.Core.List.{List}
 use Prim.Native.Nat.{ℕ, suc, _+_, _-_, _≤_, _<_}
 use native.Mathlib.Omega.{arith}
 use borrow.Author.Tests.{ne-eqb, not-true, not-false}
-use Rattle.foundation.specs.First.{Outcome, pass, fail, firstIn}
+use Rattle.foundation.specs.First.{Outcome, firstIn}
 use Rattle.foundation.specs.Trial.{Place as At, place}
 use Rattle.foundation.proofs.First.{loop-begins, loop-turns, loop-fails, loop-ends, test-turns, test-fails}
 use Rattle.design.specs.declared.Counts.{Counts}

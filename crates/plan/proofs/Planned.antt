@@ -1,7 +1,7 @@
 -- What the functions that make the plan return, as specs/Plan says it, and the turns of their loops.
 use mathlib.Core.Path.{_≡_, refl, sym, _∙_, ap}
 use mathlib.Core.Bool.{Bool, true, false, not, _&&_, _||_}
-use mathlib.Core.List.{List, [], _∷_, _++_, append-nil}
+use mathlib.Core.List.{List, _++_, append-nil}
 use Prim.Native.Nat.{ℕ, zero, suc, _+_, _-_, _*_, _≤_, _<_, _%_, _/_}
 use native.Mathlib.Numerals.{add-one}
 use native.Mathlib.Omega.{arith}
@@ -10,7 +10,7 @@ use lib.Dec.{leb}
 use lib.ListN.{length, getD, drop, set, replicate, length-replicate, drop-of-length-le}
 use lib.Seq.{sets, sets-eq}
 use Rattle.foundation.specs.Nth.{eachB}
-use Rattle.terms.specs.Tree.{Value, pick}
+use Rattle.terms.specs.Tree.{Value}
 use Rattle.terms.specs.Read.{readV, readF}
 use Rattle.terms.proofs.Read.{place}
 use Rattle.sum_free.specs.SumFree.{sumFreeV, sumFreeF, foundV, foundF}

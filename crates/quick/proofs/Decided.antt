@@ -4,44 +4,43 @@ use mathlib.Core.Path.{_≡_, refl, sym, _∙_, ap}
 use mathlib.Core.Logic.{_⊎_, inl, inr, _≢_}
 use mathlib.Core.Bool.{Bool, true, false, not, _&&_, _||_, true≢false}
 use mathlib.Core.List.{List, [], _∷_}
-use Prim.Native.Nat.{ℕ, zero, suc, _+_, _-_, _*_, _≤_, _<_, _%_, _/_, min}
-use native.Mathlib.Numerals.{add-one}
+use Prim.Native.Nat.{ℕ, zero, suc, _+_, _-_, _≤_, _<_, min}
 use native.Mathlib.Omega.{arith}
 use borrow.Author.Tests.{eqb-true}
 use lib.Dec.{eqb, ltb, eqb·suc-zero}
 use lib.ListN.{length, getD, drop, length-map}
-use Rattle.foundation.specs.First.{allIn, passes}
+use Rattle.foundation.specs.First.{allIn}
 use Rattle.foundation.specs.Nth.{eachB}
-use Rattle.foundation.specs.Radix.{sameB, belowB}
+use Rattle.foundation.specs.Radix.{sameB}
 use Rattle.foundation.specs.Reflects.{_⇒_}
 use Rattle.foundation.proofs.First.{all-alike, all-both, all-from}
 use Rattle.foundation.proofs.Nth.{each-alike}
 use Rattle.foundation.proofs.Trial.{place-passes}
-use Rattle.terms.specs.Tree.{Value, pick, evalV, evalF}
+use Rattle.terms.specs.Tree.{Value, pick, evalF}
 use Rattle.terms.specs.Read.{readF}
 use Rattle.terms.proofs.Read.{place}
 use Rattle.terms.proofs.And.{and-left, and-right}
 use Rattle.sum_free.specs.SumFree.{sumFreeV, sumFreeF}
 use Rattle.sum_free.proofs.SumFree.{same-v, same-f}
-use Rattle.criteria.specs.Design.{Design, Row, State, values, mapped, measureAt, sizes}
+use Rattle.criteria.specs.Design.{Design, Row, State, values, mapped, measureAt}
 use Rattle.criteria.specs.Step.{nextState, dataNumber}
 use Rattle.criteria.specs.Rows.{noRow, rowAt, internalTest}
 use Rattle.criteria.proofs.Rows.{is-row-below}
-use Rattle.decision.specs.Tests.{enabledB, internalB, invariantStateB, focusB, rowOf, partner, holds2, holds3, holds4, holds5, holds6, holds7, holds8, holds9}
+use Rattle.decision.specs.Tests.{enabledB, internalB, invariantStateB, focusB, rowOf, partner, holds2, holds7}
 use Rattle.decision.specs.Quick.{allRows, rowHolds, stateHolds}
-use Rattle.decision.proofs.Find.{Found, Missing, find, found-at, found-some, found-partner}
+use Rattle.decision.proofs.Find.{Found, Missing, find, found-at, found-partner}
 use Rattle.design.specs.Line as line
 use Rattle.design.specs.Loaded.{lineFrom, eachLine, implRowsAt, specRowsAt, designIn}
 use Rattle.design.specs.declared.Counts.{Counts}
 use Rattle.layout.specs.Sizes.{Fit}
-use Rattle.steps.specs.Arrays.{padded, valuesAt, rowsFrom, sameIn, insideIn, mappedIn, measureIn, implLine, specLine}
+use Rattle.steps.specs.Arrays.{padded, valuesAt, sameIn, measureIn, implLine, specLine}
 use Rattle.steps.proofs.Arrays.{each-length, row-there}
 use Rattle.steps.proofs.States as states
 use Rattle.conjuncts.specs.Conjuncts.{frontOf, guardIn}
 use Rattle.conjuncts.proofs.Conjuncts.{guards}
 use Rattle.plan.specs.Plan.{implBy, specBy, implAt, specAt, conditionFree, rowFree, specFree, implFree, looksOf, flagOf, implPartner, implLooks, implFlag, specPartner, specLooks, specFlag, implFront, specFront, entryOf, isRow, planIn}
 use Rattle.plan.proofs.Planned.{plan-at, row-of-impl, row-of-spec}
-use Rattle.quick.specs.Quick.{keptIn, answeredIn, stepTo, stepIn, stepOfRow, seen, onAt, looksIn, rowIn, plannedIn, implIn, repliedIf, replyLooks, replyIn, replyPlanned, specIn, passesIn}
+use Rattle.quick.specs.Quick.{keptIn, answeredIn, stepIn, stepOfRow, seen, looksIn, rowIn, plannedIn, implIn, repliedIf, replyLooks, replyIn, replyPlanned, specIn, passesIn}
 use Rattle.quick.specs.declared.Seen.{Seen}
 use Rattle.conjuncts.specs.declared.Guarded.{Guarded}
 

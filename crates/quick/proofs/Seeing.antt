@@ -17,16 +17,14 @@ use Rattle.terms.proofs.And.{and-left, and-right}
 use Rattle.eval.specs.Answer.{answerV, answerF}
 use Rattle.eval.specs.declared.Valued.{Valued}
 use Rattle.eval.specs.declared.Held.{Held}
-use Rattle.criteria.specs.Design.{Row}
-use Rattle.criteria.specs.Rows.{noRow}
-use Rattle.decision.specs.Tests.{enabledB, internalB}
+use Rattle.decision.specs.Tests.{enabledB}
 use Rattle.design.specs.Line.{rowOf}
 use Rattle.design.specs.declared.Counts.{Counts}
 use Rattle.steps.specs.Arrays.{padded, valuesAt, belowIn, sameIn, insideIn, mappedIn, measureIn, implLine, specLine}
 use Rattle.steps.proofs.All.{all-begin, all-turn, all-fail, all-end}
 use Rattle.conjuncts.specs.Conjuncts.{guardIn}
 use Rattle.plan.specs.Plan.{implBy, specBy, implAt, specAt}
-use Rattle.quick.specs.Quick.{keptIn, answeredIn, stepTo, stepIn, heldIf, seen, onAt, knownIn, lookIn, looksIn, rowIn, plannedIn, implIn, repliedIf, repliedIn, replyLooks, replyIn, replyPlanned, specIn, passesIn}
+use Rattle.quick.specs.Quick.{keptIn, answeredIn, stepIn, heldIf, seen, onAt, knownIn, lookIn, looksIn, rowIn, plannedIn, implIn, repliedIf, repliedIn, replyLooks, replyIn, replyPlanned, specIn, passesIn}
 use Rattle.quick.specs.declared.Seen.{Seen}
 use Rattle.conjuncts.specs.declared.Guarded.{Guarded}
 

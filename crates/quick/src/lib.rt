@@ -11,7 +11,6 @@ ghost use lib.ListN.{drop};
 ghost use Rattle.terms.specs.Read.{readF};
 ghost use Rattle.terms.specs.Tree.{pick};
 ghost use Rattle.eval.specs.Answer.{answerF};
-ghost use Rattle.design.specs.Line.{rowOf};
 ghost use Rattle.layout.specs.Sizes.{countsOf};
 ghost use Rattle.quick.specs.Quick.{keptIn, answeredIn, stepIn, heldIf, lookIn, looksIn, rowIn, plannedIn, implIn, repliedIf, repliedIn, replyLooks, replyIn, replyPlanned, specIn, passesIn};
 

@@ -1,14 +1,14 @@
 -- `columnsFault` computes the lowest of the faults 1, 2 and 3 of a text (`columns-lowest`), each of which is what specs/Text says
 -- (`fault-2`, `fault-3`); where 3 is absent, a text's fields are at most 256 a line and 4,096 in all (`most-in-line`, `most-in-all`).
-use Prim.Native.Nat.{ℕ, zero, suc, _+_, _*_, _<_, _≤_}
+use Prim.Native.Nat.{ℕ, _*_, _<_, _≤_}
 use mathlib.Core.Path.{_≡_, refl, sym, ap, _∙_}
 use mathlib.Core.Logic.{_≢_, _↔_, _⊎_, inl, inr}
-use mathlib.Core.Bool.{Bool, true, false, cond, not, _&&_, _||_, or-true, true≢false, false≢true}
-use mathlib.Core.List.{List, [], _∷_, _++_, append-nil, List·Memᴰ, List·Memᴰ·head, List·Memᴰ·tail, List·Memᴰ·cases-cons, List·Memᴰ·not-nil}
+use mathlib.Core.Bool.{Bool, true, false, cond, not, _||_, or-true, true≢false, false≢true}
+use mathlib.Core.List.{List, [], _∷_, append-nil, List·Memᴰ, List·Memᴰ·head, List·Memᴰ·tail, List·Memᴰ·cases-cons, List·Memᴰ·not-nil}
 use native.Mathlib.Omega.{arith}
-use borrow.Author.Tests.{lt-ltb, le-ltb, eq-eqb, ne-eqb, eqb-true, eqb-false, ltb-true, ltb-false, not-true}
+use borrow.Author.Tests.{lt-ltb, eq-eqb, ne-eqb, eqb-true, eqb-false, ltb-true, ltb-false, not-true}
 use lib.Dec.{eqb, ltb}
-use lib.ListN.{length, take}
+use lib.ListN.{length}
 use lib.Seq.{take-all}
 use Rattle.reader.specs.Line.{written, Each16, IsLine, fieldsFrom, fieldsOf}
 use Rattle.reader.specs.Text.{linesOf, lastOf, fieldsByLine, countAll, Fault1, Fault2, broken, unended, Fault3, long-line, many, ColumnsFault, first, second, third, free, isLine, anyLine, fault2, fault3, linesFault, columnsFault}

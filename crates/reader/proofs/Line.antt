@@ -6,13 +6,13 @@ use mathlib.Core.Path.{_≡_, refl, sym, ap, _∙_}
 use mathlib.Core.Logic.{_≢_}
 use mathlib.Core.List.{List, [], _∷_, _++_, append-assoc}
 use native.Mathlib.Omega.{arith}
-use lib.ListN.{length, take, drop, length-take, length-drop, drop-of-length-le, length-append, take-append-drop}
+use lib.ListN.{length, take, drop, length-take, length-drop, drop-of-length-le}
 use lib.Seq.{take-all, drop-drop, take-at, drop-at, take-add}
-use Rattle.reader.specs.Columns.{columnsOf, IsField, fieldOf}
-use Rattle.reader.specs.Line.{written, Each16, none, more, IsLine, fieldAt, andThen, fieldsFrom, fieldsOf}
+use Rattle.reader.specs.Columns.{columnsOf, fieldOf}
+use Rattle.reader.specs.Line.{written, Each16, none, more, fieldAt, andThen, fieldsFrom, fieldsOf}
 use Rattle.reader.specs.declared.Field.{Field}
 use Rattle.reader.specs.declared.Field.the-variants.{Number, Malformed}
-use Rattle.reader.proofs.Columns.{is-field, field-is, six, read-back}
+use Rattle.reader.proofs.Columns.{is-field, six, read-back}
 
 -- a part of a slice up to its end
 pub part-all : (bytes : List ℕ) (at : ℕ) → take (length bytes - at) (drop at bytes) ≡ drop at bytes

@@ -7,9 +7,9 @@ use mathlib.Core.Bool.{Bool, true, false, cond}
 use mathlib.Core.List.{List, [], _∷_}
 use native.Mathlib.Omega.{arith}
 use native.Mathlib.Nat.{div-eq-of-lt, div-div-eq-div-mul, pow-suc, div-lt-iff-lt-mul, div-le-self, mod-lt, mod-eq-of-lt, div-add-mod', le-div-iff-mul-le}
-use borrow.Author.Tests.{lt-ltb, le-ltb, eq-eqb, ne-eqb, eqb-true, eqb-false, ltb-true, ltb-false}
+use borrow.Author.Tests.{lt-ltb, le-ltb, ne-eqb, eqb-true, eqb-false, ltb-true, ltb-false}
 use lib.Dec.{eqb, ltb}
-use lib.ListN.{length, drop}
+use lib.ListN.{length}
 use Rattle.reader.specs.Columns.{columnOf, columnsOf, IsField, fieldOf}
 use Rattle.reader.specs.Scan.{blanksOf, digitsFrom, alone, afterBlanks, scanned}
 use Rattle.reader.specs.declared.Field.{Field}

@@ -1,23 +1,23 @@
 -- Laws of a text's lines (specs/Text). The first line of a text, and the lines after it (`lines-first`); where fields stand one after
 -- the other, they are those of the first line (`first-line`), and it is whole if a byte 10 follows them (`whole-line`).
-use Prim.Native.Nat.{ℕ, zero, suc, _+_, _-_, _*_, _/_, _%_, _<_, _≤_}
+use Prim.Native.Nat.{ℕ, suc, _+_, _-_, _*_, _%_, _<_}
 use mathlib.Core.Path.{_≡_, refl, sym, ap, _∙_}
 use mathlib.Core.Logic.{_≢_}
-use mathlib.Core.Bool.{Bool, true, false, cond, not, _&&_, _||_, or-true, and-false}
+use mathlib.Core.Bool.{Bool, true, false, cond, and-false}
 use mathlib.Core.List.{List, [], _∷_, _++_, append-nil, append-assoc, nil≢cons}
 use native.Mathlib.Omega.{arith}
 use native.Mathlib.Numerals.{add-one}
-use borrow.Author.Tests.{lt-ltb, le-ltb, eq-eqb, ne-eqb, eqb-true, eqb-false}
-use lib.Dec.{eqb, ltb}
-use lib.ListN.{length, getD, take, drop, length-append, length-drop, length-take, drop-of-length-le, take-append-drop}
+use borrow.Author.Tests.{lt-ltb, eq-eqb, ne-eqb}
+use lib.Dec.{eqb}
+use lib.ListN.{length, getD, take, drop, length-append, length-take, take-append-drop}
 use lib.Seq.{drop-length, drop-cons, take-take}
 use Rattle.reader.specs.Columns.{columnOf, columnsOf, fieldOf}
-use Rattle.reader.specs.Line.{written, Each16, none, more, fieldAt, fieldsFrom, fieldsOf}
-use Rattle.reader.specs.Text.{before, linesOf, lastOf, isLine}
+use Rattle.reader.specs.Line.{written, fieldsFrom, fieldsOf}
+use Rattle.reader.specs.Text.{linesOf, lastOf, isLine}
 use Rattle.reader.specs.declared.Field.{Field}
 use Rattle.reader.specs.declared.Field.the-variants.{Number, Malformed}
-use Rattle.reader.proofs.Columns.{is-field, field-is, six, no-line-end}
-use Rattle.reader.proofs.Line.{first-field, no-field, rest-fields, fields-written, length-columns, begins, too-short}
+use Rattle.reader.proofs.Columns.{is-field, six, no-line-end}
+use Rattle.reader.proofs.Line.{first-field, no-field, rest-fields, fields-written, length-columns, begins}
 
 -- ---- the first line, up to a byte 10, and what follows that byte
 

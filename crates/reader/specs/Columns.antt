@@ -2,7 +2,7 @@
 -- "A field is a decimal number from 0 to 65,535, right-justified, blanks (byte 32) before it, no leading zero, 0 written as one
 -- digit." So a field is the one way of writing a number, and that way is `columnsOf`; six columns are the field of a number if they
 -- are what it is written as (`IsField`). `fieldOf` finds that number. That it does is proved in proofs/Columns.
-use Prim.Native.Nat.{ℕ, zero, suc, _+_, _-_, _*_, _/_, _%_, _<_}
+use Prim.Native.Nat.{ℕ, _+_, _-_, _*_, _/_, _%_, _<_}
 use mathlib.Core.Path.{_≡_}
 use mathlib.Core.Bool.{Bool, true, false, cond, _&&_}
 use mathlib.Core.List.{List, [], _∷_}

@@ -1,6 +1,6 @@
 -- How a field is found column by column: blanks, then digits. That it finds what `fieldOf` says is proved in proofs/Scan; no
 -- reader of 01 needs this file.
-use Prim.Native.Nat.{ℕ, zero, suc, _+_, _-_, _*_}
+use Prim.Native.Nat.{ℕ, suc, _+_, _-_, _*_}
 use mathlib.Core.Bool.{cond}
 use mathlib.Core.List.{List, [], _∷_}
 use lib.Dec.{eqb, ltb}

@@ -1,10 +1,9 @@
 -- The lines of a text, and the faults that its columns can have: 1, 2 and 3 of 01, "Turned down by the input".
 -- Each fault is a statement about the text, and `ColumnsFault` says which of them is the lowest; `columnsFault` computes it, which is
 -- proved in proofs/Faults. `textOf` is the text with given lines of fields: the only one (proofs/Written).
-use Prim.Native.Nat.{ℕ, zero, suc, _+_, _*_, _<_}
-use mathlib.Core.Path.{_≡_}
+use Prim.Native.Nat.{ℕ, _+_, _*_, _<_}
 use mathlib.Core.Logic.{_≢_}
-use mathlib.Core.Bool.{Bool, true, false, cond, not, _&&_, _||_}
+use mathlib.Core.Bool.{Bool, false, cond, not, _&&_, _||_}
 use mathlib.Core.List.{List, [], _∷_, _++_, map, List·Memᴰ}
 use lib.Dec.{eqb, ltb}
 use lib.ListN.{length}

@@ -1,7 +1,7 @@
 -- What the functions of the code return, and the turns of their loops, as the definitions of specs/Arrays say it: what is left gives
 -- the whole. That these are the state, the steps and the tests of a design is in proofs/States.
 use mathlib.Core.Path.{_≡_, refl, sym, _∙_, ap}
-use mathlib.Core.Bool.{Bool, true, false, _&&_}
+use mathlib.Core.Bool.{Bool, true, false}
 use mathlib.Core.List.{List, [], _∷_}
 use Prim.Native.Nat.{ℕ, zero, suc, _+_, _-_, _≤_, _<_, _%_, _/_, min}
 use native.Mathlib.Numerals.{add-one}
@@ -15,7 +15,7 @@ use Rattle.foundation.specs.Radix.{belowB, sameB, splitOf}
 use Rattle.terms.specs.Tree.{pick, evalV, evalF}
 use Rattle.terms.specs.Read.{readV, readF}
 use Rattle.terms.proofs.Read.{place}
-use Rattle.criteria.specs.Design.{Parameter, Row}
+use Rattle.criteria.specs.Design.{Row}
 use Rattle.criteria.specs.Rows.{noRow, rowAt}
 use Rattle.decision.specs.Tests.{rowFrom}
 use Rattle.eval.specs.Answer.{answerV, answerF}

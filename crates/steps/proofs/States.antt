@@ -1,32 +1,28 @@
 -- What the arrays of specs/Arrays hold: the states, steps, invariant, mapping and measure of the design. An array of eight values
 -- holds a state x if it is `padded x`: a term has the same value at both, since past its end a state's values count as 0.
 use mathlib.Core.Path.{_≡_, refl, sym, _∙_, ap}
-use mathlib.Core.Logic.{_⊎_, inl, inr, _≢_}
-use mathlib.Core.Bool.{Bool, _&&_}
-use mathlib.Core.List.{List, [], _∷_, _++_, map}
+use mathlib.Core.List.{List, [], _∷_, _++_}
 use Prim.Native.Nat.{ℕ, zero, suc, _+_, _-_, _%_, _≤_, _<_, min}
 use native.Mathlib.Decide.{decLt}
 use native.Mathlib.Omega.{arith}
-use lib.ListN.{length, getD, drop, replicate, length-map, length-replicate, getD-replicate, List·getD-append, List·getD-eq-default}
+use lib.ListN.{length, getD, drop, replicate, length-map, getD-replicate, List·getD-append, List·getD-eq-default}
 use lib.Seq.{sets-eq, getD-append-add, getD-drop}
 use Rattle.foundation.specs.Nth.{EachIs}
-use Rattle.foundation.specs.Radix.{Below, product, belowB, sameB, valuesOf, splitOf}
+use Rattle.foundation.specs.Radix.{product, belowB, sameB, valuesOf}
 use Rattle.foundation.proofs.Nth.{nth-nil, nth-cons}
 use Rattle.foundation.proofs.Radix.{from-the-last}
 use Rattle.terms.specs.Tree.{Value, Formula, num, par, sumValue, choice, noValue, const, compare, negation, join, noFormula, evalV, evalF}
 use Rattle.terms.specs.Tree as tree
-use Rattle.criteria.specs.Design.{Parameter, Row, values, sizes, initialState, mapped, measureAt}
-use Rattle.criteria.specs.Step.{nextState}
+use Rattle.criteria.specs.Design.{Row, values, sizes, initialState, mapped, measureAt}
 use Rattle.criteria.specs.Rows.{noRow, rowAt}
-use Rattle.decision.specs.Tests.{enabledB, invariantB, invariantStateB, rowFrom, rowOf}
+use Rattle.decision.specs.Tests.{invariantB, invariantStateB, rowFrom, rowOf}
 use Rattle.decision.specs.Examine.{stateAt}
 use Rattle.design.specs.Line as line
 use Rattle.design.specs.Line.{valuesIn}
 use Rattle.design.specs.Loaded.{lineFrom, eachLine, designIn}
 use Rattle.design.specs.declared.Counts.{Counts}
-use Rattle.layout.specs.Sizes.{Fit, parametersFrom, sizesOf}
+use Rattle.layout.specs.Sizes.{Fit}
 use Rattle.steps.specs.Arrays.{padded, front, stepOf, rowsFrom, rowStep, rowSpan, rowWith, stateIn, initialIn, belowIn, sameIn, invariantIn, insideIn, mappedIn, measureIn, implStep, specStep, implSpan, specSpan, implRow, specRow}
-use Rattle.steps.specs.declared.Step.{Step}
 use Rattle.steps.proofs.Arrays.{each-length}
 
 -- ---- a term at two lists of values that agree wherever they are asked

@@ -4,20 +4,19 @@
 --            desk's copy too, where the evaluator reads it);
 --   passes   a part that begins with a well-formed term within the depth passes.
 -- Each stands once for values (-v) and once for formulas (-f).
-use mathlib.Core.Path.{_≡_, refl, sym, ap, _∙_}
-use mathlib.Core.Bool.{Bool, true, false}
+use mathlib.Core.Path.{_≡_, refl, ap, _∙_}
+use mathlib.Core.Bool.{Bool, true}
 use mathlib.Core.List.{List, _++_}
 use Prim.Native.Nat.{ℕ, _≤_, _*_}
 use lib.ListN.{length, drop}
 use Rattle.terms.specs.Tree.{Value, Formula, okV, okF}
-use Rattle.terms.specs.Read.{Reader, Read, leaf, readV, readF}
+use Rattle.terms.specs.Read.{Reader, leaf, readV, readF}
 use Rattle.terms.specs.Depth.{depthV, depthF}
 use Rattle.terms.specs.Print.{printV, printF}
 use Rattle.terms.proofs.Printing.{Printed, read-print-v, read-print-f, print-read-v, print-read-f, read-more-v, read-more-f}
 use Rattle.reader.specs.Line.{fieldsOf}
 use Rattle.reader.proofs.Line.{rest-fields}
-use Rattle.term_check.specs.Checked.{checked, checkedV, checkedF}
-use Rattle.term_check.specs.declared.Checked.{Checked}
+use Rattle.term_check.specs.Checked.{checkedV, checkedF}
 use Rattle.term_check.specs.declared.Checked.the-variants.{Next}
 use Rattle.term_check.proofs.Laws.{good-of, took-of}
 

@@ -1,12 +1,12 @@
 -- A term that is read from fields has numbers that a field can hold.
 use mathlib.Core.List.{List, [], _∷_}
 use Prim.Native.Nat.{ℕ, zero, suc, _+_}
-use lib.ListN.{drop, getD}
+use lib.ListN.{drop}
 use lib.Seq.{getD-drop}
 use Rattle.terms.specs.Tree.{Value, Formula}
 use Rattle.terms.specs.Mark.{valueMark, formulaMark}
 use Rattle.terms.specs.Read.{Reader, readV, readF, valueBy, formulaBy}
-use Rattle.terms.specs.Fit.{Fits16, FitsAll, FitsV, FitsF}
+use Rattle.terms.specs.Fit.{FitsAll, FitsV, FitsF}
 use Rattle.terms.specs.declared.ValueMark.{ValueMark}
 use Rattle.terms.specs.declared.ValueMark.the-variants as vm
 use Rattle.terms.specs.declared.FormulaMark.{FormulaMark}

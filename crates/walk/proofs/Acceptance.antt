@@ -17,7 +17,7 @@ use Rattle.criteria.specs.Failure.{Failure, startFailure}
 use Rattle.criteria.specs.Verdict.{accepted}
 use Rattle.decision.specs.Tests.{holds1}
 use Rattle.decision.specs.Examine.{examine}
-use Rattle.decision.specs.Verdict.{overStates, checked, byOutcome, verdictOf}
+use Rattle.decision.specs.Verdict.{overStates, checked, byOutcome}
 use Rattle.decision.proofs.Demand2.{demand2}
 use Rattle.design.specs.Loaded.{designIn}
 use Rattle.design.specs.declared.Counts.{Counts}

@@ -4,18 +4,16 @@ use mathlib.Core.Path.{_≡_, refl, sym, _∙_, ap}
 use mathlib.Core.Bool.{Bool, true, false, not, _&&_}
 use mathlib.Core.List.{List}
 use Prim.Native.Nat.{ℕ, zero, suc, _+_, _-_, _≤_, _<_, min}
-use native.Mathlib.Numerals.{add-one}
 use native.Mathlib.Omega.{arith}
 use borrow.Author.Tests.{le-leb, lt-leb, leb-true, not-true, not-false}
 use lib.Dec.{leb}
 use lib.ListN.{length}
-use Rattle.foundation.specs.First.{Outcome, pass, fail}
-use Rattle.foundation.specs.Radix.{product, sameB}
+use Rattle.foundation.specs.First.{Outcome, pass}
 use Rattle.foundation.specs.Walk as theWalk
-use Rattle.foundation.specs.Walk.{plus, after}
+use Rattle.foundation.specs.Walk.{plus}
 use Rattle.foundation.proofs.Walk.{walk-goes, walk-stops}
 use Rattle.terms.specs.Tree.{pick}
-use Rattle.criteria.specs.Design.{Design, sizes, states, mapped, initialState}
+use Rattle.criteria.specs.Design.{Design, states, mapped, initialState}
 use Rattle.criteria.specs.Failure.{Failure}
 use Rattle.decision.specs.Tests.{invariantB, holds1}
 use Rattle.decision.specs.Quick.{stateHolds}
@@ -26,7 +24,7 @@ use Rattle.design.specs.declared.Counts.{Counts}
 use Rattle.layout.specs.Sizes.{countsFit, Fit, shapeOf, countsOf, stateCountIn}
 use Rattle.layout.specs.declared.Shape.{Shape}
 use Rattle.layout.proofs.Sizes.{fit, counts-kept}
-use Rattle.steps.specs.Arrays.{padded, initialIn, stateIn, invariantIn, mappedIn, sameIn}
+use Rattle.steps.specs.Arrays.{initialIn, stateIn, invariantIn, mappedIn, sameIn}
 use Rattle.steps.proofs.States as held
 use Rattle.lowest.specs.Search.{toldPlace, searchIn}
 use Rattle.lowest.specs.declared.Place.{Place}

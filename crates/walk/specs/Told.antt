@@ -1,5 +1,4 @@
 -- What the code's answers say, in the words of the crates foundation and criteria.
-use mathlib.Core.List.{List}
 use Prim.Native.Nat.{ℕ}
 use Rattle.foundation.specs.First.{Outcome, pass, fail}
 use Rattle.foundation.specs.Walk.{Walked}
@@ -7,7 +6,6 @@ use Rattle.criteria.specs.Failure.{Failure}
 use Rattle.decision.specs.Examine.{named}
 use Rattle.lowest.specs.Search.{toldPlace}
 use Rattle.lowest.specs.declared.Finding.{Finding}
-use Rattle.walk.specs.declared.Failure.{Failure as Said}
 use Rattle.walk.specs.declared.Outcome.{Outcome as Answer}
 use Rattle.walk.specs.declared.Outcome.the-variants.{Pass, Fail}
 use Rattle.walk.specs.declared.Walked.{Walked as WalkAnswer}

@@ -1,7 +1,7 @@
 -- Laws of what is written: six stores are a field, five fields and a byte 10 the report (`report-sets`), which reads back as its five
 -- numbers (`report-read`).
 use Prim.Native.Nat.{ℕ, _+_, _%_, _<_, _≤_}
-use mathlib.Core.Path.{_≡_, refl, sym}
+use mathlib.Core.Path.{_≡_, sym}
 use mathlib.Core.Logic.{_≢_}
 use mathlib.Core.List.{List, [], _∷_, _++_, nil≢cons}
 use native.Mathlib.Omega.{arith}
@@ -10,7 +10,7 @@ use lib.ListN.{length, set, drop}
 use lib.Seq.{sets, sets-eq}
 use Rattle.reader.specs.Columns.{columnOf, columnsOf}
 use Rattle.reader.specs.Line.{written, Each16, none, more}
-use Rattle.reader.specs.Text.{textOf, fieldsByLine, Lines}
+use Rattle.reader.specs.Text.{textOf, fieldsByLine}
 use Rattle.reader.specs.Text as text
 use Rattle.reader.proofs.Written.{written-lines}
 use Rattle.writer.specs.Report.{fieldsOfReport, reportOf}

@@ -1,6 +1,5 @@
 -- `checker::report_of` has the report's numbers for each verdict.
 use borrow.Author.Needs.{needs}
-use Rattle.checker.proofs.Judging as judging
 use Rattle.checker.proofs.report_of.Statement.{statement}
 use Rattle.checker.proofs.report_of.Tie as tie
 

@@ -2,7 +2,7 @@
 use borrow.Author.Needs.{needs}
 use native.Mathlib.Omega.{arith}
 use mathlib.Core.Path.{_≡_}
-use Prim.Native.Nat.{_-_, _≤_}
+use Prim.Native.Nat.{_-_}
 use Prim.Native.Nat.{_+_}
 use Rattle.conjuncts.proofs.Conjuncts as laws
 use Rattle.conjuncts.specs.Conjuncts.{frontOf}

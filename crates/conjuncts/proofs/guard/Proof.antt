@@ -1,8 +1,7 @@
 -- What is left to evaluate gives the whole.
 use borrow.Author.Needs.{needs}
-use native.Mathlib.Omega.{arith}
 use mathlib.Core.Path.{_≡_}
-use Prim.Native.Nat.{_-_, _≤_}
+use Prim.Native.Nat.{_-_}
 use Rattle.conjuncts.proofs.Conjuncts as laws
 use Rattle.conjuncts.specs.Conjuncts.{guardIn}
 use Rattle.conjuncts.proofs.guard.Statement.{statement}

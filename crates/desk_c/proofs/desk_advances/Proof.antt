@@ -3,12 +3,6 @@ use borrow.Author.Needs.{needs}
 use Prim.Native.Nat.{_-_}
 use Rattle.desk_c.proofs.desk_advances.Statement.{statement}
 use Rattle.desk_c.proofs.desk_advances.Tie as tie
-use Rattle.desk_c.proofs.desk_advances.Reads as reads
-use Rattle.desk_c.proofs.desk_advances.Lts as lts
-use Rattle.desk.proofs.Desk.advance.Reads as advance-reads
-use Rattle.desk.proofs.Desk.empty.Reads as empty-reads
-use Rattle.desk.proofs.Desk.load.Reads as load-reads
-use Rattle.desk_c.proofs.stays_open.Reads as stays-open-reads
 
 abbrev Inv-loop : tie.InvT-loop
 Inv-loop text n desk₀ made₀ desk made = Unit {0}

@@ -10,9 +10,6 @@ use Rattle.desk.specs.declared.Desk.{Desk}
 use Rattle.desk.specs.declared.AfterLoad.{AfterLoad}
 use Rattle.desk_calls.proofs.load_start.Statement.{statement}
 use Rattle.desk_calls.proofs.load_start.Tie as tie
-use Rattle.desk_calls.proofs.load_start.Reads as reads
-use Rattle.desk_calls.proofs.load_start.Lts as lts
-use Rattle.desk.proofs.Desk.load.Reads as load-reads
 
 part-first : (d : Desk) (s : List ℕ) (n : ℕ) (r : AfterLoad) → r ≡ loadOf d (take (n - 0) (drop 0 s)) → r ≡ loadOf d (take n s)
 part-first d s n r h = let e : n - 0 ≡ n = omega arith in h ∙ rw e

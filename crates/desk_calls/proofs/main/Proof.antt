@@ -3,10 +3,6 @@ use borrow.Author.Needs.{needs}
 use Prim.Native.Nat.{_-_}
 use Rattle.desk_calls.proofs.main.Statement.{statement}
 use Rattle.desk_calls.proofs.main.Tie as tie
-use Rattle.desk_calls.proofs.main.Reads as reads
-use Rattle.desk_calls.proofs.main.Lts as lts
-use Rattle.desk_calls.proofs.run_call.Reads as run-call-reads
-use Rattle.desk.proofs.Desk.empty.Reads as empty-reads
 
 abbrev Inv-loop : tie.InvT-loop
 Inv-loop desk₀ line₀ desk line = Unit {0}

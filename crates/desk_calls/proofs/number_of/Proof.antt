@@ -4,9 +4,6 @@ use Prim.Native.Nat.{_-_}
 use lib.ListN.{length}
 use Rattle.desk_calls.proofs.number_of.Statement.{statement}
 use Rattle.desk_calls.proofs.number_of.Tie as tie
-use Rattle.desk_calls.proofs.number_of.Reads as reads
-use Rattle.desk_calls.proofs.number_of.Lts as lts
-use Rattle.desk_calls.proofs.with_digit.Reads as with-digit-reads
 
 abbrev Inv-loop : tie.InvT-loop
 Inv-loop digits n₀ i₀ n i = Unit {0}

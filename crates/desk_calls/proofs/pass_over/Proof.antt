@@ -2,9 +2,6 @@
 use borrow.Author.Needs.{needs}
 use Rattle.desk_calls.proofs.pass_over.Statement.{statement}
 use Rattle.desk_calls.proofs.pass_over.Tie as tie
-use Rattle.desk_calls.proofs.pass_over.Reads as reads
-use Rattle.desk_calls.proofs.pass_over.Lts as lts
-use Rattle.desk_calls.proofs.read_some.Reads as read-some-reads
 
 abbrev Inv-loop : tie.InvT-loop
 Inv-loop n left₀ left = Unit {0}

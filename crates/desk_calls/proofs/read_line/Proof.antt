@@ -3,10 +3,6 @@ use borrow.Author.Needs.{needs}
 use Prim.Native.Nat.{_-_}
 use Rattle.desk_calls.proofs.read_line.Statement.{statement}
 use Rattle.desk_calls.proofs.read_line.Tie as tie
-use Rattle.desk_calls.proofs.read_line.Reads as reads
-use Rattle.desk_calls.proofs.read_line.Lts as lts
-use Rattle.desk_calls.proofs.read_byte.Reads as read-byte-reads
-use Rattle.desk_calls.proofs.ended_after.Reads as ended-after-reads
 
 abbrev Inv-loop : tie.InvT-loop
 Inv-loop bytes₀ n₀ bytes n = Unit {0}

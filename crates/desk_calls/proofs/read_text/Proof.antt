@@ -3,10 +3,6 @@ use borrow.Author.Needs.{needs}
 use Prim.Native.Nat.{_-_, _≤_}
 use Rattle.desk_calls.proofs.read_text.Statement.{statement}
 use Rattle.desk_calls.proofs.read_text.Tie as tie
-use Rattle.desk_calls.proofs.read_text.Reads as reads
-use Rattle.desk_calls.proofs.read_text.Lts as lts
-use Rattle.desk_calls.proofs.read_byte.Reads as read-byte-reads
-use Rattle.desk_calls.proofs.least.Reads as least-reads
 
 abbrev Inv-loop : tie.InvT-loop
 Inv-loop n text₀ most i₀ text i = i ≤ most

@@ -5,8 +5,6 @@ use lib.ListN.{length}
 use mathlib.Core.Path.{_≡_}
 use Rattle.desk_calls.proofs.same.Statement.{statement}
 use Rattle.desk_calls.proofs.same.Tie as tie
-use Rattle.desk_calls.proofs.same.Reads as reads
-use Rattle.desk_calls.proofs.same.Lts as lts
 
 abbrev Inv-loop : tie.InvT-loop
 Inv-loop a b i₀ i = length a ≡ length b

@@ -1,5 +1,4 @@
 -- The rows of one process or the other.
-use borrow.Author.Needs.{needs}
 use Rattle.lowest.specs.Search.{rowsIn}
 use borrow.Author.Tests.{ne-eqb}
 use Rattle.lowest.proofs.rows_for.Statement.{statement}

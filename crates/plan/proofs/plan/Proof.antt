@@ -1,8 +1,7 @@
 -- What is left to store gives the whole.
 use borrow.Author.Needs.{needs}
 use mathlib.Core.Path.{_≡_}
-use Prim.Native.Nat.{_-_, _≤_}
-use native.Mathlib.Omega.{arith}
+use Prim.Native.Nat.{_-_}
 use Rattle.plan.proofs.Planned as laws
 use Rattle.layout.specs.Sizes.{countsOf}
 use Rattle.plan.specs.Plan.{planIn}

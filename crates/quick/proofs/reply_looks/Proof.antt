@@ -1,8 +1,7 @@
 -- What is left of the row gives the whole.
 use borrow.Author.Needs.{needs}
-use native.Mathlib.Omega.{arith}
 use mathlib.Core.Path.{_≡_}
-use Prim.Native.Nat.{_-_, _≤_}
+use Prim.Native.Nat.{_-_}
 use Rattle.quick.proofs.Seeing as laws
 use Rattle.layout.specs.Sizes.{countsOf}
 use Rattle.quick.specs.Quick.{replyLooks}

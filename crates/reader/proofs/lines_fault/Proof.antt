@@ -1,6 +1,6 @@
 -- `reader::lines_fault` finds the lower of the faults 2 and 3: at each line's start the fault of what is left, with what was found so
 -- far, is that of the whole text.
-use Prim.Native.Nat.{_+_, _-_, _*_, _≤_}
+use Prim.Native.Nat.{_-_, _*_, _≤_}
 use mathlib.Core.Path.{_≡_}
 use native.Mathlib.Omega.{arith}
 use borrow.Author.Needs.{needs}

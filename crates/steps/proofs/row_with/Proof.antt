@@ -1,9 +1,8 @@
 -- The search among the rows that are left gives the whole.
 use borrow.Author.Needs.{needs}
 use Rattle.steps.proofs.Arrays as laws
-use native.Mathlib.Omega.{arith}
 use mathlib.Core.Path.{_≡_}
-use Prim.Native.Nat.{_-_, _≤_, min}
+use Prim.Native.Nat.{_-_}
 use Rattle.steps.specs.Arrays.{rowWith}
 use Rattle.steps.proofs.row_with.Statement.{statement}
 use Rattle.steps.proofs.row_with.Tie as tie

@@ -3,7 +3,6 @@ use borrow.Author.Needs.{needs}
 use mathlib.Core.Path.{_≡_}
 use Prim.Native.Nat.{_-_, _≤_, min}
 use native.Mathlib.Omega.{arith}
-use lib.ListN.{length}
 use Rattle.steps.proofs.Arrays as laws
 use Rattle.steps.proofs.state.Statement.{statement}
 use Rattle.steps.proofs.state.Tie as tie

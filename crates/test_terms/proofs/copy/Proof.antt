@@ -1,12 +1,8 @@
 -- The proof of `copy`: it is safe and ends; nothing is said of what it writes.
 use borrow.Author.Needs.{needs}
 use Prim.Native.Nat.{_-_, _≤_}
-use native.Mathlib.Omega.{arith}
 use Rattle.test_terms.proofs.copy.Statement.{statement}
 use Rattle.test_terms.proofs.copy.Tie as tie
-use Rattle.test_terms.proofs.copy.Reads as reads
-use Rattle.test_terms.proofs.copy.Lts as lts
-use Rattle.test_terms.proofs.number.Reads as number-reads
 
 abbrev Inv-loop : tie.InvT-loop
 Inv-loop part fields₀ at i₀ fields i = at ≤ i

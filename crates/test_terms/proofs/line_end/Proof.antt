@@ -4,8 +4,6 @@ use Prim.Native.Nat.{_-_, _≤_}
 use lib.ListN.{length}
 use Rattle.test_terms.proofs.line_end.Statement.{statement}
 use Rattle.test_terms.proofs.line_end.Tie as tie
-use Rattle.test_terms.proofs.line_end.Reads as reads
-use Rattle.test_terms.proofs.line_end.Lts as lts
 
 abbrev Inv-loop : tie.InvT-loop
 Inv-loop text from at₀ at = (from ≤ at) × (at ≤ length text)

@@ -4,10 +4,6 @@ use Prim.Native.Nat.{_-_}
 use lib.ListN.{length}
 use Rattle.test_terms.proofs.run_lines.Statement.{statement}
 use Rattle.test_terms.proofs.run_lines.Tie as tie
-use Rattle.test_terms.proofs.run_lines.Reads as reads
-use Rattle.test_terms.proofs.run_lines.Lts as lts
-use Rattle.test_terms.proofs.line_end.Reads as line-end-reads
-use Rattle.test_terms.proofs.run_case.Reads as run-case-reads
 
 abbrev Inv-loop : tie.InvT-loop
 Inv-loop text at₀ at = Unit {0}
