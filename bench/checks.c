@@ -1,6 +1,6 @@
 /* checks ROUNDS LIMITS TABLE..: the time of check_design on each table against a plain C walk and the reference checker; that of loading
  * the text LIMITS; and that of advancing by 1 over the states of each table that has 65,536. All are run in turn, ROUNDS times; the
- * middle time of each counts. A ratio is our time over theirs. */
+ * least time of each counts, as that with the least other work beside it. A ratio is our time over theirs. */
 #define _POSIX_C_SOURCE 200809L
 #include <time.h>
 #include "../include/checker.h"
@@ -11,7 +11,7 @@
 uint32_t desk_load(const uint8_t *text, size_t text_len);
 uint64_t desk_advances(const uint8_t *text, size_t text_len, uint64_t n);
 
-enum { MOST_ROUNDS = 64, OURS = 0, PLAIN, HOISTED, REFERENCE, SORTS };
+enum { OURS, PLAIN, HOISTED, REFERENCE, SORTS };
 
 struct text {
     uint8_t bytes[65536];
@@ -89,16 +89,10 @@ static double now(void)
     return t.tv_sec + t.tv_nsec * 1e-9;
 }
 
-static int ordered(const void *a, const void *b)
-{
-    double x = *(const double *)a, y = *(const double *)b;
-    return (x > y) - (x < y);
-}
-
 /* Runs each sort in turn, and prints our time and the ratios. What takes under a hundredth of a second is run as often as fills it. */
 static void measure(const char *name, const struct job *j, int rounds)
 {
-    double took[SORTS][MOST_ROUNDS], start = now();
+    double least[SORTS] = {0}, start = now();
     if (!j->run[OURS](j)) { fprintf(stderr, "%s: not as it has to be\n", name); exit(1); }
     double once = now() - start;
     long times = once < 0.01 ? (long)(0.01 / (once + 1e-9)) + 1 : 1;
@@ -108,12 +102,12 @@ static void measure(const char *name, const struct job *j, int rounds)
             start = now();
             for (long i = 0; i < times; i++)
                 if (!j->run[k](j)) { fprintf(stderr, "%s: not as it has to be\n", name); exit(1); }
-            took[k][r] = (now() - start) / times;
+            double took = (now() - start) / times;
+            if (r == 0 || took < least[k]) least[k] = took;
         }
-    for (int k = 0; k < SORTS; k++) qsort(took[k], rounds, sizeof(double), ordered);
-    printf("%-24s %8zu %12.3f", name, j->table.states, 1e3 * took[OURS][rounds / 2]);
+    printf("%-32s %8zu %12.3f", name, j->table.states, 1e3 * least[OURS]);
     for (int k = 1; k < SORTS; k++)
-        if (j->run[k]) printf(" %10.2f", took[OURS][rounds / 2] / took[k][rounds / 2]);
+        if (j->run[k]) printf(" %10.2f", least[OURS] / least[k]);
         else printf(" %10s", "-");
     printf("\n");
     fflush(stdout);
@@ -141,8 +135,8 @@ int main(int n, char **words)
     static struct job j;
     char name[64];
     int rounds = n > 3 ? atoi(words[1]) : 0;
-    if (rounds < 1 || rounds > MOST_ROUNDS) { fprintf(stderr, "usage: checks ROUNDS LIMITS TABLE..\n"); return 2; }
-    printf("%-24s %8s %12s %10s %10s %10s\n", "our time over that of", "states", "ours, ms", "C", "C hoisted", "reference");
+    if (rounds < 1) { fprintf(stderr, "usage: checks ROUNDS LIMITS TABLE..\n"); return 2; }
+    printf("%-32s %8s %12s %10s %10s %10s\n", "our time over that of", "states", "ours, ms", "C", "C hoisted", "reference");
     for (int i = 3; i < n; i++) {
         read_job(words[i], &j);
         memcpy(j.run, ((int (*[])(const struct job *)){ours, plain, hoisted, reference}), sizeof j.run);
