@@ -50,7 +50,7 @@ module _ (text : List ℕ) (t : DesignText text) where
       let p = latest q in
       let same : now u ≡ text = cc in
       let answered : a ≡ r .answer = cc in
-      answered ∙ ap (λ x. x .answer) e ∙ rw same (load-new d (new-is c (earlier q)))
+      answered ∙ ap (λ x. x .answer) (e .0) ∙ rw same (load-new d (new-is c (earlier q)))
   first-load (then-advance n c e) q = let p = latest q in let z : _≡_ {A = ℕ} 0 1 = cc in absurd (omega arith)
   first-load (then-verdict c e) q = let p = latest q in let z : _≡_ {A = ℕ} 0 1 = cc in absurd (omega arith)
   first-load (then-drop c e) q = let p = latest q in let z : _≡_ {A = ℕ} 0 1 = cc in absurd (omega arith)

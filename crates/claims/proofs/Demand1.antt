@@ -47,7 +47,7 @@ abbrev pub Drops : Desk → AfterDrop → Type 0
 Drops desk r = drop-reads.Post tt (desk, tt) r (desk, tt)
 
 loaded-as : {d : Desk} {text : List ℕ} {r : AfterLoad} → Loads d text r → r ≡ loadOf d text
-loaded-as (loads κs d text p) = p
+loaded-as (loads κs d text p) = p .0
 
 -- ---- what is refused
 
@@ -91,13 +91,13 @@ module _ (d : Desk) where
 
   pub refusals : Refusals d
   refusals = record {
-    advance-empty = λ n p e. p ∙ advance-at d n e;
-    verdict-empty = λ p e. p ∙ tell-at e;
-    drop-empty = λ p e. p ∙ drop-at e;
+    advance-empty = λ n p e. p .0 ∙ advance-at d n e;
+    verdict-empty = λ p e. p .0 ∙ tell-at e;
+    drop-empty = λ p e. p .0 ∙ drop-at e;
     load-held = λ p e. loaded-as p ∙ by-phase-load _ (d .phase) refl e;
-    verdict-open = λ p e. p ∙ tell-at e;
-    advance-decided = λ n p e o. p ∙ by-phase-advance n (d .phase) refl e o;
-    advance-none = λ p e. p ∙ advance-at d 0 e ∙ by-none d 0 refl;
+    verdict-open = λ p e. p .0 ∙ tell-at e;
+    advance-decided = λ n p e o. p .0 ∙ by-phase-advance n (d .phase) refl e o;
+    advance-none = λ p e. p .0 ∙ advance-at d 0 e ∙ by-none d 0 refl;
   }
 
 -- ---- the claim
@@ -158,6 +158,6 @@ claim1 = record {
   loaded = opened-by;
   other-text = λ d text o. turned-by d text (λ z. o (free-exactly text .0 z));
   other-call = refusals;
-  dropped = λ d p e. p ∙ dropped-by d (d .phase) refl e;
+  dropped = λ d p e. p .0 ∙ dropped-by d (d .phase) refl e;
   short-report = λ {text} {report} c l. (answered c ∙ short-answer text report l, written c ∙ short-buffer text report l);
 }

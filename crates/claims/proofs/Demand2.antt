@@ -51,7 +51,7 @@ claim2 text t =
       verdict = verdictOf (designText text);
       is = demand2 (designText text) (admitted text free);
       comes = record {
-        tells = λ c w l p. let r = reached c w in ap (λ x. x .answer) p ∙ decided-answer text _ (r .stage) (decided r l);
+        tells = λ c w l p. let r = reached c w in ap (λ x. x .answer) (p .0) ∙ decided-answer text _ (r .stage) (decided r l);
         counts = λ c w. reached c w .counts;
         answers = λ {report} c l. answered c ∙ long-answer text report l ∙ ap (λ j. j .verdict) (judged-free text free);
         reports = λ {report} c l. written c ∙ long-buffer text report l ∙ ap (λ j. bytes.reportOf j ++ drop 31 report) (judged-free text free);

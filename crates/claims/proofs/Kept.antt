@@ -139,10 +139,10 @@ drop-kept d = empty (drop-empty d (d .phase) refl)
 
 pub kept : {cs : List Called} {d : Desk} → Calls cs d → Kept cs d
 kept (new e) = empty (ap (λ x. x .phase) e)
-kept (then-load κs text c e) = rw e (load-kept (now text) (kept c))
-kept (then-advance n c e) = rw e (advance-kept n (kept c))
-kept (then-verdict c e) = rw e (verdict-kept (kept c))
-kept (then-drop {d = d} c e) = rw e (drop-kept d)
+kept (then-load κs text c e) = rw (e .0) (load-kept (now text) (kept c))
+kept (then-advance n c e) = rw (e .0) (advance-kept n (kept c))
+kept (then-verdict c e) = rw (e .0) (verdict-kept (kept c))
+kept (then-drop {d = d} c e) = rw (e .0) (drop-kept d)
 
 -- ---- a text accepted in a list
 
@@ -170,7 +170,7 @@ accepted-in (then-load κs t c e) (calls.before a) q = accepted-in c a (earlier 
 accepted-in (then-advance {r = r} n c e) (calls.here {n = m} {k = k} l) q =
     let p = latest q in
     let answer : r .answer ≡ progress.Accepted k = cc in
-    accepted-at n k (kept c) (rw (earlier q) l) (sym (ap (λ x. x .answer) e) ∙ answer)
+    accepted-at n k (kept c) (rw (earlier q) l) (sym (ap (λ x. x .answer) (e .0)) ∙ answer)
 accepted-in (then-advance n c e) (calls.before a) q = accepted-in c a (earlier q)
 accepted-in (then-verdict c e) (calls.here l) q = let p = latest q in let z : _≡_ {A = ℕ} 0 1 = cc in absurd (omega arith)
 accepted-in (then-verdict c e) (calls.before a) q = accepted-in c a (earlier q)

@@ -177,15 +177,15 @@ reached-in {text = text} (then-load {d = d} {r = r} κs t c e) calls.loaded q =
     let p = latest q in
     let same-text : now t ≡ text = cc in
     let answered : r .answer ≡ done.Done = cc in
-    let l = load-done (now t) (kept c) (ap (λ x. x .answer) (sym e) ∙ answered) in
-    rw (← same-text, answered) (loaded-reached _ (now t) (r .desk) (l .0) (ap (λ x. x .desk) e ∙ l .1))
+    let l = load-done (now t) (kept c) (ap (λ x. x .answer) (sym (e .0)) ∙ answered) in
+    rw (← same-text, answered) (loaded-reached _ (now t) (r .desk) (l .0) (ap (λ x. x .desk) (e .0) ∙ l .1))
 reached-in (then-load κs t c e) (calls.on w) q = let p = latest q in let z : _≡_ {A = ℕ} 0 1 = cc in absurd (omega arith)
 reached-in (then-load κs t c e) (calls.told w) q = let p = latest q in let z : _≡_ {A = ℕ} 0 1 = cc in absurd (omega arith)
 reached-in (then-load {d = d} {r = r} κs t c e) (calls.refused {j = j} w) q =
     let p = latest q in
     let answered : r .answer ≡ done.TurnedDown j = cc in
     let ih = reached-in c w (earlier q) in
-    let stays : r .desk ≡ d = ap (λ x. x .desk) e ∙ load-stays 0 ih (now t) (ih .stage) in
+    let stays : r .desk ≡ d = ap (λ x. x .desk) (e .0) ∙ load-stays 0 ih (now t) (ih .stage) in
     rw (stays, answered) (same (load (now t) (done.TurnedDown j)) calls.refused ih)
 reached-in (then-advance n c e) calls.loaded q = let p = latest q in let z : _≡_ {A = ℕ} 0 1 = cc in absurd (omega arith)
 reached-in (then-advance {r = r} n c e) (calls.on {n = i} {a = a} w) q =
@@ -193,12 +193,12 @@ reached-in (then-advance {r = r} n c e) (calls.on {n = i} {a = a} w) q =
     let many : i ≡ n = cc in
     let answered : a ≡ r .answer = cc in
     let ih = reached-in c w (earlier q) in
-    rw (many, answered, e) (advance-reached n ih (ih .stage))
+    rw (many, answered, e .0) (advance-reached n ih (ih .stage))
 reached-in (then-advance n c e) (calls.told w) q = let p = latest q in let z : _≡_ {A = ℕ} 0 1 = cc in absurd (omega arith)
 reached-in (then-advance n c e) (calls.refused w) q = let p = latest q in let z : _≡_ {A = ℕ} 0 1 = cc in absurd (omega arith)
 reached-in (then-verdict c e) calls.loaded q = let p = latest q in let z : _≡_ {A = ℕ} 0 1 = cc in absurd (omega arith)
 reached-in (then-verdict c e) (calls.on w) q = let p = latest q in let z : _≡_ {A = ℕ} 0 1 = cc in absurd (omega arith)
-reached-in (then-verdict {d = d} c e) (calls.told w) q = rw e (tells d (reached-in c w (earlier q)))
+reached-in (then-verdict {d = d} c e) (calls.told w) q = rw (e .0) (tells d (reached-in c w (earlier q)))
 reached-in (then-verdict c e) (calls.refused w) q = let p = latest q in let z : _≡_ {A = ℕ} 0 1 = cc in absurd (omega arith)
 reached-in (then-drop c e) calls.loaded q = let p = latest q in let z : _≡_ {A = ℕ} 0 1 = cc in absurd (omega arith)
 reached-in (then-drop c e) (calls.on w) q = let p = latest q in let z : _≡_ {A = ℕ} 0 1 = cc in absurd (omega arith)

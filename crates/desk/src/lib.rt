@@ -1,6 +1,6 @@
 // The desk: a design is loaded, its states are examined in as many calls as one likes, and the verdict is told (01, "The desk"). Each
 // call takes the desk and gives the next one back beside its answer; a call turned down gives it back as it was. What each call
-// answers is in specs/Desk, one equation for every desk and every argument.
+// answers is in specs/Desk, one equation for every desk and every argument; the paper's numbers for it are in specs/Answers.
 use design::Counts;
 use walk::Failure;
 use walk::Outcome;
@@ -8,6 +8,7 @@ use walk::Walked;
 ghost use mathlib.Core.Path.{_≡_};
 ghost use Prim.Native.Nat.{_+_, _<_};
 ghost use Rattle.loader.specs.Load.{loadedOf};
+ghost use Rattle.desk.specs.Answers.{doneNumber, refusalNumber, toldNumber, loadNumber, advanceNumber, verdictNumber, dropNumber};
 ghost use Rattle.desk.specs.Desk.{emptyDesk, notLoaded, loadEmpty, loadOf, notAdvanced, failStart, examineNext, walkOn, advanceOpen, advanceOf, tellOf, dropOf, placed, ahead};
 
 // What a desk is: empty, open or decided.
@@ -109,6 +110,7 @@ impl Desk {
     // Takes a text and opens the desk.
     pub fn load(self, text: &[u8]) -> AfterLoad
         ensures { λ r. ⌜ r ≡ loadOf self (now (text .entry)) ⌝ }
+        ensures { λ r. ⌜ doneNumber (r .answer) ≡ loadNumber (self .phase) (now (text .entry)) ⌝ }
     {
         let phase = self.phase;
         match phase {
@@ -122,6 +124,7 @@ impl Desk {
     // Examines the next n states, or those that remain.
     pub fn advance(self, n: u64) -> AfterAdvance
         ensures { λ r. ⌜ r ≡ advanceOf self n ⌝ }
+        ensures { λ r. ⌜ refusalNumber (r .answer) ≡ advanceNumber (self .phase) n ⌝ }
     {
         let phase = self.phase;
         match phase {
@@ -135,6 +138,7 @@ impl Desk {
     // Tells the report's numbers; the desk stays as it is.
     pub fn verdict(self) -> AfterVerdict
         ensures { λ r. ⌜ r ≡ tellOf self ⌝ }
+        ensures { λ r. ⌜ toldNumber (r .answer) ≡ verdictNumber (self .phase) ⌝ }
     {
         let phase = self.phase;
         match phase {
@@ -160,6 +164,7 @@ impl Desk {
     // Empties the desk, open or decided.
     pub fn drop(self) -> AfterDrop
         ensures { λ r. ⌜ r ≡ dropOf self ⌝ }
+        ensures { λ r. ⌜ doneNumber (r .answer) ≡ dropNumber (self .phase) ⌝ }
     {
         let phase = self.phase;
         match phase {

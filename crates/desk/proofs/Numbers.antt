@@ -1,0 +1,93 @@
+-- What load and advance answer has the number that specs/Answers gives the call.
+use Prim.Native.Nat.{ℕ, _+_}
+use mathlib.Core.Path.{_≡_, refl, sym, ap, _∙_}
+use mathlib.Core.Bool.{Bool, true, false, cond}
+use mathlib.Core.List.{List}
+use borrow.Author.Tests.{eqb-true}
+use lib.Dec.{eqb, leb}
+use Rattle.layout.specs.Sizes.{stateCountIn}
+use Rattle.loader.specs.Load.{faultOf, loadedOf}
+use Rattle.walk.specs.Walk.{startIn}
+use Rattle.walk.specs.declared.Outcome.{Outcome}
+use Rattle.walk.specs.declared.Outcome.the-variants.{Pass, Fail}
+use Rattle.walk.specs.declared.Walked.{Walked}
+use Rattle.desk.specs.declared.Phase.{Phase}
+use Rattle.desk.specs.declared.Phase.the-variants as phase
+use Rattle.desk.specs.declared.Desk.{Desk}
+use Rattle.desk.specs.declared.AfterLoad.{AfterLoad}
+use Rattle.desk.specs.declared.AfterAdvance.{AfterAdvance}
+use Rattle.desk.specs.Said.{walkedBy}
+use Rattle.desk.specs.Answers.{doneNumber, refusalNumber, loadNumber, advanceNumber}
+use Rattle.desk.specs.Desk.{loadEmpty, loadBy, loadOf, afterPass, afterWalk, walkOn, failStart, ahead, examineNext, advanceOpen, advanceBy, advanceOf}
+
+-- ---- load
+
+fault-kept : (text : List ℕ) → loadedOf text .fault ≡ faultOf text
+unfolding loadedOf
+fault-kept text = go (eqb (faultOf text) 0) refl
+  where
+    go : (b : Bool) → eqb (faultOf text) 0 ≡ b → loadedOf text .fault ≡ faultOf text
+    go true e = rw e (sym (eqb-true (faultOf text) 0 e))
+    go false e = rw e
+
+empty-number : (d : Desk) (text : List ℕ) → doneNumber (loadEmpty d (loadedOf text) .answer) ≡ faultOf text
+unfolding loadEmpty
+empty-number d text = go (eqb (loadedOf text .fault) 0) refl
+  where
+    go : (b : Bool) → eqb (loadedOf text .fault) 0 ≡ b → doneNumber (loadEmpty d (loadedOf text) .answer) ≡ faultOf text
+    go true e = rw e (sym (eqb-true (loadedOf text .fault) 0 e) ∙ fault-kept text)
+    go false e = rw e (fault-kept text)
+
+load-by : (p : Phase) (d : Desk) (text : List ℕ) → doneNumber (loadBy p d text .answer) ≡ loadNumber p text
+load-by phase.Empty d text = empty-number d text
+load-by phase.Open d text = refl
+load-by phase.Accepted d text = refl
+load-by (phase.Failed f) d text = refl
+
+pub load-number : (d : Desk) (text : List ℕ) (r : AfterLoad) → r ≡ loadOf d text → doneNumber (r .answer) ≡ loadNumber (d .phase) text
+unfolding loadOf
+load-number d text r e = ap (λ (x : AfterLoad). doneNumber (x .answer)) e ∙ load-by (d .phase) d text
+
+-- ---- advance
+
+walked-number : (o : Outcome) (d : Desk) (count at total : ℕ) → refusalNumber (afterWalk o d count at total .answer) ≡ 0
+walked-number (Fail f) d count at total = refl
+walked-number Pass d count at total = go (leb total at)
+  where
+    go : (b : Bool) → refusalNumber (afterPass b d count at .answer) ≡ 0
+    go true = refl
+    go false = refl
+
+next-number : (d : Desk) (n : ℕ) → refusalNumber (examineNext d n .answer) ≡ 0
+unfolding examineNext walkOn
+next-number d n =
+    let total : ℕ = stateCountIn (d .fields) (d .starts) (d .counts) in
+    let w : Walked = walkedBy (d .fields) (d .starts) (d .counts) (d .plan) (ahead n (d .next) total) (d .next) in
+    walked-number (w .outcome) d (w .count) (d .next + w .count) total
+
+start-number : (d : Desk) → refusalNumber (failStart d .answer) ≡ 0
+unfolding failStart
+start-number d = refl
+
+open-number : (d : Desk) (n : ℕ) → refusalNumber (advanceOpen d n .answer) ≡ cond (eqb n 0) 8 0
+unfolding advanceOpen
+open-number d n = go (eqb n 0) refl
+  where
+    go : (b : Bool) → eqb n 0 ≡ b → refusalNumber (advanceOpen d n .answer) ≡ cond (eqb n 0) 8 0
+    go true e = rw e
+    go false e = rw e (first (eqb (d .next) 0) (startIn (d .fields) (d .starts) (d .counts)))
+      where
+        first : (b c : Bool) → refusalNumber (cond b (cond c (examineNext d n) (failStart d)) (examineNext d n) .answer) ≡ 0
+        first true true = next-number d n
+        first true false = start-number d
+        first false c = next-number d n
+
+advance-by : (p : Phase) (d : Desk) (n : ℕ) → refusalNumber (advanceBy p d n .answer) ≡ advanceNumber p n
+advance-by phase.Empty d n = refl
+advance-by phase.Open d n = open-number d n
+advance-by phase.Accepted d n = refl
+advance-by (phase.Failed f) d n = refl
+
+pub advance-number : (d : Desk) (n : ℕ) (r : AfterAdvance) → r ≡ advanceOf d n → refusalNumber (r .answer) ≡ advanceNumber (d .phase) n
+unfolding advanceOf
+advance-number d n r e = ap (λ (x : AfterAdvance). refusalNumber (x .answer)) e ∙ advance-by (d .phase) d n
