@@ -1,37 +1,38 @@
 -- How far the check of a text has come on a desk that holds it (`Stage`), and that an advance leads from stage to stage
 -- (`advance-stage`): what is kept while it is open is that the start and all states so far pass, and what it ends with is the
 -- verdict on the text's design.
-use Prim.Native.Nat.{ℕ, _+_, _-_, _≤_, _<_, min}
+use Prim.Native.Nat.{ℕ, suc, _+_, _-_, _≤_, _<_, min}
 use mathlib.Core.Path.{_≡_, refl, sym, ap, _∙_}
 use mathlib.Core.Logic.{_≢_}
 use mathlib.Core.Bool.{Bool, true, false}
 use mathlib.Core.List.{List}
 use native.Mathlib.Omega.{arith}
-use borrow.Author.Tests.{eq-eqb, ne-eqb, leb-true, leb-false}
+use borrow.Author.Tests.{eq-eqb, ne-eqb, leb-true, leb-false, lt-ltb, le-ltb}
 use lib.Dec.{leb}
 use Rattle.foundation.specs.First.{Outcome, pass, fail}
 use Rattle.foundation.specs.Walk.{walk}
-use Rattle.foundation.proofs.Walk.{pass-count, all-walk, from-there, walk-over}
+use Rattle.foundation.proofs.Walk.{pass-count, all-walk, from-there, walk-over, count-most}
 use Rattle.foundation.proofs.Radix.{number-below}
 use Rattle.criteria.specs.Design.{Design, sizes, states, initialState}
 use Rattle.criteria.proofs.Parameters.{initial-in-size}
 use Rattle.criteria.specs.Failure.{Failure, startFailure}
-use Rattle.criteria.specs.Verdict.{accepted, failed}
+use Rattle.criteria.specs.Verdict.{Verdict, accepted, failed}
 use Rattle.decision.specs.Tests.{holds1}
 use Rattle.decision.specs.Examine.{examine}
 use Rattle.decision.specs.Verdict.{verdictOf}
-use Rattle.decision.proofs.Progress.{Progress, begins, goes-on, ends-at-start, ends-well, ends-badly}
+use Rattle.decision.proofs.Progress.{Progress, begins, goes-on, ends-at-start, ends-well, ends-badly, fails-at, fails-later}
 use Rattle.layout.specs.Sizes.{initialNumberIn}
 use Rattle.loader.proofs.Passed.{admitted}
 use Rattle.desk.specs.Said.{said, saidFailure}
 use Rattle.walk.specs.declared.Failure.{Failure as Said}
 use Rattle.desk.specs.declared.Phase.{Phase}
 use Rattle.desk.specs.declared.Phase.the-variants as phase
+use Rattle.desk.specs.declared.Advance.{Advance}
 use Rattle.desk.specs.declared.Advance.the-variants as advance
 use Rattle.desk.specs.declared.Desk.{Desk}
 use Rattle.desk.specs.declared.AfterAdvance.{AfterAdvance}
 use Rattle.desk.specs.Answers.{countSaid}
-use Rattle.checker.specs.Count.{examined}
+use Rattle.checker.specs.Count.{examined, stopOf, decidedBy, dueOf}
 use Rattle.desk.specs.Desk.{placed, ahead, failStart, afterPass, afterWalk, walkOn, examineNext, advanceOpen, advanceBy, advanceOf}
 use Rattle.checker.proofs.Opened.{designText, HoldsText, start-is, total-is, initial-is, walk-is}
 
@@ -101,6 +102,26 @@ module _ (d : Design) where
       let failing : walk (examine d) k 0 .outcome ≡ fail x = ap (λ v. v .outcome) (from-there (examine d) m (min n (states d - m)) (p .passed)) ∙ e in
       rw (started (m + n + j) (p .start), started (m + n) (p .start), there, beyond, walk-over (examine d) k i 0 x failing)
 
+-- ---- what is due
+
+-- of a design and its verdict, after m states, by n more: the answer, and when the desk is decided
+pub record Due (d : Design) (v : Verdict) (m n : ℕ) (a : Advance) (p : Phase) : Type 0 where
+  pub answers : a ≡ dueOf d v m n
+  pub stays : m + n < stopOf d v → p ≡ phase.Open
+  pub decides : stopOf d v ≤ m + n → p ≢ phase.Open
+
+module _ (d : Design) (v : Verdict) (m n : ℕ) where
+  due-open : m + n < stopOf d v → Due d v m n (advance.Open n) phase.Open
+  unfolding dueOf
+  due-open l = record { answers = rw (lt-ltb (m + n) (stopOf d v) l); stays = λ _. refl; decides = λ u. absurd (omega arith) }
+
+  due-decided : (k : ℕ) (p : Phase) → stopOf d v ≤ m + n → k ≡ stopOf d v - m → p ≢ phase.Open → Due d v m n (decidedBy v k) p
+  unfolding dueOf
+  due-decided k p l e o = record { answers = rw (le-ltb (m + n) (stopOf d v) l, e); stays = λ u. absurd (omega arith); decides = λ _. o }
+
+stop-failed : (d : Design) (x : Failure) → x .criterion ≢ 1 → stopOf d (failed x) ≡ suc (x .state)
+stop-failed d x o = rw (ne-eqb (x .criterion) 1 o)
+
 -- what an advance came to
 pub record Advances (text : List ℕ) (desk : Desk) (n : ℕ) (r : AfterAdvance) : Type 0 where
   pub stage : Stage text (r .desk)
@@ -115,6 +136,8 @@ pub record Advances (text : List ℕ) (desk : Desk) (n : ℕ) (r : AfterAdvance)
   -- the count is what the walk adds, and when decided nothing more is added
   pub counts : examined (designText text) (desk .next) + countSaid (r .answer) ≡ examined (designText text) (desk .next + n)
   pub rests : r .desk .phase ≢ phase.Open → (j : ℕ) → examined (designText text) (desk .next + n + j) ≡ examined (designText text) (desk .next + n)
+  -- the answer and the phase are those that are due
+  pub due : Due (designText text) (verdictOf (designText text)) (desk .next) n (r .answer) (r .desk .phase)
 
 module _ (text : List ℕ) (desk : Desk) (h : HoldsText text desk) where
   abbrev d : Design
@@ -140,6 +163,7 @@ module _ (text : List ℕ) (desk : Desk) (h : HoldsText text desk) where
         opens = λ q. absurd (failed-phase q);
         counts = rw (unstarted d m e, unstarted d (m + n) e);
         rests = λ _ j. rw (unstarted d (m + n + j) e, unstarted d (m + n) e);
+        due = rw (ends-at-start d e) (due-decided d (failed (startFailure d)) m n 0 f (omega arith) (omega arith) failed-phase);
       }
 
   -- the start held, or was tried before: n states, or those that remain
@@ -149,6 +173,29 @@ module _ (text : List ℕ) (desk : Desk) (h : HoldsText text desk) where
 
     sums : examined d m + walk (examine d) (ahead-of n) m .count ≡ examined d (m + n)
     sums = added d m n p inside
+
+    -- a state failed
+    fails-due : (x : Failure) → walk (examine d) (ahead-of n) m .outcome ≡ fail x
+        → Due d (verdictOf d) m n (advance.Failed (walk (examine d) (ahead-of n) m .count)) (phase.Failed (saidFailure x))
+    fails-due x e =
+        let t = fails-at d (admitted text (h .free)) m (ahead-of n) x (omega arith) e in
+        let at = t .0 in
+        let most = count-most (examine d) (ahead-of n) m in
+        let stop = stop-failed d x (t .1) in
+        rw (ends-badly d m (ahead-of n) x p (omega arith) e)
+        (due-decided d (failed x) m n (walk (examine d) (ahead-of n) m .count) (phase.Failed (saidFailure x)) (omega arith) (omega arith) failed-phase)
+
+    -- all pass, and there are more
+    goes-due : ahead-of n ≡ n → m + n < states d → Progress d (m + ahead-of n) → Due d (verdictOf d) m n (advance.Open (ahead-of n)) phase.Open
+    goes-due all l q = rw all (due-open d (verdictOf d) m n (before (verdictOf d) refl))
+      where
+        before : (v : Verdict) → verdictOf d ≡ v → m + n < stopOf d v
+        before accepted e = l
+        before (failed x) e =
+            let t = fails-later d (admitted text (h .free)) (m + ahead-of n) x q (omega arith) e in
+            let later = t .0 in
+            let stop = stop-failed d x (t .1) in
+            omega arith
 
     walked-by : (o : Outcome Failure) → walk (examine d) (ahead-of n) m .outcome ≡ o
         → Advances text desk n (afterWalk (said o) desk (walk (examine d) (ahead-of n) m .count) (m + walk (examine d) (ahead-of n) m .count) (states d))
@@ -161,6 +208,7 @@ module _ (text : List ℕ) (desk : Desk) (h : HoldsText text desk) where
           opens = λ q. absurd (failed-phase q);
           counts = sums;
           rests = λ _ j. failed-rests d m n j x p (omega arith) e;
+          due = fails-due x e;
         }
     walked-by pass e =
         let sum = sums in
@@ -181,6 +229,7 @@ module _ (text : List ℕ) (desk : Desk) (h : HoldsText text desk) where
               opens = λ r. absurd (accepted-phase r);
               counts = sum;
               rests = λ _ j. over d (m + n) j (omega arith);
+              due = rw ended (due-decided d accepted m n (ahead-of n) phase.Accepted (omega arith) (omega arith) accepted-phase);
             }
         passed false l q sum =
             let g = leb-false (states d) (m + ahead-of n) l in
@@ -192,6 +241,7 @@ module _ (text : List ℕ) (desk : Desk) (h : HoldsText text desk) where
               opens = λ _. omega arith;
               counts = sum;
               rests = λ r. absurd (r refl);
+              due = goes-due (omega arith) (omega arith) q;
             }
 
     examines : Advances text desk n (examineNext desk n)

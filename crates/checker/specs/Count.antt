@@ -1,11 +1,30 @@
--- How many states demand 2's walk examines.
-use Prim.Native.Nat.{ℕ, min}
+-- How many states a check examines, and what an advance answers (01, "The desk"), from the verdict on the design.
+use Prim.Native.Nat.{ℕ, suc, _+_, _-_, min}
+use mathlib.Core.Bool.{cond}
+use lib.Dec.{eqb, ltb}
 use Rattle.foundation.specs.Walk.{walk}
 use Rattle.terms.specs.Tree.{pick}
 use Rattle.criteria.specs.Design.{Design, states}
+use Rattle.criteria.specs.Verdict.{Verdict, accepted, failed}
 use Rattle.decision.specs.Tests.{holds1}
 use Rattle.decision.specs.Examine.{examine}
+use Rattle.desk.specs.declared.Advance.{Advance}
+use Rattle.desk.specs.declared.Advance.the-variants as advance
 
 -- a check walked over m states: "how many states it examined, the failing one included; 0 if criterion 1 failed"
 unfoldable pub examined : Design → ℕ → ℕ
 examined d m = pick (holds1 d) (walk (examine d) (min m (states d)) 0 .count) 0
+
+-- "The check is decided when a criterion fails or the last state is done": how many are examined till then
+abbrev pub stopOf : Design → Verdict → ℕ
+stopOf d accepted = states d
+stopOf d (failed x) = pick (eqb (x .criterion) 1) 0 (suc (x .state))
+
+-- what the call that decides answers
+abbrev pub decidedBy : Verdict → ℕ → Advance
+decidedBy accepted k = advance.Accepted k
+decidedBy (failed x) k = advance.Failed k
+
+-- "Advance returns open, accepted or failed, and how many states it examined": by n states, at least one, after m
+unfoldable pub dueOf : Design → Verdict → ℕ → ℕ → Advance
+dueOf d v m n = let stop = stopOf d v in cond (ltb (m + n) stop) (advance.Open n) (decidedBy v (stop - m))

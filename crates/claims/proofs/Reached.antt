@@ -13,6 +13,7 @@ use Rattle.foundation.specs.Walk.{walk}
 use Rattle.terms.specs.Tree.{pick}
 use Rattle.criteria.specs.Design.{Design, states}
 use Rattle.decision.specs.Tests.{holds1}
+use Rattle.decision.specs.Verdict.{verdictOf}
 use Rattle.reader.specs.Text.{fieldsByLine}
 use Rattle.loader.specs.Load.{faultOf, heldBy, loadedOf}
 use Rattle.desk.specs.declared.Phase.{Phase}
@@ -26,7 +27,7 @@ use Rattle.desk.specs.Answers.{countSaid}
 use Rattle.checker.specs.Count.{examined}
 use Rattle.desk.specs.Desk.{opened, loadEmpty, loadOf, advanceOf, tellOf}
 use Rattle.checker.proofs.Opened.{designText}
-use Rattle.checker.proofs.Stages.{Stage, fresh, going, accepts, fails, Advances, advance-fresh, advance-going, some-states}
+use Rattle.checker.proofs.Stages.{Stage, fresh, going, accepts, fails, Due, Advances, advance-fresh, advance-going, some-states}
 use Rattle.checker.proofs.Judging.{opened-stage, loaded-free, loaded-fault}
 use Rattle.claims.specs.Calls.{Called, load, advance, verdict, NoLoad, LastLoad, here, before, AcceptedIn, Walked}
 use Rattle.claims.specs.Calls as calls
@@ -159,12 +160,27 @@ module _ {cs : List Called} {text : List ℕ} {d : Desk} {m k : ℕ} (n : ℕ) (
   advance-reached (fails x h e v) =
       rw (advance-at d n e) (unmoved (advance n (progress.TurnedDown 14)) n calls.advanced q (inr (opens-not e)))
 
+  reached-at : d .phase ≡ phase.Open → m ≡ d .next
+  reached-at = q .at
+
   -- a load there is refused
   load-stays : (other : List ℕ) → Stage text d → loadOf d other .desk ≡ d
   load-stays other (fresh h e z) = ap (λ r. r .desk) (load-at d other e)
   load-stays other (going h e a b p) = ap (λ r. r .desk) (load-at d other e)
   load-stays other (accepts h e v) = ap (λ r. r .desk) (load-at d other e)
   load-stays other (fails x h e v) = ap (λ r. r .desk) (load-at d other e)
+
+  -- what is due
+  pub due-at : Stage text d → d .phase ≡ phase.Open → n ≢ 0 → {r : AfterAdvance} → r ≡ advanceOf d n
+      → Due (designText text) (verdictOf (designText text)) m n (r .answer) (r .desk .phase)
+  due-at (fresh h e z) o some q =
+      let there = reached-at o in
+      rw (q, there) (advance-fresh text d n some h e z .due)
+  due-at (going h e a b p) o some q =
+      let there = reached-at o in
+      rw (q, there) (advance-going text d n some h e a b p .due)
+  due-at (accepts h e v) o some q = absurd (accepts-not e o)
+  due-at (fails x h e v) o some q = absurd (opens-not e o)
 
 -- ---- every list
 

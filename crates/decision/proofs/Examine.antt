@@ -197,3 +197,10 @@ module _ (d : Design) (a : Admitted d) (n : ℕ) (below : n < states d) where
       go : (o : Outcome Failure) → Examined d n o → (InvariantState d (stateAt d n) → Criteria d (stateAt d n)) → o ≡ pass
       go pass e c = refl
       go (fail x) (unmet {x = p} i l) c = absurd (none-fails d a (stateAt d n) (c i) p (l .fails))
+
+  -- a failure has the number of its state, and is not criterion 1's
+  pub fails-there : (x : Failure) → examine d n ≡ fail x → (x .state ≡ n) × (x .criterion ≢ 1)
+  fails-there x h = go x (subst (Examined d n) h examined)
+    where
+      go : (y : Failure) → Examined d n (fail y) → (y .state ≡ n) × (y .criterion ≢ 1)
+      go y (unmet {x = p} i l) = (refl, not-first d a (stateAt d n) p (l .fails))
