@@ -1,7 +1,7 @@
--- The pump table of 01 and its nine variants as texts: each is a design text, and the one-call check reports it as 01 says (`pump-reports`),
--- from the criteria (the crate pump has the designs). And the counts of the two that are advanced by 5.
+-- The pump table of 01 and its nine variants as texts: each is a design text, and the desk and the one-call check come to what 01 says
+-- (`pump-reports`), from the criteria (the crate pump has the designs). And the answers of the two that are advanced by 5.
 use Prim.Native.Nat.{ℕ, suc, _≤_}
-use mathlib.Core.Path.{_≡_, refl, ap, _∙_}
+use mathlib.Core.Path.{_≡_, refl, sym, ap, _∙_, subst}
 use mathlib.Core.List.{List, [], _∷_, _++_}
 use lib.ListN.{length, drop}
 use Rattle.foundation.specs.First.{firstIn, allIn}
@@ -20,9 +20,10 @@ use Rattle.terms.specs.Mark.{valueMark, formulaMark}
 use Rattle.terms.specs.Read.{readV}
 use Rattle.terms.specs.Print.{printV, printF}
 use Rattle.criteria.specs.Verdict as criteria
+use Rattle.criteria.specs.Verdict.{Demand2}
 use Rattle.decision.specs.Tests.{rowFrom}
 use Rattle.decision.specs.Examine.{examine}
-use Rattle.decision.specs.Verdict.{verdictOf}
+use Rattle.decision.specs.Verdict.{checked, verdictOf}
 use Rattle.decision.proofs.Demand2.{demand2, one-verdict}
 use Rattle.pump.specs.Table.{given, wrong-data, Case, cases}
 use Rattle.pump.proofs.Reports.{Right, ten-reports}
@@ -35,8 +36,11 @@ use Rattle.line_check.specs.LineFits.{termsFit, lineFits}
 use Rattle.action_check.specs.ActionsFit.{actionsFit}
 use Rattle.loader.specs.Load.{faultOf, tableFault}
 use Rattle.loader.proofs.Lowest.{free-exactly}
-use Rattle.checker.specs.Count.{examined}
+use Rattle.checker.specs.Count.{dueOf}
 use Rattle.checker.specs.OneCall.{designReport, judgedOf}
+use Rattle.desk.specs.declared.Advance.the-variants as progress
+use Rattle.checker.proofs.Opened.{designText}
+use Rattle.claims.proofs.Demand2.{Comes, claim2}
 use Rattle.claims.proofs.OneCall.{Checks, answered, written as written-as, long-answer, long-buffer, judged-free}
 
 -- the table as a text
@@ -59,6 +63,10 @@ asWritten r = record { verdict = r .verdict; number = r .criterion; state = r .s
 
 pub record Reports (c : Case) : Type 0 where
   pub is-text : DesignText (textFor c)
+  -- the desk, by the verdict on the table
+  pub says-table : designText (textFor c) ≡ c .table
+  pub comes : Comes (textFor c) (verdictOf (c .table))
+  -- the one-call check, by the report of 01
   pub answers : {report after : List ℕ} {r : ℕ} → Checks (textFor c) report r after → 31 ≤ length report → r ≡ c .says .verdict
   pub reports : {report after : List ℕ} {r : ℕ} → Checks (textFor c) report r after → 31 ≤ length report
       → after ≡ bytes.reportOf (asWritten (c .says)) ++ drop 31 report
@@ -66,6 +74,12 @@ pub record Reports (c : Case) : Type 0 where
 module _ (c : Case) (free : faultOf (textFor c) ≡ 0) (same : designOf (fieldsByLine (textFor c)) ≡ c .table) (right : Right c) where
   is-text : DesignText (textFor c)
   is-text = free-exactly (textFor c) .0 free
+
+  comes-so : Comes (textFor c) (verdictOf (c .table))
+  comes-so =
+      let k = claim2 (textFor c) is-text in
+      let due : Demand2 (designText (textFor c)) (verdictOf (c .table)) = subst (λ d. Demand2 d (verdictOf (c .table))) (sym same) (demand2 (c .table) (right .admitted)) in
+      subst (Comes (textFor c)) (one-verdict (designText (textFor c)) (k .verdict) (verdictOf (c .table)) (k .is) due) (k .comes)
 
   said : designReport (verdictOf (c .table)) ≡ asWritten (c .says)
   said =
@@ -78,6 +92,8 @@ module _ (c : Case) (free : faultOf (textFor c) ≡ 0) (same : designOf (fieldsB
   reports-so : Reports c
   reports-so = record {
     is-text = is-text;
+    says-table = same;
+    comes = comes-so;
     answers = λ {report} k l. answered k ∙ long-answer (textFor c) report l ∙ ap (λ j. j .verdict) judged;
     reports = λ {report} k l. written-as k ∙ long-buffer (textFor c) report l ∙ ap (λ j. bytes.reportOf j ++ drop 31 report) judged;
   }
@@ -95,14 +111,14 @@ pub wrong-data-bytes : bytes.reportOf (record { verdict = 1; number = 8; state =
 unfolding columnOf columnsOf bytes.reportOf textOf written
 wrong-data-bytes = refl
 
--- ---- "advancing by 5": the counts after each call (Demand2, `counts`)
+-- ---- "advancing by 5": what is due in each call (Demand2, `advances`)
 
 -- "open 5, open 5, accepted 2"
-pub given-counts : (examined given 5 ≡ 5) × (examined given 10 ≡ 10) × (examined given 15 ≡ 12)
-unfolding examined examine walk firstIn valuesOf rowFrom evalV
-given-counts = (refl, refl, refl)
+pub given-answers : (dueOf given (verdictOf given) 0 5 ≡ progress.Open 5) × (dueOf given (verdictOf given) 5 5 ≡ progress.Open 5) × (dueOf given (verdictOf given) 10 5 ≡ progress.Accepted 2)
+unfolding dueOf checked examine walk firstIn valuesOf rowFrom evalV
+given-answers = (refl, refl, refl)
 
 -- "open 5, failed 5"
-pub wrong-data-counts : (examined wrong-data 5 ≡ 5) × (examined wrong-data 10 ≡ 10) × (examined wrong-data 15 ≡ 10)
-unfolding examined examine walk firstIn valuesOf rowFrom evalV
-wrong-data-counts = (refl, refl, refl)
+pub wrong-data-answers : (dueOf wrong-data (verdictOf wrong-data) 0 5 ≡ progress.Open 5) × (dueOf wrong-data (verdictOf wrong-data) 5 5 ≡ progress.Failed 5)
+unfolding dueOf checked examine walk firstIn valuesOf rowFrom evalV
+wrong-data-answers = (refl, refl)
