@@ -27,14 +27,14 @@ use Rattle.desk.specs.declared.AfterAdvance.{AfterAdvance}
 use Rattle.desk.specs.declared.AfterVerdict.{AfterVerdict}
 use Rattle.desk.specs.Desk.{emptyDesk, opened, notLoaded, loadEmpty, loadOf, advanceOf, tellBy, tellOf}
 use Rattle.checker.specs.OneCall.{verdictReport, refusedReport, designReport, judgedOf, answerOf, bufferAfter}
-use Rattle.checker.proofs.Opened.{designText, HoldsText, few}
+use Rattle.checker.proofs.Opened.{designText, Ready, few}
 use Rattle.checker.proofs.Stages.{Stage, fresh, going, accepts, fails, advance-fresh}
 
 -- ---- a load on an empty desk
 
 -- a text without fault is held, and nothing is tried yet
 pub opened-stage : (text : List ℕ) → faultOf text ≡ 0 → Stage text (opened (heldBy (fieldsByLine text)))
-opened-stage text ok = fresh (record { free = ok; fields-are = refl; starts-are = refl; counts-are = refl; plan-is = refl }) refl refl
+opened-stage text ok = fresh (record { held = record { free = ok; fields-are = refl; starts-are = refl; counts-are = refl }; plan-is = refl }) refl refl
 
 pub loaded-free : (d : Desk) (text : List ℕ) → faultOf text ≡ 0 → loadEmpty d (loadedOf text) ≡ record { answer = done.Done; desk = opened (heldBy (fieldsByLine text)) }
 unfolding loadEmpty loadedOf
@@ -98,9 +98,9 @@ module _ (text : List ℕ) (e : Desk) (ee : e ≡ emptyDesk) (a : AfterLoad) (ea
       let f = loaded ∙ loaded-free emptyDesk text ok in
       let desk : Desk = opened (heldBy (fieldsByLine text)) in
       let same : a .desk ≡ desk = ap (λ x. x .desk) f in
-      let holds : HoldsText text desk = record { free = ok; fields-are = refl; starts-are = refl; counts-are = refl; plan-is = refl } in
-      let adv = advance-fresh text desk 18446744073709551615 (λ n. omega arith) holds refl refl in
-      let most = few text desk holds in
+      let ready : Ready text desk = record { held = record { free = ok; fields-are = refl; starts-are = refl; counts-are = refl }; plan-is = refl } in
+      let adv = advance-fresh text desk 18446744073709551615 (λ n. omega arith) ready refl refl in
+      let most = few text desk (ready .held) in
       rw (z, same) (decided-report text (advanceOf desk 18446744073709551615 .desk) (adv .stage) (adv .ends (omega arith)))
   judged-by false z h =
       let f = loaded ∙ loaded-fault emptyDesk text (eqb-false (faultOf text) 0 z) in

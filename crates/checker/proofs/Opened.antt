@@ -19,7 +19,6 @@ use Rattle.layout.specs.Sizes.{countsFit, stateCountIn, initialNumberIn}
 use Rattle.loader.specs.Load.{faultOf}
 use Rattle.loader.proofs.Passed.{admitted, design-in, counts-allowed}
 use Rattle.walk.specs.Walk.{startIn, planOf}
-use Rattle.walk.proofs.Walking.{by-plan}
 use Rattle.walk.proofs.Acceptance.{start-tried, states-walked}
 use Rattle.desk.specs.Said.{saidWalked, walkedBy}
 use Rattle.desk.specs.declared.Desk.{Desk}
@@ -34,6 +33,10 @@ pub record HoldsText (text : List ℕ) (desk : Desk) : Type 0 where
   pub fields-are : desk .fields ≡ fieldsHeld (fieldsByLine text)
   pub starts-are : desk .starts ≡ startsHeld (fieldsByLine text)
   pub counts-are : desk .counts ≡ countsOf (fieldsByLine text)
+
+-- and its plan is that of the arrays
+pub record Ready (text : List ℕ) (desk : Desk) : Type 0 where
+  pub held : HoldsText text desk
   pub plan-is : desk .plan ≡ planOf (desk .fields) (desk .starts) (desk .counts)
 
 -- ---- arrays that hold a design
@@ -60,7 +63,7 @@ module _ (f s : List ℕ) (c : Counts) (fit : countsFit c ≡ true) (d : Design)
   unfolding walkedBy
   walk-of n from l few =
       let same : states (designIn f s c) ≡ states d = ap states e in
-      ap saidWalked (by-plan f s c n from ∙ states-walked f s c fit (omega arith) n from (omega arith) ∙ ap (λ x. walk (examine x) n from) e)
+      ap saidWalked (states-walked f s c fit (omega arith) n from (omega arith) ∙ ap (λ x. walk (examine x) n from) e)
 
 -- ---- a desk that holds a text
 
@@ -92,8 +95,13 @@ module _ (text : List ℕ) (desk : Desk) (h : HoldsText text desk) where
       rw (h .fields-are, h .starts-are, h .counts-are)
       (initial-of (fieldsHeld lines) (startsHeld lines) (countsOf lines) (counts-allowed text (h .free)) d (design-in text (h .free)) small)
 
-  pub walk-is : (n from : ℕ) → from + n ≤ states d
-      → walkedBy (desk .fields) (desk .starts) (desk .counts) (desk .plan) n from ≡ saidWalked (walk (examine d) n from)
+module _ (text : List ℕ) (desk : Desk) (r : Ready text desk) where
+  abbrev ready-lines : List (List ℕ)
+  ready-lines = fieldsByLine text
+
+  pub walk-is : (n from : ℕ) → from + n ≤ states (designText text)
+      → walkedBy (desk .fields) (desk .starts) (desk .counts) (desk .plan) n from ≡ saidWalked (walk (examine (designText text)) n from)
   walk-is n from l =
-      rw (h .plan-is, h .fields-are, h .starts-are, h .counts-are)
-      (walk-of (fieldsHeld lines) (startsHeld lines) (countsOf lines) (counts-allowed text (h .free)) d (design-in text (h .free)) n from l few)
+      let h = r .held in
+      rw (r .plan-is, h .fields-are, h .starts-are, h .counts-are)
+      (walk-of (fieldsHeld ready-lines) (startsHeld ready-lines) (countsOf ready-lines) (counts-allowed text (h .free)) (designText text) (design-in text (h .free)) n from l (few text desk h))

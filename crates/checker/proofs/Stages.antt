@@ -34,21 +34,23 @@ use Rattle.desk.specs.declared.AfterAdvance.{AfterAdvance}
 use Rattle.desk.specs.Answers.{countSaid}
 use Rattle.checker.specs.Count.{examined, stopOf, decidedBy, dueOf}
 use Rattle.desk.specs.Desk.{placed, ahead, failStart, afterPass, afterWalk, walkOn, examineNext, advanceOpen, advanceBy, advanceOf}
-use Rattle.checker.proofs.Opened.{designText, HoldsText, start-is, total-is, initial-is, walk-is}
+use Rattle.checker.proofs.Opened.{designText, Ready, start-is, total-is, initial-is, walk-is}
 
 pub data Stage (text : List ℕ) (desk : Desk) : Type 0 where
   -- loaded, nothing tried
-  fresh : HoldsText text desk → desk .phase ≡ phase.Open → desk .next ≡ 0 → Stage text desk
+  fresh : Ready text desk → desk .phase ≡ phase.Open → desk .next ≡ 0 → Stage text desk
   -- the start holds and the states before the next one pass
-  going : HoldsText text desk → desk .phase ≡ phase.Open → 0 < desk .next → desk .next < states (designText text)
+  going : Ready text desk → desk .phase ≡ phase.Open → 0 < desk .next → desk .next < states (designText text)
       → Progress (designText text) (desk .next) → Stage text desk
   -- decided, and rightly
-  accepts : HoldsText text desk → desk .phase ≡ phase.Accepted → verdictOf (designText text) ≡ accepted → Stage text desk
-  fails : (x : Failure) → HoldsText text desk → desk .phase ≡ phase.Failed (saidFailure x) → verdictOf (designText text) ≡ failed x → Stage text desk
+  accepts : Ready text desk → desk .phase ≡ phase.Accepted → verdictOf (designText text) ≡ accepted → Stage text desk
+  fails : (x : Failure) → Ready text desk → desk .phase ≡ phase.Failed (saidFailure x) → verdictOf (designText text) ≡ failed x → Stage text desk
 
 -- the same arrays
-moved : {text : List ℕ} {desk : Desk} (n : ℕ) (p : Phase) → HoldsText text desk → HoldsText text (placed desk n p)
-moved n p h = record { free = h .free; fields-are = h .fields-are; starts-are = h .starts-are; counts-are = h .counts-are; plan-is = h .plan-is }
+moved : {text : List ℕ} {desk : Desk} (n : ℕ) (p : Phase) → Ready text desk → Ready text (placed desk n p)
+moved n p h =
+    let t = h .held in
+    record { held = record { free = t .free; fields-are = t .fields-are; starts-are = t .starts-are; counts-are = t .counts-are }; plan-is = h .plan-is }
 
 -- answers and phases are told apart
 failed-answer : {j k : ℕ} → advance.Failed j ≡ advance.Accepted k → ⊥
@@ -139,7 +141,7 @@ pub record Advances (text : List ℕ) (desk : Desk) (n : ℕ) (r : AfterAdvance)
   -- the answer and the phase are those that are due
   pub due : Due (designText text) (verdictOf (designText text)) (desk .next) n (r .answer) (r .desk .phase)
 
-module _ (text : List ℕ) (desk : Desk) (h : HoldsText text desk) where
+module _ (text : List ℕ) (desk : Desk) (h : Ready text desk) where
   abbrev d : Design
   d = designText text
 
@@ -156,7 +158,7 @@ module _ (text : List ℕ) (desk : Desk) (h : HoldsText text desk) where
   start-stage n z e =
       let f : Phase = phase.Failed (record { criterion = 1; state = initialNumberIn (desk .fields) (desk .starts) (desk .counts); row = 0; sum = 0 }) in
       record {
-        stage = fails (startFailure d) (moved 0 f h) (rw (initial-is text desk h)) (ends-at-start d e);
+        stage = fails (startFailure d) (moved 0 f h) (rw (initial-is text desk (h .held))) (ends-at-start d e);
         accepted-is = λ k q. absurd (failed-answer q);
         says-accepted = λ q. absurd (not-accepted q);
         ends = λ _ q. failed-phase q;
@@ -178,7 +180,7 @@ module _ (text : List ℕ) (desk : Desk) (h : HoldsText text desk) where
     fails-due : (x : Failure) → walk (examine d) (ahead-of n) m .outcome ≡ fail x
         → Due d (verdictOf d) m n (advance.Failed (walk (examine d) (ahead-of n) m .count)) (phase.Failed (saidFailure x))
     fails-due x e =
-        let t = fails-at d (admitted text (h .free)) m (ahead-of n) x (omega arith) e in
+        let t = fails-at d (admitted text (h .held .free)) m (ahead-of n) x (omega arith) e in
         let at = t .0 in
         let most = count-most (examine d) (ahead-of n) m in
         let stop = stop-failed d x (t .1) in
@@ -192,7 +194,7 @@ module _ (text : List ℕ) (desk : Desk) (h : HoldsText text desk) where
         before : (v : Verdict) → verdictOf d ≡ v → m + n < stopOf d v
         before accepted e = l
         before (failed x) e =
-            let t = fails-later d (admitted text (h .free)) (m + ahead-of n) x q (omega arith) e in
+            let t = fails-later d (admitted text (h .held .free)) (m + ahead-of n) x q (omega arith) e in
             let later = t .0 in
             let stop = stop-failed d x (t .1) in
             omega arith
@@ -247,26 +249,26 @@ module _ (text : List ℕ) (desk : Desk) (h : HoldsText text desk) where
     examines : Advances text desk n (examineNext desk n)
     unfolding examineNext walkOn ahead
     examines =
-        rw (total-is text desk h, walk-is text desk h (ahead-of n) m (omega arith)) (walked-by (walk (examine d) (ahead-of n) m .outcome) refl)
+        rw (total-is text desk (h .held), walk-is text desk h (ahead-of n) m (omega arith)) (walked-by (walk (examine d) (ahead-of n) m .outcome) refl)
 
 -- ---- an advance by one state or more, on a desk that is open
 
-pub some-states : (text : List ℕ) (desk : Desk) → HoldsText text desk → 0 < states (designText text)
+pub some-states : (text : List ℕ) (desk : Desk) → Ready text desk → 0 < states (designText text)
 some-states text desk h =
     let d = designText text in
-    let b = number-below (sizes (d .impl)) (initialState (d .impl)) (initial-in-size (d .impl) (admitted text (h .free) .impl-sizes)) in
+    let b = number-below (sizes (d .impl)) (initialState (d .impl)) (initial-in-size (d .impl) (admitted text (h .held .free) .impl-sizes)) in
     omega arith
 
 module _ (text : List ℕ) (desk : Desk) (n : ℕ) (some : n ≢ 0) where
-  from-start : (b : Bool) → holds1 (designText text) ≡ b → HoldsText text desk → desk .next ≡ 0 → Advances text desk n (advanceOpen desk n)
+  from-start : (b : Bool) → holds1 (designText text) ≡ b → Ready text desk → desk .next ≡ 0 → Advances text desk n (advanceOpen desk n)
   unfolding advanceOpen
   from-start true e h z =
-      rw (ne-eqb n 0 some, eq-eqb (desk .next) 0 z, start-is text desk h, e)
+      rw (ne-eqb n 0 some, eq-eqb (desk .next) 0 z, start-is text desk (h .held), e)
       (examines text desk h n some (rw z (some-states text desk h)) (rw z (begins (designText text) e)))
   from-start false e h z =
-      rw (ne-eqb n 0 some, eq-eqb (desk .next) 0 z, start-is text desk h, e) (start-stage text desk h n z e)
+      rw (ne-eqb n 0 some, eq-eqb (desk .next) 0 z, start-is text desk (h .held), e) (start-stage text desk h n z e)
 
-  from-later : HoldsText text desk → 0 < desk .next → desk .next < states (designText text) → Progress (designText text) (desk .next) → Advances text desk n (advanceOpen desk n)
+  from-later : Ready text desk → 0 < desk .next → desk .next < states (designText text) → Progress (designText text) (desk .next) → Advances text desk n (advanceOpen desk n)
   unfolding advanceOpen
   from-later h l u p = rw (ne-eqb n 0 some, ne-eqb (desk .next) 0 (omega arith)) (examines text desk h n some u p)
 
@@ -274,9 +276,9 @@ module _ (text : List ℕ) (desk : Desk) (n : ℕ) (some : n ≢ 0) where
   unfolding advanceOf
   by-phase e = ap (λ p. advanceBy p desk n) e
 
-  pub advance-fresh : HoldsText text desk → desk .phase ≡ phase.Open → desk .next ≡ 0 → Advances text desk n (advanceOf desk n)
+  pub advance-fresh : Ready text desk → desk .phase ≡ phase.Open → desk .next ≡ 0 → Advances text desk n (advanceOf desk n)
   advance-fresh h e z = rw (by-phase e) (from-start _ refl h z)
 
-  pub advance-going : HoldsText text desk → desk .phase ≡ phase.Open → 0 < desk .next → desk .next < states (designText text)
+  pub advance-going : Ready text desk → desk .phase ≡ phase.Open → 0 < desk .next → desk .next < states (designText text)
       → Progress (designText text) (desk .next) → Advances text desk n (advanceOf desk n)
   advance-going h e l u p = rw (by-phase e) (from-later h l u p)

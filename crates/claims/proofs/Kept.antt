@@ -152,10 +152,10 @@ pub record Accepts (text : List ℕ) : Type 0 where
   pub verdict-is : verdictOf (designText text) ≡ accepted
 
 free-of : {text : List ℕ} {d : Desk} → Stage text d → faultOf text ≡ 0
-free-of (fresh h e z) = h .free
-free-of (going h e a b p) = h .free
-free-of (accepts h e v) = h .free
-free-of (fails x h e v) = h .free
+free-of (fresh h e z) = h .held .free
+free-of (going h e a b p) = h .held .free
+free-of (accepts h e v) = h .held .free
+free-of (fails x h e v) = h .held .free
 
 accepted-at : {cs : List Called} {d : Desk} {text : List ℕ} (n k : ℕ) → Kept cs d → LastLoad cs text → advanceOf d n .answer ≡ progress.Accepted k → Accepts text
 accepted-at {d = d} n k (empty e) l a = absurd (refused-none (sym (ap (λ r. r .answer) (advance-at d n e)) ∙ a))

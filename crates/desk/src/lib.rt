@@ -74,19 +74,19 @@ pub struct AfterDrop {
 }
 
 impl Desk {
-    // The limits of a text: its fields in all, the depth of a term, parameters and rows of a process, lines, states.
-    pub const MAX_FIELDS: usize = 4096;
+    // The limits of a text: its fields in all, the depth of a term, parameters and rows of a process, states.
+    pub const MAX_FIELDS: usize = terms::MAX_FIELDS;
 
-    pub const MAX_DEPTH: usize = 32;
+    pub const MAX_DEPTH: usize = terms::MAX_DEPTH;
 
-    pub const MAX_PARAMETERS: usize = 8;
+    pub const MAX_PARAMETERS: usize = design::MAX_PARAMETERS;
 
-    pub const MAX_ROWS: usize = 32;
+    pub const MAX_ROWS: usize = design::MAX_ROWS;
 
-    pub const MAX_STATES: usize = 65536;
+    pub const MAX_STATES: usize = walk::MAX_STATES;
 
-    // A start for each of 8 + 8 + 32 + 32 + 3 lines, and the end of the last.
-    pub const STARTS: usize = 84;
+    // A start for each line, and the end of the last.
+    pub const STARTS: usize = design::MAX_LINES + 1;
 
     // A new desk.
     pub fn empty() -> Desk

@@ -2,13 +2,18 @@
 use desk::Advance;
 use desk::Desk;
 use desk::Done;
+ghost use mathlib.Core.Path.{_≡_};
+ghost use Prim.Native.Nat.{_≤_};
+ghost use Rattle.loader.specs.Load.{faultOf};
 
 // The most advances that are made: as many as there can be states.
 const MOST: u64 = 65536;
 
 // Loads a text: 0, or the number by which it is turned down.
 #[no_mangle]
-pub extern "C" fn desk_load(text: &[u8]) -> u32 {
+pub extern "C" fn desk_load(text: &[u8]) -> u32
+    ensures { λ r. ⌜ r ≡ faultOf (now (text .entry)) ⌝ }
+{
     let loaded = Desk::empty().load(text);
     let answer = loaded.answer;
     match answer {
@@ -19,7 +24,9 @@ pub extern "C" fn desk_load(text: &[u8]) -> u32 {
 
 // Loads a text and advances by n while the desk is open: how many advances that takes.
 #[no_mangle]
-pub extern "C" fn desk_advances(text: &[u8], n: u64) -> u64 {
+pub extern "C" fn desk_advances(text: &[u8], n: u64) -> u64
+    ensures { λ r. ⌜ r ≤ 65536 ⌝ }
+{
     let loaded = Desk::empty().load(text);
     let mut desk = loaded.desk;
     let mut made = 0u64;

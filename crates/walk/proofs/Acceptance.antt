@@ -1,6 +1,6 @@
 -- What a check by the walk comes to: where the counts fit and there are no more states than a design may have, the start is tried as
--- criterion 1, the walk is the walk over the states of the design in the arrays, and the start holds and the walk to the end finds
--- nothing exactly if the design meets all nine criteria.
+-- criterion 1, the walk by the plan of the arrays is the walk over the states of their design, and the start holds and the walk to the
+-- end finds nothing exactly if the design meets all nine criteria.
 use mathlib.Core.Path.{_≡_, refl, sym, _∙_, ap}
 use mathlib.Core.Logic.{_↔_}
 use mathlib.Core.Bool.{Bool, true, false}
@@ -22,7 +22,8 @@ use Rattle.decision.proofs.Demand2.{demand2}
 use Rattle.design.specs.Loaded.{designIn}
 use Rattle.design.specs.declared.Counts.{Counts}
 use Rattle.layout.specs.Sizes.{countsFit}
-use Rattle.walk.specs.Walk.{startIn, walkIn}
+use Rattle.walk.specs.Walk.{startIn, walkIn, planOf, walkBy}
+use Rattle.walk.proofs.Walking.{by-plan}
 
 module _ (f s : List ℕ) (c : Counts) (fits : countsFit c ≡ true) where
   abbrev d : Design
@@ -33,14 +34,14 @@ module _ (f s : List ℕ) (c : Counts) (fits : countsFit c ≡ true) where
   start-tried = rw fits
 
   module _ (few : states d ≤ 65536) where
-    pub states-walked : (n from : ℕ) → from + n ≤ states d → walkIn f s c n from ≡ walk (examine d) n from
+    pub states-walked : (n from : ℕ) → from + n ≤ states d → walkBy f s c (planOf f s c) n from ≡ walk (examine d) n from
     unfolding walkIn
-    states-walked n from l = rw (fits, le-leb (from + n) (min (states d) 65536) (omega arith))
+    states-walked n from l = by-plan f s c n from ∙ rw (fits, le-leb (from + n) (min (states d) 65536) (omega arith))
 
-    pub all-walked : walkIn f s c (states d) 0 .outcome ≡ overStates d
+    pub all-walked : walkBy f s c (planOf f s c) (states d) 0 .outcome ≡ overStates d
     all-walked = ap (λ w. w .outcome) (states-walked (states d) 0 (omega arith))
 
-    pub acceptance : Admitted d → ((startIn f s c ≡ true) × (walkIn f s c (states d) 0 .outcome ≡ pass)) ↔ Meets d
+    pub acceptance : Admitted d → ((startIn f s c ≡ true) × (walkBy f s c (planOf f s c) (states d) 0 .outcome ≡ pass)) ↔ Meets d
     unfolding checked
     acceptance a = (
       λ h. demand2 d a .accepts .0 (rw (sym start-tried ∙ h .0, sym all-walked ∙ h .1)),

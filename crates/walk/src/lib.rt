@@ -31,7 +31,7 @@ pub struct Walked {
 }
 
 // The most states that are walked: their numbers fit 16 bits.
-const MAX_STATES: usize = 65536;
+pub const MAX_STATES: usize = 65536;
 
 // The entries of a plan.
 pub const ENTRIES: usize = plan::ENTRIES;

@@ -1,0 +1,17 @@
+-- `desk_load` returns the number of its load.
+use borrow.Author.Needs.{needs}
+use Rattle.desk_c.proofs.Loads as laws
+use Rattle.desk_c.proofs.desk_load.Statement.{statement}
+use Rattle.desk_c.proofs.desk_load.Tie as tie
+
+pub desk-load-spec : {M : Type 1} → statement M
+desk-load-spec =
+    tie.close
+    (tie.spec
+    (λ c κs. search needs)
+    (λ c κs. search needs)
+    (λ c. search needs)
+    (λ c. search needs)
+    (λ c. search needs)
+    (λ c. search laws.is-done)
+    (λ c. search laws.is-refused))
