@@ -3,6 +3,7 @@ pub mod Kept
 pub mod Reached
 pub mod OneCall
 pub mod Among
+pub mod Counted
 pub mod Demand3
 pub mod Demand1
 pub mod Demand2
