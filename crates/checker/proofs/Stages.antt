@@ -121,7 +121,7 @@ module _ (d : Design) (v : Verdict) (m n : ℕ) where
   unfolding dueOf
   due-decided k p l e o = record { answers = rw (le-ltb (m + n) (stopOf d v) l, e); stays = λ u. absurd (omega arith); decides = λ _. o }
 
-stop-failed : (d : Design) (x : Failure) → x .criterion ≢ 1 → stopOf d (failed x) ≡ suc (x .state)
+pub stop-failed : (d : Design) (x : Failure) → x .criterion ≢ 1 → stopOf d (failed x) ≡ suc (x .state)
 stop-failed d x o = rw (ne-eqb (x .criterion) 1 o)
 
 -- what an advance came to

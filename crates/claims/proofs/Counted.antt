@@ -1,25 +1,22 @@
 -- How many states a check walked over m states examines: m of them, or as many as there are till it is decided (`counted`).
-use Prim.Native.Nat.{ℕ, suc, _+_, _≤_, min}
-use mathlib.Core.Path.{_≡_, refl, sym, ap, _∙_}
-use mathlib.Core.Logic.{_≢_}
+use Prim.Native.Nat.{ℕ, _+_, min}
+use mathlib.Core.Path.{_≡_, refl, sym, _∙_}
 use mathlib.Core.Bool.{Bool, true, false}
 use native.Mathlib.Omega.{arith}
-use borrow.Author.Tests.{ne-eqb, leb-true, leb-false}
+use borrow.Author.Tests.{leb-true, leb-false}
 use lib.Dec.{leb}
 use Rattle.foundation.specs.First.{Outcome, pass, fail}
 use Rattle.foundation.specs.Walk.{walk}
 use Rattle.foundation.proofs.Walk.{pass-count, count-most}
 use Rattle.criteria.specs.Design.{Design, Admitted, states}
-use Rattle.criteria.specs.Failure.{Failure, startFailure}
+use Rattle.criteria.specs.Failure.{Failure}
 use Rattle.criteria.specs.Verdict.{Verdict, accepted, failed}
 use Rattle.decision.specs.Tests.{holds1}
 use Rattle.decision.specs.Examine.{examine}
 use Rattle.decision.specs.Verdict.{verdictOf}
 use Rattle.decision.proofs.Progress.{Progress, begins, goes-on, ends-at-start, ends-well, ends-badly, fails-at, fails-later}
 use Rattle.checker.specs.Count.{examined, stopOf}
-
-stop-at : (d : Design) (x : Failure) → x .criterion ≢ 1 → stopOf d (failed x) ≡ suc (x .state)
-stop-at d x o = rw (ne-eqb (x .criterion) 1 o)
+use Rattle.checker.proofs.Stages.{stop-failed}
 
 module _ (d : Design) (a : Admitted d) (m : ℕ) where
   abbrev j : ℕ
@@ -45,7 +42,7 @@ module _ (d : Design) (a : Admitted d) (m : ℕ) where
           let g = leb-false (states d) m l in
           let t = fails-later d a j x p (omega arith) e in
           let later = t .0 in
-          let s = stop-at d x (t .1) in
+          let s = stop-failed d x (t .1) in
           omega arith
 
   walked : holds1 d ≡ true → (o : Outcome Failure) → walk (examine d) j 0 .outcome ≡ o → walk (examine d) j 0 .count ≡ min m (stopOf d (verdictOf d))
@@ -57,7 +54,7 @@ module _ (d : Design) (a : Admitted d) (m : ℕ) where
       let t = fails-at d a 0 j x (omega arith) e in
       let at = t .0 in
       let most = count-most (examine d) j 0 in
-      let s = stop-at d x (t .1) in
+      let s = stop-failed d x (t .1) in
       rw (ends-badly d 0 j x (begins d h) (omega arith) e) (omega arith)
 
   pub counted : examined d m ≡ min m (stopOf d (verdictOf d))

@@ -5,3 +5,4 @@ pub mod Loaded
 pub mod Terms
 pub mod Same
 pub mod Printed
+pub mod Again

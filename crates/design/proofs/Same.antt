@@ -91,35 +91,35 @@ abbrev pub Made : List (List ℕ) → Type 0
 Made lines = EachLine (λ line. 3 ≤ kindOf line → LineTerms (countOf 1 lines) (countOf 2 lines) line (kindOf line)) lines
 
 -- what the terms of a line are, by its kind
-row-terms : {n m k : ℕ} {line : List ℕ} → LineTerms n m line k → k ≡ 3 → Terms n true (formula ∷ value ∷ nValues n) (drop 3 line)
+pub row-terms : {n m k : ℕ} {line : List ℕ} → LineTerms n m line k → k ≡ 3 → Terms n true (formula ∷ value ∷ nValues n) (drop 3 line)
 row-terms (of-implementation t) e = t
 row-terms (of-specification t) e = absurd (omega arith)
 row-terms (invariant t) e = absurd (omega arith)
 row-terms (mapping t) e = absurd (omega arith)
 row-terms (measure t) e = absurd (omega arith)
 
-spec-terms : {n m k : ℕ} {line : List ℕ} → LineTerms n m line k → k ≡ 4 → Terms m true (formula ∷ value ∷ nValues m) (drop 3 line)
+pub spec-terms : {n m k : ℕ} {line : List ℕ} → LineTerms n m line k → k ≡ 4 → Terms m true (formula ∷ value ∷ nValues m) (drop 3 line)
 spec-terms (of-implementation t) e = absurd (omega arith)
 spec-terms (of-specification t) e = t
 spec-terms (invariant t) e = absurd (omega arith)
 spec-terms (mapping t) e = absurd (omega arith)
 spec-terms (measure t) e = absurd (omega arith)
 
-invariant-terms : {n m k : ℕ} {line : List ℕ} → LineTerms n m line k → k ≡ 5 → Terms n false (formula ∷ []) (drop 1 line)
+pub invariant-terms : {n m k : ℕ} {line : List ℕ} → LineTerms n m line k → k ≡ 5 → Terms n false (formula ∷ []) (drop 1 line)
 invariant-terms (of-implementation t) e = absurd (omega arith)
 invariant-terms (of-specification t) e = absurd (omega arith)
 invariant-terms (invariant t) e = t
 invariant-terms (mapping t) e = absurd (omega arith)
 invariant-terms (measure t) e = absurd (omega arith)
 
-mapping-terms : {n m k : ℕ} {line : List ℕ} → LineTerms n m line k → k ≡ 6 → Terms n false (nValues m) (drop 1 line)
+pub mapping-terms : {n m k : ℕ} {line : List ℕ} → LineTerms n m line k → k ≡ 6 → Terms n false (nValues m) (drop 1 line)
 mapping-terms (of-implementation t) e = absurd (omega arith)
 mapping-terms (of-specification t) e = absurd (omega arith)
 mapping-terms (invariant t) e = absurd (omega arith)
 mapping-terms (mapping t) e = t
 mapping-terms (measure t) e = absurd (omega arith)
 
-measure-terms : {n m k : ℕ} {line : List ℕ} → LineTerms n m line k → k ≡ 7 → Terms n false (value ∷ []) (drop 1 line)
+pub measure-terms : {n m k : ℕ} {line : List ℕ} → LineTerms n m line k → k ≡ 7 → Terms n false (value ∷ []) (drop 1 line)
 measure-terms (of-implementation t) e = absurd (omega arith)
 measure-terms (of-specification t) e = absurd (omega arith)
 measure-terms (invariant t) e = absurd (omega arith)
