@@ -22,7 +22,8 @@ pub extern "C" fn desk_load(text: &[u8]) -> u32
     }
 }
 
-// Loads a text and advances by n while the desk is open: how many advances that takes.
+// Loads a text and advances by n while the desk is open: how many advances that takes. That number is free up to the bound; the
+// benchmark compares it with the number of states.
 #[no_mangle]
 pub extern "C" fn desk_advances(text: &[u8], n: u64) -> u64
     ensures { λ r. ⌜ r ≤ 65536 ⌝ }
