@@ -10,9 +10,6 @@ ghost use Rattle.design.specs.Loaded.{lineFrom};
 ghost use Rattle.action_check.specs.ActionsFit.{actionsFitIn};
 ghost use Rattle.action_check.specs.Lines as lines;
 
-// The start of each line is kept, and one more for the end.
-pub const STARTS: usize = design::MAX_LINES + 1;
-
 // "Action 0 is the internal step."
 const INTERNAL: u16 = 0;
 
@@ -25,8 +22,8 @@ const TERMS: usize = 3;
 
 // Whether the design that the arrays hold is free of fault 7, where the counts of lines are those that a text may have.
 pub fn actions_fit<'a>(
-    fields: &'a [u16; terms::MAX_FIELDS],
-    starts: &'a [u16; STARTS],
+    fields: &'a limits::Fields,
+    starts: &'a limits::Starts,
     counts: Counts,
 ) -> bool
     ensures { λ r. ⌜ r ≡ actionsFitIn (now (fields .entry)) (now (starts .entry)) counts ⌝ }
@@ -48,8 +45,8 @@ pub fn actions_fit<'a>(
 // Whether the rows are free of fault 7: those of the implementation from one line on, those of the specification from the middle to
 // the end.
 fn rows_fit<'a>(
-    fields: &'a [u16; terms::MAX_FIELDS],
-    starts: &'a [u16; STARTS],
+    fields: &'a limits::Fields,
+    starts: &'a limits::Starts,
     from: usize,
     middle: usize,
     end: usize,
@@ -73,8 +70,8 @@ fn rows_fit<'a>(
 
 // Whether each visible action of the rows from one line on, up to the end, stands in one of them only.
 fn all_alone<'a>(
-    fields: &'a [u16; terms::MAX_FIELDS],
-    starts: &'a [u16; STARTS],
+    fields: &'a limits::Fields,
+    starts: &'a limits::Starts,
     from: usize,
     end: usize,
 ) -> bool
@@ -92,8 +89,8 @@ fn all_alone<'a>(
 
 // Whether a row is internal, or no later row has its action.
 fn is_alone<'a>(
-    fields: &'a [u16; terms::MAX_FIELDS],
-    starts: &'a [u16; STARTS],
+    fields: &'a limits::Fields,
+    starts: &'a limits::Starts,
     i: usize,
     end: usize,
 ) -> bool
@@ -109,8 +106,8 @@ fn is_alone<'a>(
 
 // Whether none of the rows from one line on, up to the end, has this action.
 fn all_differ<'a>(
-    fields: &'a [u16; terms::MAX_FIELDS],
-    starts: &'a [u16; STARTS],
+    fields: &'a limits::Fields,
+    starts: &'a limits::Starts,
     action: u16,
     from: usize,
     end: usize,
@@ -129,8 +126,8 @@ fn all_differ<'a>(
 
 // Whether a row has another action than this.
 fn differs<'a>(
-    fields: &'a [u16; terms::MAX_FIELDS],
-    starts: &'a [u16; STARTS],
+    fields: &'a limits::Fields,
+    starts: &'a limits::Starts,
     action: u16,
     i: usize,
 ) -> bool
@@ -141,8 +138,8 @@ fn differs<'a>(
 
 // Whether each internal row has data `0 0`.
 fn all_bare<'a>(
-    fields: &'a [u16; terms::MAX_FIELDS],
-    starts: &'a [u16; STARTS],
+    fields: &'a limits::Fields,
+    starts: &'a limits::Starts,
     from: usize,
     end: usize,
 ) -> bool
@@ -159,7 +156,7 @@ fn all_bare<'a>(
 }
 
 // Whether a row is visible, or its data is `0 0`.
-fn is_bare<'a>(fields: &'a [u16; terms::MAX_FIELDS], starts: &'a [u16; STARTS], i: usize) -> bool
+fn is_bare<'a>(fields: &'a limits::Fields, starts: &'a limits::Starts, i: usize) -> bool
     ensures { λ r. ⌜ r ≡ lines.bare (now (fields .entry)) (now (starts .entry)) i ⌝ }
 {
     if number(fields, starts, i, ACTION) != INTERNAL {
@@ -170,15 +167,15 @@ fn is_bare<'a>(fields: &'a [u16; terms::MAX_FIELDS], starts: &'a [u16; STARTS], 
 
 // Whether a row's data, which stands after its condition, is `0 0`.
 fn has_zero_data<'a>(
-    fields: &'a [u16; terms::MAX_FIELDS],
-    starts: &'a [u16; STARTS],
+    fields: &'a limits::Fields,
+    starts: &'a limits::Starts,
     i: usize,
 ) -> bool
     ensures { λ r. ⌜ r ≡ lines.bareAt (now (fields .entry)) (now (starts .entry)) i ⌝ }
 {
-    let anywhere = [0u16; terms::MAX_PARAMETERS];
+    let anywhere = [0u16; limits::MAX_PARAMETERS];
     let condition = terms::field(starts, i) as usize + TERMS;
-    let after = eval::formula(fields, condition, &anywhere, 0, terms::MAX_DEPTH);
+    let after = eval::formula(fields, condition, &anywhere, 0, limits::MAX_DEPTH);
     is_zero(fields, after.next)
 }
 
@@ -200,8 +197,8 @@ fn is_zero(fields: &[u16], at: usize) -> bool
 
 // Whether each row of the one process has the span of each row of its action in the other.
 fn all_agree<'a>(
-    fields: &'a [u16; terms::MAX_FIELDS],
-    starts: &'a [u16; STARTS],
+    fields: &'a limits::Fields,
+    starts: &'a limits::Starts,
     from: usize,
     middle: usize,
     end: usize,
@@ -220,8 +217,8 @@ fn all_agree<'a>(
 
 // Whether a row has the span of each row of its action from one line on, up to the end.
 fn agrees<'a>(
-    fields: &'a [u16; terms::MAX_FIELDS],
-    starts: &'a [u16; STARTS],
+    fields: &'a limits::Fields,
+    starts: &'a limits::Starts,
     i: usize,
     from: usize,
     end: usize,
@@ -240,8 +237,8 @@ fn agrees<'a>(
 
 // Whether two rows have different actions, or one span.
 fn agree<'a>(
-    fields: &'a [u16; terms::MAX_FIELDS],
-    starts: &'a [u16; STARTS],
+    fields: &'a limits::Fields,
+    starts: &'a limits::Starts,
     i: usize,
     j: usize,
 ) -> bool
@@ -255,8 +252,8 @@ fn agree<'a>(
 
 // The k-th field of a line.
 fn number<'a>(
-    fields: &'a [u16; terms::MAX_FIELDS],
-    starts: &'a [u16; STARTS],
+    fields: &'a limits::Fields,
+    starts: &'a limits::Starts,
     i: usize,
     k: u16,
 ) -> u16

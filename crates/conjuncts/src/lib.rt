@@ -29,12 +29,12 @@ const AND: u16 = 15;
 const MOST: u16 = 32;
 
 // How many conjuncts in front of the condition at a place do not read the sum value.
-pub fn front(desk: &[u16; terms::MAX_FIELDS], at: usize) -> u16
+pub fn front(desk: &limits::Fields, at: usize) -> u16
     ensures { λ r. ⌜ r ≡ frontOf (now (desk .entry)) at 32 ⌝ }
 {
     let fields: &[u16] = desk;
     let mut place = at;
-    let mut depth = terms::MAX_DEPTH;
+    let mut depth = limits::MAX_DEPTH;
     let mut n = 0;
     while 0 < depth {
         if fields.len() <= place {
@@ -56,10 +56,10 @@ pub fn front(desk: &[u16; terms::MAX_FIELDS], at: usize) -> u16
 
 // The first conjunct of the formula at a place, if there is one: whether it holds.
 fn first_conjunct(
-    desk: &[u16; terms::MAX_FIELDS],
+    desk: &limits::Fields,
     at: usize,
     depth: usize,
-    v: &[u16; terms::MAX_PARAMETERS],
+    v: &limits::Values,
     sum: u16,
 ) -> Conjunct
     ensures { λ r. ⌜ r ≡ conjunctIn (now (desk .entry)) (now (v .entry)) sum at depth ⌝ }
@@ -96,16 +96,16 @@ fn no_conjunct(at: usize, depth: usize) -> Conjunct
 
 // Whether the first n conjuncts of the condition at a place hold.
 pub fn guard(
-    fields: &[u16; terms::MAX_FIELDS],
+    fields: &limits::Fields,
     at: usize,
-    v: &[u16; terms::MAX_PARAMETERS],
+    v: &limits::Values,
     sum: u16,
     n: u16,
 ) -> Guarded
     ensures { λ r. ⌜ r ≡ guardIn (now (fields .entry)) (now (v .entry)) sum n at 32 ⌝ }
 {
     let mut place = at;
-    let mut depth = terms::MAX_DEPTH;
+    let mut depth = limits::MAX_DEPTH;
     let mut i = 0;
     while i < n {
         let left = first_conjunct(fields, place, depth, v, sum);
@@ -136,9 +136,9 @@ pub fn guard(
 
 // Whether the formula at a place holds. Of a conjunction no more is evaluated than up to the first conjunct that fails.
 pub fn holds(
-    fields: &[u16; terms::MAX_FIELDS],
+    fields: &limits::Fields,
     at: usize,
-    v: &[u16; terms::MAX_PARAMETERS],
+    v: &limits::Values,
     sum: u16,
 ) -> bool
     ensures { λ r. ⌜ r ≡ evalF (readF 32 (drop at (now (fields .entry))) .tree) (now (v .entry)) sum ⌝ }

@@ -7,6 +7,7 @@ use mathlib.Core.Logic.{_≢_, _⊎_}
 use mathlib.Core.Bool.{Bool, true, false}
 use mathlib.Core.List.{List, [], _∷_, _++_, map, List·Memᴰ}
 use lib.ListN.{length, getD, drop}
+use Rattle.limits.specs.Limits.{maxDepth, maxParameters, maxRows, maxSpan, maxStates}
 use Rattle.foundation.specs.Radix.{product}
 use Rattle.terms.specs.Tree.{Value, Formula, num, okV, okF}
 use Rattle.terms.specs.Depth.{depthV, depthF}
@@ -29,7 +30,7 @@ abbrev pub fewest : List ℕ
 fewest = 0 ∷ 1 ∷ 1 ∷ 0 ∷ 0 ∷ 1 ∷ 1 ∷ 1 ∷ []
 
 abbrev pub most : List ℕ
-most = 0 ∷ 8 ∷ 8 ∷ 32 ∷ 32 ∷ 1 ∷ 1 ∷ 1 ∷ []
+most = 0 ∷ maxParameters ∷ maxParameters ∷ maxRows ∷ maxRows ∷ 1 ∷ 1 ∷ 1 ∷ []
 
 abbrev pub Allowed : ℕ → ℕ → Type 0
 Allowed k n = (getD fewest k 0 ≤ n) × (n ≤ getD most k 0)
@@ -62,9 +63,9 @@ pub data Fault5 (lines : List (List ℕ)) : Type 0 where
   -- "initial values below their size"
   initial : {line : List ℕ} → List·Memᴰ line lines → IsParameter (kindOf line) → sizeOf line ≤ getD line 2 0 → Fault5 lines
   -- "spans at most 256"
-  span : {line : List ℕ} → List·Memᴰ line lines → IsRow (kindOf line) → (getD line 2 0 ≡ 0) ⊎ (256 < getD line 2 0) → Fault5 lines
+  span : {line : List ℕ} → List·Memᴰ line lines → IsRow (kindOf line) → (getD line 2 0 ≡ 0) ⊎ (maxSpan < getD line 2 0) → Fault5 lines
   -- "The product of the kind 1 sizes is at most 65,536"
-  states : 65536 < product (map sizeOf (ofKind 1 lines)) → Fault5 lines
+  states : maxStates < product (map sizeOf (ofKind 1 lines)) → Fault5 lines
 
 -- ---- 6. "A term with a wrong mark, a parameter that doesn't exist, a sum value outside a row, depth over 32, or a line that ends
 -- early or late." So a line is as it should be if it is its terms, one after the other, and nothing else.
@@ -76,9 +77,9 @@ pub data Sort : Type 0 where
 -- fields are the terms of these sorts, of n parameters, in a row or not
 pub data Terms (n : ℕ) (row : Bool) : List Sort → List ℕ → Type 0 where
   none : Terms n row [] []
-  then-value : {sorts : List Sort} {fields : List ℕ} (v : Value) → okV v n row ≡ true → depthV v ≤ 32 → Terms n row sorts fields
+  then-value : {sorts : List Sort} {fields : List ℕ} (v : Value) → okV v n row ≡ true → depthV v ≤ maxDepth → Terms n row sorts fields
       → Terms n row (value ∷ sorts) (printV v ++ fields)
-  then-formula : {sorts : List Sort} {fields : List ℕ} (f : Formula) → okF f n row ≡ true → depthF f ≤ 32 → Terms n row sorts fields
+  then-formula : {sorts : List Sort} {fields : List ℕ} (f : Formula) → okF f n row ≡ true → depthF f ≤ maxDepth → Terms n row sorts fields
       → Terms n row (formula ∷ sorts) (printF f ++ fields)
 
 -- n values

@@ -8,10 +8,3 @@ pub struct Counts {
     pub kind3: usize,
     pub kind4: usize,
 }
-
-// A text has at most 8 + 8 + 32 + 32 + 3 lines.
-pub const MAX_PARAMETERS: usize = 8;
-
-pub const MAX_ROWS: usize = 32;
-
-pub const MAX_LINES: usize = 83;

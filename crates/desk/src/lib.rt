@@ -21,8 +21,8 @@ pub enum Phase {
 
 pub struct Desk {
     // The fields of the text's lines, and where each line starts.
-    pub fields: [u16; Desk::MAX_FIELDS],
-    pub starts: [u16; Desk::STARTS],
+    pub fields: limits::Fields,
+    pub starts: limits::Starts,
     pub counts: Counts,
     // What the walk needs to know of every state, worked out when the text is loaded.
     pub plan: [u16; walk::ENTRIES],
@@ -75,18 +75,18 @@ pub struct AfterDrop {
 
 impl Desk {
     // The limits of a text: its fields in all, the depth of a term, parameters and rows of a process, states.
-    pub const MAX_FIELDS: usize = terms::MAX_FIELDS;
+    pub const MAX_FIELDS: usize = limits::MAX_FIELDS;
 
-    pub const MAX_DEPTH: usize = terms::MAX_DEPTH;
+    pub const MAX_DEPTH: usize = limits::MAX_DEPTH;
 
-    pub const MAX_PARAMETERS: usize = design::MAX_PARAMETERS;
+    pub const MAX_PARAMETERS: usize = limits::MAX_PARAMETERS;
 
-    pub const MAX_ROWS: usize = design::MAX_ROWS;
+    pub const MAX_ROWS: usize = limits::MAX_ROWS;
 
     pub const MAX_STATES: usize = walk::MAX_STATES;
 
     // A start for each line, and the end of the last.
-    pub const STARTS: usize = design::MAX_LINES + 1;
+    pub const STARTS: usize = limits::MAX_LINES + 1;
 
     // A new desk.
     pub fn empty() -> Desk

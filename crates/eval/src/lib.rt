@@ -26,9 +26,9 @@ pub struct Held {
 // The value of the term at a place of the desk's fields, for parameter values and a sum value. `0 n`, `1 i` and `2` are answered here;
 // any other term, and one at the very end of the fields, goes by its mark.
 pub fn value(
-    desk: &[u16; terms::MAX_FIELDS],
+    desk: &limits::Fields,
     at: usize,
-    params: &[u16; terms::MAX_PARAMETERS],
+    params: &limits::Values,
     sum: u16,
     depth: usize,
 ) -> Valued
@@ -65,9 +65,9 @@ pub fn value(
 
 // Whether the formula at a place of the desk's fields holds. `10` and `11` are answered here.
 pub fn formula(
-    desk: &[u16; terms::MAX_FIELDS],
+    desk: &limits::Fields,
     at: usize,
-    params: &[u16; terms::MAX_PARAMETERS],
+    params: &limits::Values,
     sum: u16,
     depth: usize,
 ) -> Held
@@ -96,9 +96,9 @@ pub fn formula(
 
 // The value of any term at a place. It calls itself for the last value of a choice.
 fn value_by_mark(
-    desk: &[u16; terms::MAX_FIELDS],
+    desk: &limits::Fields,
     at: usize,
-    params: &[u16; terms::MAX_PARAMETERS],
+    params: &limits::Values,
     sum: u16,
     depth: usize,
 ) -> Valued
@@ -168,9 +168,9 @@ fn value_by_mark(
 
 // Whether any formula at a place holds. It calls itself for a negation.
 fn formula_by_mark(
-    desk: &[u16; terms::MAX_FIELDS],
+    desk: &limits::Fields,
     at: usize,
-    params: &[u16; terms::MAX_PARAMETERS],
+    params: &limits::Values,
     sum: u16,
     depth: usize,
 ) -> Held

@@ -8,27 +8,27 @@ ghost use Rattle.terms.specs.Read.{readV, readF};
 // The value of the term at a place of the desk's fields.
 #[no_mangle]
 pub extern "C" fn bench_value(
-    desk: &[u16; terms::MAX_FIELDS],
+    desk: &limits::Fields,
     at: usize,
-    params: &[u16; terms::MAX_PARAMETERS],
+    params: &limits::Values,
     sum: u16,
 ) -> u16
     ensures { λ r. ⌜ r ≡ evalV ((readV 32 (drop at (now (desk .entry)))) .tree) (now (params .entry)) sum ⌝ }
 {
-    let r = eval::value(desk, at, params, sum, terms::MAX_DEPTH);
+    let r = eval::value(desk, at, params, sum, limits::MAX_DEPTH);
     r.value
 }
 
 // Whether the formula at a place of the desk's fields holds.
 #[no_mangle]
 pub extern "C" fn bench_formula(
-    desk: &[u16; terms::MAX_FIELDS],
+    desk: &limits::Fields,
     at: usize,
-    params: &[u16; terms::MAX_PARAMETERS],
+    params: &limits::Values,
     sum: u16,
 ) -> bool
     ensures { λ r. ⌜ r ≡ evalF ((readF 32 (drop at (now (desk .entry)))) .tree) (now (params .entry)) sum ⌝ }
 {
-    let r = eval::formula(desk, at, params, sum, terms::MAX_DEPTH);
+    let r = eval::formula(desk, at, params, sum, limits::MAX_DEPTH);
     r.holds
 }

@@ -9,18 +9,18 @@ ghost use Rattle.design.specs.Loaded.{lineFrom};
 ghost use Rattle.layout.specs.Sizes.{countsFit, shapeOf, productUpTo, stateCountIn, numberUpTo, initialNumberIn};
 
 // One more than the most states that a design may have: a count that says "too many".
-pub const TOO_MANY: u32 = 65537;
+pub const TOO_MANY: u32 = limits::MAX_STATES as u32 + 1;
 
 // The largest number of a state.
-pub const LAST_NUMBER: u32 = 65535;
+pub const LAST_NUMBER: u32 = limits::MAX_STATES as u32 - 1;
 
 // Whether there are no more lines of kinds 1 to 4 than a text may have.
 pub fn counts_fit(counts: Counts) -> bool
     ensures { λ r. ⌜ r ≡ countsFit counts ⌝ }
 {
-    (counts.kind1 <= design::MAX_PARAMETERS)
-        & ((counts.kind2 <= design::MAX_PARAMETERS)
-            & ((counts.kind3 <= design::MAX_ROWS) & (counts.kind4 <= design::MAX_ROWS)))
+    (counts.kind1 <= limits::MAX_PARAMETERS)
+        & ((counts.kind2 <= limits::MAX_PARAMETERS)
+            & ((counts.kind3 <= limits::MAX_ROWS) & (counts.kind4 <= limits::MAX_ROWS)))
 }
 
 // How many lines of kinds 1 to 4 there are, a byte for each: sums of these never wrap.
@@ -60,28 +60,28 @@ pub fn shape_of(counts: Counts) -> Shape
 }
 
 // Where line i starts among the fields, and 0 past the last line.
-pub fn line(starts: &[u16; 84], i: usize) -> u16
+pub fn line(starts: &limits::Starts, i: usize) -> u16
     ensures { λ r. ⌜ r ≡ getD (now (starts .entry)) i 0 ⌝ }
 {
     terms::field(starts, i)
 }
 
 // Field k of the line that starts at a place, the kind being field 0.
-pub fn field_of(fields: &[u16; terms::MAX_FIELDS], line: u16, k: u16) -> u16
+pub fn field_of(fields: &limits::Fields, line: u16, k: u16) -> u16
     ensures { λ r. ⌜ r ≡ getD (drop line (now (fields .entry))) k 0 ⌝ }
 {
     terms::field(fields, line as usize + k as usize)
 }
 
 // The size of the parameter in line i.
-pub fn size<'a>(fields: &'a [u16; terms::MAX_FIELDS], starts: &'a [u16; 84], i: usize) -> u16
+pub fn size<'a>(fields: &'a limits::Fields, starts: &'a limits::Starts, i: usize) -> u16
     ensures { λ r. ⌜ r ≡ getD (lineFrom (now (fields .entry)) (now (starts .entry)) i) 1 0 ⌝ }
 {
     field_of(fields, line(starts, i), 1)
 }
 
 // The initial value of the parameter in line i.
-pub fn initial<'a>(fields: &'a [u16; terms::MAX_FIELDS], starts: &'a [u16; 84], i: usize) -> u16
+pub fn initial<'a>(fields: &'a limits::Fields, starts: &'a limits::Starts, i: usize) -> u16
     ensures { λ r. ⌜ r ≡ getD (lineFrom (now (fields .entry)) (now (starts .entry)) i) 2 0 ⌝ }
 {
     field_of(fields, line(starts, i), 2)
@@ -97,8 +97,8 @@ fn onward(v: u32, z: u16, x: u16, most: u32) -> u32
 
 // How many states there are, and `TOO_MANY` where there are more than a design may have; 0 where the counts do not fit.
 pub fn state_count<'a>(
-    fields: &'a [u16; terms::MAX_FIELDS],
-    starts: &'a [u16; 84],
+    fields: &'a limits::Fields,
+    starts: &'a limits::Starts,
     counts: Counts,
 ) -> usize
     ensures { λ r. ⌜ r ≡ stateCountIn (now (fields .entry)) (now (starts .entry)) counts ⌝ }
@@ -111,7 +111,7 @@ pub fn state_count<'a>(
 }
 
 // The product of the first n sizes, but no more than `TOO_MANY`.
-fn product<'a>(fields: &'a [u16; terms::MAX_FIELDS], starts: &'a [u16; 84], n: usize) -> u32
+fn product<'a>(fields: &'a limits::Fields, starts: &'a limits::Starts, n: usize) -> u32
     ensures { λ r. ⌜ r ≡ productUpTo (now (fields .entry)) (now (starts .entry)) n ⌝ }
 {
     let mut p = 1;
@@ -125,8 +125,8 @@ fn product<'a>(fields: &'a [u16; terms::MAX_FIELDS], starts: &'a [u16; 84], n: u
 
 // The number of the initial state, where it is at most `LAST_NUMBER`, and else that; 0 where the counts do not fit.
 pub fn initial_number<'a>(
-    fields: &'a [u16; terms::MAX_FIELDS],
-    starts: &'a [u16; 84],
+    fields: &'a limits::Fields,
+    starts: &'a limits::Starts,
     counts: Counts,
 ) -> u16
     ensures { λ r. ⌜ r ≡ initialNumberIn (now (fields .entry)) (now (starts .entry)) counts ⌝ }
@@ -139,7 +139,7 @@ pub fn initial_number<'a>(
 }
 
 // The number of the first n initial values, but no more than `LAST_NUMBER`.
-fn number<'a>(fields: &'a [u16; terms::MAX_FIELDS], starts: &'a [u16; 84], n: usize) -> u32
+fn number<'a>(fields: &'a limits::Fields, starts: &'a limits::Starts, n: usize) -> u32
     ensures { λ r. ⌜ r ≡ numberUpTo (now (fields .entry)) (now (starts .entry)) n ⌝ }
 {
     let mut v = 0;

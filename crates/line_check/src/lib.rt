@@ -41,7 +41,7 @@ fn row_fits(line: &[u8], params: u16) -> bool
 fn formula_then_values_fit(part: &[u8], count: usize, params: u16, row: bool) -> bool
     ensures { λ r. ⌜ r ≡ termsFit params row (formula ∷ nValues count) (fieldsOf (now (part .entry))) ⌝ }
 {
-    let f = term_check::formula(part, params, row, terms::MAX_DEPTH);
+    let f = term_check::formula(part, params, row, limits::MAX_DEPTH);
     let Checked::Next(used) = f else {
         return false;
     };
@@ -55,7 +55,7 @@ fn values_fit(part: &[u8], count: usize, params: u16, row: bool) -> bool
     let mut left = part;
     let mut i = 0;
     while i < count {
-        let v = term_check::value(left, params, row, terms::MAX_DEPTH);
+        let v = term_check::value(left, params, row, limits::MAX_DEPTH);
         let Checked::Next(used) = v else {
             return false;
         };

@@ -20,16 +20,12 @@ ghost use Rattle.design.specs.Tests.{climbs, countsFit, layoutFits, eachLineIs,
 // A text's fault, or 0; then the arrays hold the text's lines.
 pub struct Loaded {
     pub fault: u16,
-    pub fields: [u16; 4096],
-    pub starts: [u16; 84],
+    pub fields: limits::Fields,
+    pub starts: limits::Starts,
     pub counts: Counts,
 }
 
 const LAST_KIND: u16 = 7;
-
-const MAX_SPAN: u16 = 256;
-
-const MAX_STATES: usize = 65536;
 
 // The lowest fault of a text, or the arrays that hold it.
 pub fn load(text: &[u8]) -> Loaded
@@ -39,10 +35,10 @@ pub fn load(text: &[u8]) -> Loaded
     if fault != 0 {
         return refused(fault);
     }
-    let mut fields = [0u16; 4096];
-    let mut starts = [0u16; 84];
+    let mut fields = [0u16; limits::MAX_FIELDS];
+    let mut starts = [0u16; limits::STARTS];
     let lines = fill(text, &mut fields, &mut starts);
-    if design::MAX_LINES < lines {
+    if limits::MAX_LINES < lines {
         return refused(4);
     }
     let counts = counts_of(&fields, &starts, lines);
@@ -64,8 +60,8 @@ fn refused(fault: u16) -> Loaded
 {
     Loaded {
         fault,
-        fields: [0u16; 4096],
-        starts: [0u16; 84],
+        fields: [0u16; limits::MAX_FIELDS],
+        starts: [0u16; limits::STARTS],
         counts: Counts {
             kind1: 0,
             kind2: 0,
@@ -78,8 +74,8 @@ fn refused(fault: u16) -> Loaded
 // The lowest of the faults 4 to 7, or 0.
 fn table_fault<'a>(
     text: &'a [u8],
-    fields: &'a [u16; 4096],
-    starts: &'a [u16; 84],
+    fields: &'a limits::Fields,
+    starts: &'a limits::Starts,
     lines: usize,
     counts: Counts,
 ) -> u16
@@ -92,7 +88,7 @@ fn table_fault<'a>(
     if !numbers_fit(fields, starts, lines) {
         return 5;
     }
-    if MAX_STATES < layout::state_count(fields, starts, counts) {
+    if limits::MAX_STATES < layout::state_count(fields, starts, counts) {
         return 5;
     }
     if !terms_fit(text, counts.kind1 as u16, counts.kind2 as u16) {
@@ -121,10 +117,10 @@ fn layout_fits<'a>(fields: &'a [u16], starts: &'a [u16], n: usize) -> bool
 fn counts_fit<'a>(fields: &'a [u16], starts: &'a [u16], n: usize) -> bool
     ensures { λ r. ⌜ r ≡ countsFit (heldLines (now (fields .entry)) (now (starts .entry)) n) ⌝ }
 {
-    count_fits(fields, starts, n, 1, 1, design::MAX_PARAMETERS)
-        & (count_fits(fields, starts, n, 2, 1, design::MAX_PARAMETERS)
-            & (count_fits(fields, starts, n, 3, 0, design::MAX_ROWS)
-                & (count_fits(fields, starts, n, 4, 0, design::MAX_ROWS)
+    count_fits(fields, starts, n, 1, 1, limits::MAX_PARAMETERS)
+        & (count_fits(fields, starts, n, 2, 1, limits::MAX_PARAMETERS)
+            & (count_fits(fields, starts, n, 3, 0, limits::MAX_ROWS)
+                & (count_fits(fields, starts, n, 4, 0, limits::MAX_ROWS)
                     & (count_fits(fields, starts, n, 5, 1, 1)
                         & (count_fits(fields, starts, n, 6, 1, 1)
                             & count_fits(fields, starts, n, 7, 1, 1))))))
@@ -146,7 +142,7 @@ fn count_fits<'a>(
 }
 
 // How many of the first n lines are of kinds 1 to 4.
-fn counts_of<'a>(fields: &'a [u16; 4096], starts: &'a [u16; 84], n: usize) -> Counts
+fn counts_of<'a>(fields: &'a limits::Fields, starts: &'a limits::Starts, n: usize) -> Counts
     ensures { λ r. ⌜ r ≡ countsOf (heldLines (now (fields .entry)) (now (starts .entry)) n) ⌝ }
 {
     Counts {
@@ -195,7 +191,7 @@ fn kind_of(line: &[u8]) -> u16
 
 // The fields of a text's lines one after the other, and where each line starts; how many lines there are, or one more than
 // `MAX_LINES` where there are more.
-fn fill(text: &[u8], fields: &mut [u16; 4096], starts: &mut [u16; 84]) -> usize
+fn fill(text: &[u8], fields: &mut limits::Fields, starts: &mut limits::Starts) -> usize
     requires { ⌜ columnsFault (now text) ≡ 0 ⌝ }
     ensures { λ r. ⌜ Filled (fieldsByLine (now (text .entry))) (now (fields .entry)) (now (starts .entry)) r (now (fields .exit)) (now (starts .exit)) ⌝ }
 {
@@ -203,8 +199,8 @@ fn fill(text: &[u8], fields: &mut [u16; 4096], starts: &mut [u16; 84]) -> usize
     let mut to = 0;
     let mut lines = 0;
     while at < text.len() {
-        if design::MAX_LINES <= lines {
-            return design::MAX_LINES + 1;
+        if limits::MAX_LINES <= lines {
+            return limits::MAX_LINES + 1;
         }
         starts[lines] = to as u16;
         let n = copy_fields(&text[at..], fields, to);
@@ -217,7 +213,7 @@ fn fill(text: &[u8], fields: &mut [u16; 4096], starts: &mut [u16; 84]) -> usize
 }
 
 // The fields that a part begins with, into the array from `to` on; how many they are.
-fn copy_fields(part: &[u8], fields: &mut [u16; 4096], to: usize) -> usize
+fn copy_fields(part: &[u8], fields: &mut limits::Fields, to: usize) -> usize
     requires { ⌜ to + length (fieldsOf (now part)) ≤ 4096 ⌝ }
     ensures { λ r. ⌜ r ≡ length (fieldsOf (now (part .entry))) ⌝ }
     ensures { λ _. ⌜ now (fields .exit) ≡ sets (now (fields .entry)) to (fieldsOf (now (part .entry))) ⌝ }
@@ -374,7 +370,7 @@ fn numbers_fit_kind(kind: u16, first: u16, second: u16) -> bool
         return (1 <= first) & (second < first);
     }
     if is_row(kind) {
-        return (1 <= second) & (second <= MAX_SPAN);
+        return (1 <= second) & (second <= limits::MAX_SPAN);
     }
     true
 }

@@ -25,11 +25,11 @@ pub enum Finding {
 
 // Whether row k of the implementation is no internal row that is enabled for some sum value.
 fn row_quiet<'a>(
-    fields: &'a [u16; terms::MAX_FIELDS],
-    starts: &'a [u16; 84],
+    fields: &'a limits::Fields,
+    starts: &'a limits::Starts,
     shape: Shape,
     k: u16,
-    v: &[u16; terms::MAX_PARAMETERS],
+    v: &limits::Values,
 ) -> bool
     ensures { λ r. ⌜ r ≡ rowQuiet (now (fields .entry)) (now (starts .entry)) (countsOf shape) (now (v .entry)) k ⌝ }
 {
@@ -47,10 +47,10 @@ fn row_quiet<'a>(
 
 // Whether the state is a focus point: no internal row is enabled.
 fn focus<'a>(
-    fields: &'a [u16; terms::MAX_FIELDS],
-    starts: &'a [u16; 84],
+    fields: &'a limits::Fields,
+    starts: &'a limits::Starts,
     shape: Shape,
-    v: &[u16; terms::MAX_PARAMETERS],
+    v: &limits::Values,
 ) -> bool
     ensures { λ r. ⌜ r ≡ focusIn (now (fields .entry)) (now (starts .entry)) (countsOf shape) (now (v .entry)) ⌝ }
 {
@@ -68,10 +68,10 @@ fn focus<'a>(
 // ---- criteria 2 to 9, for row k and a sum value; t is the mapped state of v
 
 fn holds2<'a>(
-    fields: &'a [u16; terms::MAX_FIELDS],
-    starts: &'a [u16; 84],
+    fields: &'a limits::Fields,
+    starts: &'a limits::Starts,
     shape: Shape,
-    t: &[u16; terms::MAX_PARAMETERS],
+    t: &limits::Values,
 ) -> bool
     ensures { λ r. ⌜ r ≡ holds2In (now (fields .entry)) (now (starts .entry)) (countsOf shape) (now (t .entry)) ⌝ }
 {
@@ -79,10 +79,10 @@ fn holds2<'a>(
 }
 
 fn holds3<'a>(
-    fields: &'a [u16; terms::MAX_FIELDS],
-    starts: &'a [u16; 84],
+    fields: &'a limits::Fields,
+    starts: &'a limits::Starts,
     shape: Shape,
-    v: &[u16; terms::MAX_PARAMETERS],
+    v: &limits::Values,
     k: u16,
     sum: u16,
 ) -> bool
@@ -93,11 +93,11 @@ fn holds3<'a>(
 }
 
 fn holds4<'a>(
-    fields: &'a [u16; terms::MAX_FIELDS],
-    starts: &'a [u16; 84],
+    fields: &'a limits::Fields,
+    starts: &'a limits::Starts,
     shape: Shape,
-    v: &[u16; terms::MAX_PARAMETERS],
-    t: &[u16; terms::MAX_PARAMETERS],
+    v: &limits::Values,
+    t: &limits::Values,
     k: u16,
     sum: u16,
 ) -> bool
@@ -109,10 +109,10 @@ fn holds4<'a>(
 }
 
 fn holds5<'a>(
-    fields: &'a [u16; terms::MAX_FIELDS],
-    starts: &'a [u16; 84],
+    fields: &'a limits::Fields,
+    starts: &'a limits::Starts,
     shape: Shape,
-    v: &[u16; terms::MAX_PARAMETERS],
+    v: &limits::Values,
     k: u16,
     sum: u16,
 ) -> bool
@@ -125,11 +125,11 @@ fn holds5<'a>(
 }
 
 fn holds6<'a>(
-    fields: &'a [u16; terms::MAX_FIELDS],
-    starts: &'a [u16; 84],
+    fields: &'a limits::Fields,
+    starts: &'a limits::Starts,
     shape: Shape,
-    v: &[u16; terms::MAX_PARAMETERS],
-    t: &[u16; terms::MAX_PARAMETERS],
+    v: &limits::Values,
+    t: &limits::Values,
     k: u16,
     sum: u16,
 ) -> bool
@@ -143,11 +143,11 @@ fn holds6<'a>(
 
 // Here k is the specification's row.
 fn holds7<'a>(
-    fields: &'a [u16; terms::MAX_FIELDS],
-    starts: &'a [u16; 84],
+    fields: &'a limits::Fields,
+    starts: &'a limits::Starts,
     shape: Shape,
-    v: &[u16; terms::MAX_PARAMETERS],
-    t: &[u16; terms::MAX_PARAMETERS],
+    v: &limits::Values,
+    t: &limits::Values,
     focus: bool,
     k: u16,
     sum: u16,
@@ -161,11 +161,11 @@ fn holds7<'a>(
 }
 
 fn holds8<'a>(
-    fields: &'a [u16; terms::MAX_FIELDS],
-    starts: &'a [u16; 84],
+    fields: &'a limits::Fields,
+    starts: &'a limits::Starts,
     shape: Shape,
-    v: &[u16; terms::MAX_PARAMETERS],
-    t: &[u16; terms::MAX_PARAMETERS],
+    v: &limits::Values,
+    t: &limits::Values,
     k: u16,
     sum: u16,
 ) -> bool
@@ -178,11 +178,11 @@ fn holds8<'a>(
 }
 
 fn holds9<'a>(
-    fields: &'a [u16; terms::MAX_FIELDS],
-    starts: &'a [u16; 84],
+    fields: &'a limits::Fields,
+    starts: &'a limits::Starts,
     shape: Shape,
-    v: &[u16; terms::MAX_PARAMETERS],
-    t: &[u16; terms::MAX_PARAMETERS],
+    v: &limits::Values,
+    t: &limits::Values,
     k: u16,
     sum: u16,
 ) -> bool
@@ -200,11 +200,11 @@ fn holds9<'a>(
 
 // Whether criterion n, one of 3 to 9, holds for row k and a sum value.
 fn holds<'a>(
-    fields: &'a [u16; terms::MAX_FIELDS],
-    starts: &'a [u16; 84],
+    fields: &'a limits::Fields,
+    starts: &'a limits::Starts,
     shape: Shape,
-    v: &[u16; terms::MAX_PARAMETERS],
-    t: &[u16; terms::MAX_PARAMETERS],
+    v: &limits::Values,
+    t: &limits::Values,
     focus: bool,
     n: u16,
     k: u16,
@@ -225,8 +225,8 @@ fn holds<'a>(
 
 // The span of row k, where the rows are those that criterion n is tried at.
 fn span_for<'a>(
-    fields: &'a [u16; terms::MAX_FIELDS],
-    starts: &'a [u16; 84],
+    fields: &'a limits::Fields,
+    starts: &'a limits::Starts,
     shape: Shape,
     n: u16,
     k: u16,
@@ -249,11 +249,11 @@ fn rows_for(shape: Shape, n: u16) -> u8
 
 // The first sum value of row k at which criterion n fails.
 fn in_row<'a>(
-    fields: &'a [u16; terms::MAX_FIELDS],
-    starts: &'a [u16; 84],
+    fields: &'a limits::Fields,
+    starts: &'a limits::Starts,
     shape: Shape,
-    v: &[u16; terms::MAX_PARAMETERS],
-    t: &[u16; terms::MAX_PARAMETERS],
+    v: &limits::Values,
+    t: &limits::Values,
     focus: bool,
     n: u16,
     k: u16,
@@ -277,11 +277,11 @@ fn in_row<'a>(
 
 // The first row at which criterion n fails.
 fn in_rows<'a>(
-    fields: &'a [u16; terms::MAX_FIELDS],
-    starts: &'a [u16; 84],
+    fields: &'a limits::Fields,
+    starts: &'a limits::Starts,
     shape: Shape,
-    v: &[u16; terms::MAX_PARAMETERS],
-    t: &[u16; terms::MAX_PARAMETERS],
+    v: &limits::Values,
+    t: &limits::Values,
     focus: bool,
     n: u16,
 ) -> Finding
@@ -301,11 +301,11 @@ fn in_rows<'a>(
 
 // The first of the criteria 3 to 9 that fails.
 fn in_criteria<'a>(
-    fields: &'a [u16; terms::MAX_FIELDS],
-    starts: &'a [u16; 84],
+    fields: &'a limits::Fields,
+    starts: &'a limits::Starts,
     shape: Shape,
-    v: &[u16; terms::MAX_PARAMETERS],
-    t: &[u16; terms::MAX_PARAMETERS],
+    v: &limits::Values,
+    t: &limits::Values,
     focus: bool,
 ) -> Finding
     ensures { λ r. ⌜ toldPlace r ≡ inCriteriaIn (now (fields .entry)) (now (starts .entry)) (countsOf shape) (now (v .entry)) (now (t .entry)) focus ⌝ }
@@ -323,11 +323,11 @@ fn in_criteria<'a>(
 
 // The lowest failure at the state v, whose mapped state is t.
 pub fn lowest<'a>(
-    fields: &'a [u16; terms::MAX_FIELDS],
-    starts: &'a [u16; 84],
+    fields: &'a limits::Fields,
+    starts: &'a limits::Starts,
     shape: Shape,
-    v: &[u16; terms::MAX_PARAMETERS],
-    t: &[u16; terms::MAX_PARAMETERS],
+    v: &limits::Values,
+    t: &limits::Values,
 ) -> Finding
     ensures { λ r. ⌜ toldPlace r ≡ searchIn (now (fields .entry)) (now (starts .entry)) (countsOf shape) (now (v .entry)) (now (t .entry)) ⌝ }
 {

@@ -10,18 +10,18 @@ ghost use Rattle.layout.specs.Sizes.{countsOf};
 ghost use Rattle.plan.specs.Plan.{valuesFree, rowFree, conditionFree, specFree, implFree, looksOf, flagOf, implPartner, implLooks, implFlag, specPartner, specLooks, specFlag, implFront, specFront, entryOf, entryIn, planIn};
 
 // A plan has eight entries for each row number, four for the row of the implementation and four for that of the specification.
-pub const ENTRIES: usize = 256;
+pub const ENTRIES: usize = 8 * limits::MAX_ROWS;
 
-pub const ROWS: usize = 32;
+pub const ROWS: usize = limits::MAX_ROWS;
 
 // Whether n values from a place on do not read the sum value.
-fn values_free(fields: &[u16; terms::MAX_FIELDS], at: usize, n: u8) -> bool
+fn values_free(fields: &limits::Fields, at: usize, n: u8) -> bool
     ensures { λ r. ⌜ r ≡ valuesFree (now (fields .entry)) at n ⌝ }
 {
     let mut place = at;
     let mut i = 0;
     while i < n {
-        let x = sum_free::value_sum_free(fields, place, terms::MAX_DEPTH);
+        let x = sum_free::value_sum_free(fields, place, limits::MAX_DEPTH);
         if !x.free {
             return false;
         }
@@ -32,26 +32,26 @@ fn values_free(fields: &[u16; terms::MAX_FIELDS], at: usize, n: u8) -> bool
 }
 
 // Whether nothing in the row of the line that starts at a place reads the sum value, in a process of n parameters.
-fn row_free(fields: &[u16; terms::MAX_FIELDS], line: u16, n: u8) -> bool
+fn row_free(fields: &limits::Fields, line: u16, n: u8) -> bool
     ensures { λ r. ⌜ r ≡ rowFree (rowOf n (drop line (now (fields .entry)))) ⌝ }
 {
-    let condition = sum_free::formula_sum_free(fields, line as usize + 3, terms::MAX_DEPTH);
-    let data = sum_free::value_sum_free(fields, condition.next, terms::MAX_DEPTH);
+    let condition = sum_free::formula_sum_free(fields, line as usize + 3, limits::MAX_DEPTH);
+    let data = sum_free::value_sum_free(fields, condition.next, limits::MAX_DEPTH);
     condition.free & (data.free & values_free(fields, data.next, n))
 }
 
 // Whether the condition of the row of the line that starts at a place does not read the sum value.
-fn condition_free(fields: &[u16; terms::MAX_FIELDS], line: u16) -> bool
+fn condition_free(fields: &limits::Fields, line: u16) -> bool
     ensures { λ r. ⌜ r ≡ conditionFree (now (fields .entry)) line ⌝ }
 {
-    let condition = sum_free::formula_sum_free(fields, line as usize + 3, terms::MAX_DEPTH);
+    let condition = sum_free::formula_sum_free(fields, line as usize + 3, limits::MAX_DEPTH);
     condition.free
 }
 
 // The same of row k of the specification as a whole, and of the condition of row k of the implementation; no row reads nothing.
 fn spec_free<'a>(
-    fields: &'a [u16; terms::MAX_FIELDS],
-    starts: &'a [u16; 84],
+    fields: &'a limits::Fields,
+    starts: &'a limits::Starts,
     shape: Shape,
     k: u16,
 ) -> bool
@@ -64,8 +64,8 @@ fn spec_free<'a>(
 }
 
 fn impl_free<'a>(
-    fields: &'a [u16; terms::MAX_FIELDS],
-    starts: &'a [u16; 84],
+    fields: &'a limits::Fields,
+    starts: &'a limits::Starts,
     shape: Shape,
     k: u16,
 ) -> bool
@@ -98,8 +98,8 @@ fn flag(b: bool) -> u16
 
 // The entries of row k of the implementation: its partner's number, its looks, and whether its condition is sum-free.
 fn impl_partner<'a>(
-    fields: &'a [u16; terms::MAX_FIELDS],
-    starts: &'a [u16; 84],
+    fields: &'a limits::Fields,
+    starts: &'a limits::Starts,
     shape: Shape,
     k: u16,
 ) -> u16
@@ -110,8 +110,8 @@ fn impl_partner<'a>(
 }
 
 fn impl_looks<'a>(
-    fields: &'a [u16; terms::MAX_FIELDS],
-    starts: &'a [u16; 84],
+    fields: &'a limits::Fields,
+    starts: &'a limits::Starts,
     shape: Shape,
     k: u16,
 ) -> u16
@@ -124,8 +124,8 @@ fn impl_looks<'a>(
 }
 
 fn impl_flag<'a>(
-    fields: &'a [u16; terms::MAX_FIELDS],
-    starts: &'a [u16; 84],
+    fields: &'a limits::Fields,
+    starts: &'a limits::Starts,
     shape: Shape,
     k: u16,
 ) -> u16
@@ -136,8 +136,8 @@ fn impl_flag<'a>(
 
 // Of row k of the specification: for criterion 7 the conditions are all that counts.
 fn spec_partner<'a>(
-    fields: &'a [u16; terms::MAX_FIELDS],
-    starts: &'a [u16; 84],
+    fields: &'a limits::Fields,
+    starts: &'a limits::Starts,
     shape: Shape,
     k: u16,
 ) -> u16
@@ -148,8 +148,8 @@ fn spec_partner<'a>(
 }
 
 fn spec_looks<'a>(
-    fields: &'a [u16; terms::MAX_FIELDS],
-    starts: &'a [u16; 84],
+    fields: &'a limits::Fields,
+    starts: &'a limits::Starts,
     shape: Shape,
     k: u16,
 ) -> u16
@@ -162,8 +162,8 @@ fn spec_looks<'a>(
 }
 
 fn spec_flag<'a>(
-    fields: &'a [u16; terms::MAX_FIELDS],
-    starts: &'a [u16; 84],
+    fields: &'a limits::Fields,
+    starts: &'a limits::Starts,
     shape: Shape,
     k: u16,
 ) -> u16
@@ -174,8 +174,8 @@ fn spec_flag<'a>(
 
 // The conjuncts in front of the conditions of both.
 fn impl_front<'a>(
-    fields: &'a [u16; terms::MAX_FIELDS],
-    starts: &'a [u16; 84],
+    fields: &'a limits::Fields,
+    starts: &'a limits::Starts,
     shape: Shape,
     k: u16,
 ) -> u16
@@ -185,8 +185,8 @@ fn impl_front<'a>(
 }
 
 fn spec_front<'a>(
-    fields: &'a [u16; terms::MAX_FIELDS],
-    starts: &'a [u16; 84],
+    fields: &'a limits::Fields,
+    starts: &'a limits::Starts,
     shape: Shape,
     k: u16,
 ) -> u16
@@ -197,8 +197,8 @@ fn spec_front<'a>(
 
 // An entry of one of the eight sorts.
 fn entry_of<'a>(
-    fields: &'a [u16; terms::MAX_FIELDS],
-    starts: &'a [u16; 84],
+    fields: &'a limits::Fields,
+    starts: &'a limits::Starts,
     shape: Shape,
     sort: usize,
     k: u16,
@@ -219,8 +219,8 @@ fn entry_of<'a>(
 
 // The same where a process has a row k, and else 0.
 fn entry<'a>(
-    fields: &'a [u16; terms::MAX_FIELDS],
-    starts: &'a [u16; 84],
+    fields: &'a limits::Fields,
+    starts: &'a limits::Starts,
     shape: Shape,
     sort: usize,
     k: u16,
@@ -236,8 +236,8 @@ fn entry<'a>(
 
 // All entries: those of one sort for all rows, then the next sort.
 pub fn plan<'a>(
-    fields: &'a [u16; terms::MAX_FIELDS],
-    starts: &'a [u16; 84],
+    fields: &'a limits::Fields,
+    starts: &'a limits::Starts,
     shape: Shape,
 ) -> [u16; ENTRIES]
     ensures { λ r. ⌜ r ≡ planIn (now (fields .entry)) (now (starts .entry)) (countsOf shape) ⌝ }

@@ -24,11 +24,11 @@ pub struct Seen {
 
 // Whether an internal step to x keeps the mapping t and lowers the measure m.
 fn kept<'a>(
-    fields: &'a [u16; terms::MAX_FIELDS],
-    starts: &'a [u16; 84],
+    fields: &'a limits::Fields,
+    starts: &'a limits::Starts,
     shape: Shape,
-    x: &[u16; terms::MAX_PARAMETERS],
-    t: &[u16; terms::MAX_PARAMETERS],
+    x: &limits::Values,
+    t: &limits::Values,
     m: u16,
 ) -> bool
     ensures { λ r. ⌜ r ≡ keptIn (now (fields .entry)) (now (starts .entry)) (countsOf shape) (now (x .entry)) (now (t .entry)) m ⌝ }
@@ -43,13 +43,13 @@ fn kept<'a>(
 
 // Whether row j of the specification makes the same step at t: it is enabled, carries the same data and leads to `there`.
 fn answered<'a>(
-    fields: &'a [u16; terms::MAX_FIELDS],
-    starts: &'a [u16; 84],
+    fields: &'a limits::Fields,
+    starts: &'a limits::Starts,
     shape: Shape,
     j: u16,
     carries: u16,
-    there: &[u16; terms::MAX_PARAMETERS],
-    t: &[u16; terms::MAX_PARAMETERS],
+    there: &limits::Values,
+    t: &limits::Values,
     sum: u16,
 ) -> bool
     ensures { λ r. ⌜ r ≡ answeredIn (now (fields .entry)) (now (starts .entry)) (countsOf shape) j carries (now (there .entry)) (now (t .entry)) sum ⌝ }
@@ -58,11 +58,11 @@ fn answered<'a>(
         return false;
     }
     let line = steps::spec_line(starts, shape, j);
-    let condition = eval::formula(fields, line as usize + 3, t, sum, terms::MAX_DEPTH);
+    let condition = eval::formula(fields, line as usize + 3, t, sum, limits::MAX_DEPTH);
     if !condition.holds {
         return false;
     }
-    let carried = eval::value(fields, condition.next, t, sum, terms::MAX_DEPTH);
+    let carried = eval::value(fields, condition.next, t, sum, limits::MAX_DEPTH);
     if carries != carried.value {
         return false;
     }
@@ -72,20 +72,20 @@ fn answered<'a>(
 
 // Whether criteria 3 to 6, 8 and 9 hold of the step of a row that is enabled; its data stand at a place.
 fn step_holds<'a>(
-    fields: &'a [u16; terms::MAX_FIELDS],
-    starts: &'a [u16; 84],
+    fields: &'a limits::Fields,
+    starts: &'a limits::Starts,
     shape: Shape,
     at: usize,
     internal: bool,
     j: u16,
-    v: &[u16; terms::MAX_PARAMETERS],
-    t: &[u16; terms::MAX_PARAMETERS],
+    v: &limits::Values,
+    t: &limits::Values,
     m: u16,
     sum: u16,
 ) -> bool
     ensures { λ r. ⌜ r ≡ stepIn (now (fields .entry)) (now (starts .entry)) (countsOf shape) at internal j (now (v .entry)) (now (t .entry)) m sum ⌝ }
 {
-    let data = eval::value(fields, at, v, sum, terms::MAX_DEPTH);
+    let data = eval::value(fields, at, v, sum, limits::MAX_DEPTH);
     let x = steps::values(fields, data.next, shape.kind1, v, sum);
     if !steps::inside(fields, starts, shape, &x) {
         return false;
@@ -100,14 +100,14 @@ fn step_holds<'a>(
 // The same where the row is enabled.
 fn held_if<'a>(
     on: bool,
-    fields: &'a [u16; terms::MAX_FIELDS],
-    starts: &'a [u16; 84],
+    fields: &'a limits::Fields,
+    starts: &'a limits::Starts,
     shape: Shape,
     at: usize,
     internal: bool,
     j: u16,
-    v: &[u16; terms::MAX_PARAMETERS],
-    t: &[u16; terms::MAX_PARAMETERS],
+    v: &limits::Values,
+    t: &limits::Values,
     m: u16,
     sum: u16,
 ) -> bool
@@ -122,10 +122,10 @@ fn held_if<'a>(
 
 // Whether the formula at a place holds for a sum value: what is known of it, where that may be kept.
 fn on_at(
-    fields: &[u16; terms::MAX_FIELDS],
+    fields: &limits::Fields,
     at: usize,
     depth: usize,
-    v: &[u16; terms::MAX_PARAMETERS],
+    v: &limits::Values,
     sum: u16,
     keep: bool,
     known: Held,
@@ -143,8 +143,8 @@ fn on_at(
 // One look at a row whose condition stands at a place: whether it holds, and whether it is not enabled. For sum value 0, and for all
 // where the condition is sum-free, what is known of the condition will do.
 fn look<'a>(
-    fields: &'a [u16; terms::MAX_FIELDS],
-    starts: &'a [u16; 84],
+    fields: &'a limits::Fields,
+    starts: &'a limits::Starts,
     shape: Shape,
     at: usize,
     depth: usize,
@@ -152,8 +152,8 @@ fn look<'a>(
     free: bool,
     internal: bool,
     j: u16,
-    v: &[u16; terms::MAX_PARAMETERS],
-    t: &[u16; terms::MAX_PARAMETERS],
+    v: &limits::Values,
+    t: &limits::Values,
     m: u16,
     sum: u16,
 ) -> Seen
@@ -180,8 +180,8 @@ fn look<'a>(
 
 // What n looks see at a row whose condition, or what is left of it, stands at a place; where that is sum-free it is evaluated once.
 fn row_looks<'a>(
-    fields: &'a [u16; terms::MAX_FIELDS],
-    starts: &'a [u16; 84],
+    fields: &'a limits::Fields,
+    starts: &'a limits::Starts,
     shape: Shape,
     at: usize,
     depth: usize,
@@ -189,8 +189,8 @@ fn row_looks<'a>(
     internal: bool,
     j: u16,
     n: u16,
-    v: &[u16; terms::MAX_PARAMETERS],
-    t: &[u16; terms::MAX_PARAMETERS],
+    v: &limits::Values,
+    t: &limits::Values,
     m: u16,
 ) -> Seen
     ensures { λ r. ⌜ r ≡ looksIn (now (fields .entry)) (now (starts .entry)) (countsOf shape) at depth free internal j n (now (v .entry)) (now (t .entry)) m ⌝ }
@@ -237,16 +237,16 @@ fn row_looks<'a>(
 
 // What is seen of row k, whose partner is j: the conjuncts in front of its condition, and if they hold n looks at what is left.
 fn row_seen<'a>(
-    fields: &'a [u16; terms::MAX_FIELDS],
-    starts: &'a [u16; 84],
+    fields: &'a limits::Fields,
+    starts: &'a limits::Starts,
     shape: Shape,
     k: u16,
     j: u16,
     n: u16,
     free: bool,
     fronts: u16,
-    v: &[u16; terms::MAX_PARAMETERS],
-    t: &[u16; terms::MAX_PARAMETERS],
+    v: &limits::Values,
+    t: &limits::Values,
     m: u16,
 ) -> Seen
     ensures { λ r. ⌜ r ≡ rowIn (now (fields .entry)) (now (starts .entry)) (countsOf shape) k j n free fronts (now (v .entry)) (now (t .entry)) m ⌝ }
@@ -278,13 +278,13 @@ fn row_seen<'a>(
 
 // What is seen by the plan of the row with number i + 1.
 fn row_planned<'a>(
-    fields: &'a [u16; terms::MAX_FIELDS],
-    starts: &'a [u16; 84],
+    fields: &'a limits::Fields,
+    starts: &'a limits::Starts,
     shape: Shape,
     plan: &[u16; plan::ENTRIES],
     i: u8,
-    v: &[u16; terms::MAX_PARAMETERS],
-    t: &[u16; terms::MAX_PARAMETERS],
+    v: &limits::Values,
+    t: &limits::Values,
     m: u16,
 ) -> Seen
     ensures { λ r. ⌜ r ≡ plannedIn (now (fields .entry)) (now (starts .entry)) (countsOf shape) (now (plan .entry)) i (now (v .entry)) (now (t .entry)) m ⌝ }
@@ -310,12 +310,12 @@ fn row_planned<'a>(
 
 // What is seen of all rows.
 fn rows_seen<'a>(
-    fields: &'a [u16; terms::MAX_FIELDS],
-    starts: &'a [u16; 84],
+    fields: &'a limits::Fields,
+    starts: &'a limits::Starts,
     shape: Shape,
     plan: &[u16; plan::ENTRIES],
-    v: &[u16; terms::MAX_PARAMETERS],
-    t: &[u16; terms::MAX_PARAMETERS],
+    v: &limits::Values,
+    t: &limits::Values,
     m: u16,
 ) -> Seen
     ensures { λ r. ⌜ r ≡ implIn (now (fields .entry)) (now (starts .entry)) (countsOf shape) (now (plan .entry)) (now (v .entry)) (now (t .entry)) m ⌝ }
@@ -344,11 +344,11 @@ fn rows_seen<'a>(
 // Whether row j of the implementation is enabled at v, where it has to be.
 fn replied_if<'a>(
     on: bool,
-    fields: &'a [u16; terms::MAX_FIELDS],
-    starts: &'a [u16; 84],
+    fields: &'a limits::Fields,
+    starts: &'a limits::Starts,
     shape: Shape,
     j: u16,
-    v: &[u16; terms::MAX_PARAMETERS],
+    v: &limits::Values,
     sum: u16,
 ) -> bool
     ensures { λ r. ⌜ r ≡ repliedIf on (now (fields .entry)) (now (starts .entry)) (countsOf shape) j (now (v .entry)) sum ⌝ }
@@ -365,16 +365,16 @@ fn replied_if<'a>(
 
 // One look at a row whose condition, or what is left of it, stands at a place: whether criterion 7 holds.
 fn replied<'a>(
-    fields: &'a [u16; terms::MAX_FIELDS],
-    starts: &'a [u16; 84],
+    fields: &'a limits::Fields,
+    starts: &'a limits::Starts,
     shape: Shape,
     at: usize,
     depth: usize,
     first: Held,
     free: bool,
     j: u16,
-    v: &[u16; terms::MAX_PARAMETERS],
-    t: &[u16; terms::MAX_PARAMETERS],
+    v: &limits::Values,
+    t: &limits::Values,
     sum: u16,
 ) -> bool
     ensures { λ r. ⌜ r ≡ repliedIn (now (fields .entry)) (now (starts .entry)) (countsOf shape) at depth first free j (now (v .entry)) (now (t .entry)) sum ⌝ }
@@ -385,16 +385,16 @@ fn replied<'a>(
 
 // Whether it holds at n looks.
 fn reply_looks<'a>(
-    fields: &'a [u16; terms::MAX_FIELDS],
-    starts: &'a [u16; 84],
+    fields: &'a limits::Fields,
+    starts: &'a limits::Starts,
     shape: Shape,
     at: usize,
     depth: usize,
     free: bool,
     j: u16,
     n: u16,
-    v: &[u16; terms::MAX_PARAMETERS],
-    t: &[u16; terms::MAX_PARAMETERS],
+    v: &limits::Values,
+    t: &limits::Values,
 ) -> bool
     ensures { λ r. ⌜ r ≡ replyLooks (now (fields .entry)) (now (starts .entry)) (countsOf shape) at depth free j n (now (v .entry)) (now (t .entry)) ⌝ }
 {
@@ -414,16 +414,16 @@ fn reply_looks<'a>(
 
 // Whether it holds of row k, whose partner is j.
 fn row_replied<'a>(
-    fields: &'a [u16; terms::MAX_FIELDS],
-    starts: &'a [u16; 84],
+    fields: &'a limits::Fields,
+    starts: &'a limits::Starts,
     shape: Shape,
     k: u16,
     j: u16,
     n: u16,
     free: bool,
     fronts: u16,
-    v: &[u16; terms::MAX_PARAMETERS],
-    t: &[u16; terms::MAX_PARAMETERS],
+    v: &limits::Values,
+    t: &limits::Values,
 ) -> bool
     ensures { λ r. ⌜ r ≡ replyIn (now (fields .entry)) (now (starts .entry)) (countsOf shape) k j n free fronts (now (v .entry)) (now (t .entry)) ⌝ }
 {
@@ -448,13 +448,13 @@ fn row_replied<'a>(
 
 // Whether it holds, by the plan, of the row with number i + 1.
 fn reply_planned<'a>(
-    fields: &'a [u16; terms::MAX_FIELDS],
-    starts: &'a [u16; 84],
+    fields: &'a limits::Fields,
+    starts: &'a limits::Starts,
     shape: Shape,
     plan: &[u16; plan::ENTRIES],
     i: u8,
-    v: &[u16; terms::MAX_PARAMETERS],
-    t: &[u16; terms::MAX_PARAMETERS],
+    v: &limits::Values,
+    t: &limits::Values,
 ) -> bool
     ensures { λ r. ⌜ r ≡ replyPlanned (now (fields .entry)) (now (starts .entry)) (countsOf shape) (now (plan .entry)) i (now (v .entry)) (now (t .entry)) ⌝ }
 {
@@ -478,12 +478,12 @@ fn reply_planned<'a>(
 
 // Whether it holds of each row.
 fn rows_replied<'a>(
-    fields: &'a [u16; terms::MAX_FIELDS],
-    starts: &'a [u16; 84],
+    fields: &'a limits::Fields,
+    starts: &'a limits::Starts,
     shape: Shape,
     plan: &[u16; plan::ENTRIES],
-    v: &[u16; terms::MAX_PARAMETERS],
-    t: &[u16; terms::MAX_PARAMETERS],
+    v: &limits::Values,
+    t: &limits::Values,
 ) -> bool
     ensures { λ r. ⌜ r ≡ specIn (now (fields .entry)) (now (starts .entry)) (countsOf shape) (now (plan .entry)) (now (v .entry)) (now (t .entry)) ⌝ }
 {
@@ -501,12 +501,12 @@ fn rows_replied<'a>(
 
 // Whether the state v, whose mapped state is t, passes.
 pub fn passes<'a>(
-    fields: &'a [u16; terms::MAX_FIELDS],
-    starts: &'a [u16; 84],
+    fields: &'a limits::Fields,
+    starts: &'a limits::Starts,
     shape: Shape,
     plan: &[u16; plan::ENTRIES],
-    v: &[u16; terms::MAX_PARAMETERS],
-    t: &[u16; terms::MAX_PARAMETERS],
+    v: &limits::Values,
+    t: &limits::Values,
 ) -> bool
     ensures { λ r. ⌜ r ≡ passesIn (now (fields .entry)) (now (starts .entry)) (countsOf shape) (now (plan .entry)) (now (v .entry)) (now (t .entry)) ⌝ }
 {

@@ -7,6 +7,7 @@ use mathlib.Core.Bool.{Bool, false, cond, not, _&&_, _||_}
 use mathlib.Core.List.{List, [], _∷_, _++_, map, List·Memᴰ}
 use lib.Dec.{eqb, ltb}
 use lib.ListN.{length}
+use Rattle.limits.specs.Limits.{maxBytes, maxLineFields, maxFields}
 use Rattle.reader.specs.Line.{written, Each16, IsLine, fieldsOf}
 
 -- "A text is lines of bytes, each ended by byte 10." Each line is here without that byte; the last one may lack it.
@@ -46,7 +47,7 @@ pub data Lines : List (List ℕ) → Type 0 where
 
 -- 1. "Text longer than 28,672 bytes."
 abbrev pub Fault1 : List ℕ → Type 0
-Fault1 text = 28672 < length text
+Fault1 text = maxBytes < length text
 
 -- 2. "A line that isn't whole fields, an empty line, or a last line without byte 10." (An empty line has not one field.)
 pub data Fault2 (text : List ℕ) : Type 0 where
@@ -55,8 +56,8 @@ pub data Fault2 (text : List ℕ) : Type 0 where
 
 -- 3. "More than 256 fields in a line or 4,096 in all."
 pub data Fault3 (text : List ℕ) : Type 0 where
-  long-line : {fields : List ℕ} → List·Memᴰ fields (fieldsByLine text) → 256 < length fields → Fault3 text
-  many : 4096 < countAll (fieldsByLine text) → Fault3 text
+  long-line : {fields : List ℕ} → List·Memᴰ fields (fieldsByLine text) → maxLineFields < length fields → Fault3 text
+  many : maxFields < countAll (fieldsByLine text) → Fault3 text
 
 -- the lowest of the three whose fault is in the text, 0 if none is
 pub data ColumnsFault (text : List ℕ) : ℕ → Type 0 where
@@ -79,7 +80,7 @@ unfoldable pub fault2 : List ℕ → Bool
 fault2 text = anyLine (λ line. not (isLine line)) (linesOf text) || not (eqb (lastOf 10 text) 10)
 
 unfoldable pub fault3 : List ℕ → Bool
-fault3 text = anyLine (λ fields. ltb 256 (length fields)) (fieldsByLine text) || ltb 4096 (countAll (fieldsByLine text))
+fault3 text = anyLine (λ fields. ltb maxLineFields (length fields)) (fieldsByLine text) || ltb maxFields (countAll (fieldsByLine text))
 
 -- the lower of 2 and 3 whose fault is in the text, or 0
 unfoldable pub linesFault : List ℕ → ℕ
@@ -87,4 +88,4 @@ linesFault text = cond (fault2 text) 2 (cond (fault3 text) 3 0)
 
 -- and of 1, 2 and 3
 unfoldable pub columnsFault : List ℕ → ℕ
-columnsFault text = cond (ltb 28672 (length text)) 1 (linesFault text)
+columnsFault text = cond (ltb maxBytes (length text)) 1 (linesFault text)

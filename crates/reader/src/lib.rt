@@ -16,14 +16,8 @@ pub enum Field {
     Malformed,
 }
 
-// The columns of a field, and the limits of a text.
+// The columns of a field.
 pub const COLUMNS: usize = 6;
-
-pub const MAX_BYTES: usize = 28672;
-
-pub const MAX_LINE_FIELDS: usize = 256;
-
-pub const MAX_FIELDS: usize = 4096;
 
 const BLANK: u8 = 32;
 
@@ -107,7 +101,7 @@ pub fn count(part: &[u8]) -> usize
 pub fn columns_fault(text: &[u8]) -> u16
     ensures { λ r. ⌜ r ≡ columnsFault (now (text .entry)) ⌝ }
 {
-    if MAX_BYTES < text.len() {
+    if limits::MAX_BYTES < text.len() {
         return 1;
     }
     lines_fault(text)
@@ -133,14 +127,14 @@ fn lines_fault(text: &[u8]) -> u16
         if text[end] != LINE_END {
             return 2;
         }
-        long = long | (MAX_LINE_FIELDS < n);
+        long = long | (limits::MAX_LINE_FIELDS < n);
         total += n;
         at = end + 1;
     }
     if long {
         return 3;
     }
-    if MAX_FIELDS < total {
+    if limits::MAX_FIELDS < total {
         return 3;
     }
     0

@@ -18,7 +18,7 @@ pub struct Step {
     pub action: u16,
     pub enabled: bool,
     pub carries: u16,
-    pub next: [u16; terms::MAX_PARAMETERS],
+    pub next: limits::Values,
 }
 
 // ---- values
@@ -27,29 +27,29 @@ pub struct Step {
 fn few(n: u8) -> usize
     ensures { λ r. ⌜ r ≡ min n 8 ⌝ }
 {
-    if (n as usize) < terms::MAX_PARAMETERS {
+    if (n as usize) < limits::MAX_PARAMETERS {
         n as usize
     } else {
-        terms::MAX_PARAMETERS
+        limits::MAX_PARAMETERS
     }
 }
 
 // The values of n terms that stand one after the other from a place on.
 pub fn values(
-    fields: &[u16; terms::MAX_FIELDS],
+    fields: &limits::Fields,
     at: usize,
     n: u8,
-    v: &[u16; terms::MAX_PARAMETERS],
+    v: &limits::Values,
     sum: u16,
-) -> [u16; terms::MAX_PARAMETERS]
+) -> limits::Values
     ensures { λ r. ⌜ r ≡ padded (valuesAt (now (fields .entry)) at n (now (v .entry)) sum) ⌝ }
 {
     let m = few(n);
-    let mut out = [0u16; terms::MAX_PARAMETERS];
+    let mut out = [0u16; limits::MAX_PARAMETERS];
     let mut place = at;
     let mut i = 0;
     while i < m {
-        let x = eval::value(fields, place, v, sum, terms::MAX_DEPTH);
+        let x = eval::value(fields, place, v, sum, limits::MAX_DEPTH);
         out[i] = x.value;
         place = x.next;
         i += 1;
@@ -72,14 +72,14 @@ fn quotient(x: u16, y: u16) -> u16
 
 // The state that has a number: each value is the remainder by its size of what is left, from the last of n parameters on.
 pub fn state<'a>(
-    fields: &'a [u16; terms::MAX_FIELDS],
-    starts: &'a [u16; 84],
+    fields: &'a limits::Fields,
+    starts: &'a limits::Starts,
     n: u8,
     number: u16,
-) -> [u16; terms::MAX_PARAMETERS]
+) -> limits::Values
     ensures { λ r. ⌜ r ≡ stateIn (now (fields .entry)) (now (starts .entry)) n number ⌝ }
 {
-    let mut out = [0u16; terms::MAX_PARAMETERS];
+    let mut out = [0u16; limits::MAX_PARAMETERS];
     let mut left = number;
     let mut i = few(n);
     while 0 < i {
@@ -93,15 +93,15 @@ pub fn state<'a>(
 
 // The initial values of n parameters that stand from line `first` on.
 pub fn initial_state<'a>(
-    fields: &'a [u16; terms::MAX_FIELDS],
-    starts: &'a [u16; 84],
+    fields: &'a limits::Fields,
+    starts: &'a limits::Starts,
     first: u16,
     n: u8,
-) -> [u16; terms::MAX_PARAMETERS]
+) -> limits::Values
     ensures { λ r. ⌜ r ≡ initialIn (now (fields .entry)) (now (starts .entry)) first n ⌝ }
 {
     let m = few(n);
-    let mut out = [0u16; terms::MAX_PARAMETERS];
+    let mut out = [0u16; limits::MAX_PARAMETERS];
     let mut i = 0;
     while i < m {
         out[i] = layout::initial(fields, starts, first as usize + i);
@@ -112,11 +112,11 @@ pub fn initial_state<'a>(
 
 // Whether each of the first n values is below its size, the sizes standing from line `first` on.
 pub fn below<'a>(
-    fields: &'a [u16; terms::MAX_FIELDS],
-    starts: &'a [u16; 84],
+    fields: &'a limits::Fields,
+    starts: &'a limits::Starts,
     first: u16,
     n: u8,
-    v: &[u16; terms::MAX_PARAMETERS],
+    v: &limits::Values,
 ) -> bool
     ensures { λ r. ⌜ r ≡ belowIn (now (fields .entry)) (now (starts .entry)) first n (now (v .entry)) ⌝ }
 {
@@ -132,7 +132,7 @@ pub fn below<'a>(
 }
 
 // Whether the first n values are the same.
-pub fn same(n: u8, v: &[u16; terms::MAX_PARAMETERS], w: &[u16; terms::MAX_PARAMETERS]) -> bool
+pub fn same(n: u8, v: &limits::Values, w: &limits::Values) -> bool
     ensures { λ r. ⌜ r ≡ sameIn n (now (v .entry)) (now (w .entry)) ⌝ }
 {
     let mut i = 0;
@@ -149,16 +149,16 @@ pub fn same(n: u8, v: &[u16; terms::MAX_PARAMETERS], w: &[u16; terms::MAX_PARAME
 
 // What the row in the line that starts at a place does, in a process of n parameters.
 fn step_by(
-    fields: &[u16; terms::MAX_FIELDS],
+    fields: &limits::Fields,
     line: u16,
     n: u8,
-    v: &[u16; terms::MAX_PARAMETERS],
+    v: &limits::Values,
     sum: u16,
 ) -> Step
     ensures { λ r. ⌜ r ≡ stepOf (rowOf n (drop line (now (fields .entry)))) (now (v .entry)) sum ⌝ }
 {
-    let condition = eval::formula(fields, line as usize + 3, v, sum, terms::MAX_DEPTH);
-    let data = eval::value(fields, condition.next, v, sum, terms::MAX_DEPTH);
+    let condition = eval::formula(fields, line as usize + 3, v, sum, limits::MAX_DEPTH);
+    let data = eval::value(fields, condition.next, v, sum, limits::MAX_DEPTH);
     let next = values(fields, data.next, n, v, sum);
     Step {
         action: layout::field_of(fields, line, 1),
@@ -176,19 +176,19 @@ fn no_step() -> Step
         action: 0,
         enabled: false,
         carries: 0,
-        next: [0u16; terms::MAX_PARAMETERS],
+        next: [0u16; limits::MAX_PARAMETERS],
     }
 }
 
 // What row k does, of n rows that stand from line `first` on, in a process of m parameters.
 fn row_step<'a>(
-    fields: &'a [u16; terms::MAX_FIELDS],
-    starts: &'a [u16; 84],
+    fields: &'a limits::Fields,
+    starts: &'a limits::Starts,
     first: u16,
     n: u8,
     m: u8,
     k: u16,
-    v: &[u16; terms::MAX_PARAMETERS],
+    v: &limits::Values,
     sum: u16,
 ) -> Step
     ensures { λ r. ⌜ r ≡ rowStep (now (fields .entry)) (now (starts .entry)) first n m k (now (v .entry)) sum ⌝ }
@@ -206,8 +206,8 @@ fn row_step<'a>(
 
 // The span of row k, of n rows that stand from line `first` on.
 fn row_span<'a>(
-    fields: &'a [u16; terms::MAX_FIELDS],
-    starts: &'a [u16; 84],
+    fields: &'a limits::Fields,
+    starts: &'a limits::Starts,
     first: u16,
     n: u8,
     k: u16,
@@ -226,8 +226,8 @@ fn row_span<'a>(
 
 // The number of the first row of an action, of n rows that stand from line `first` on, and 0 if there is none.
 fn row_with<'a>(
-    fields: &'a [u16; terms::MAX_FIELDS],
-    starts: &'a [u16; 84],
+    fields: &'a limits::Fields,
+    starts: &'a limits::Starts,
     first: u16,
     n: u8,
     action: u16,
@@ -267,10 +267,10 @@ fn invariant_line(shape: Shape) -> usize
 
 // Whether the invariant holds.
 pub fn invariant<'a>(
-    fields: &'a [u16; terms::MAX_FIELDS],
-    starts: &'a [u16; 84],
+    fields: &'a limits::Fields,
+    starts: &'a limits::Starts,
     shape: Shape,
-    v: &[u16; terms::MAX_PARAMETERS],
+    v: &limits::Values,
 ) -> bool
     ensures { λ r. ⌜ r ≡ invariantIn (now (fields .entry)) (now (starts .entry)) (countsOf shape) (now (v .entry)) ⌝ }
 {
@@ -280,10 +280,10 @@ pub fn invariant<'a>(
 
 // Whether the values are those of a state of the implementation in which the invariant holds.
 pub fn inside<'a>(
-    fields: &'a [u16; terms::MAX_FIELDS],
-    starts: &'a [u16; 84],
+    fields: &'a limits::Fields,
+    starts: &'a limits::Starts,
     shape: Shape,
-    v: &[u16; terms::MAX_PARAMETERS],
+    v: &limits::Values,
 ) -> bool
     ensures { λ r. ⌜ r ≡ insideIn (now (fields .entry)) (now (starts .entry)) (countsOf shape) (now (v .entry)) ⌝ }
 {
@@ -296,11 +296,11 @@ pub fn inside<'a>(
 
 // The mapped state.
 pub fn mapped<'a>(
-    fields: &'a [u16; terms::MAX_FIELDS],
-    starts: &'a [u16; 84],
+    fields: &'a limits::Fields,
+    starts: &'a limits::Starts,
     shape: Shape,
-    v: &[u16; terms::MAX_PARAMETERS],
-) -> [u16; terms::MAX_PARAMETERS]
+    v: &limits::Values,
+) -> limits::Values
     ensures { λ r. ⌜ r ≡ mappedIn (now (fields .entry)) (now (starts .entry)) (countsOf shape) (now (v .entry)) ⌝ }
 {
     let line = layout::line(starts, invariant_line(shape) + 1);
@@ -309,28 +309,28 @@ pub fn mapped<'a>(
 
 // The measure.
 pub fn measure<'a>(
-    fields: &'a [u16; terms::MAX_FIELDS],
-    starts: &'a [u16; 84],
+    fields: &'a limits::Fields,
+    starts: &'a limits::Starts,
     shape: Shape,
-    v: &[u16; terms::MAX_PARAMETERS],
+    v: &limits::Values,
 ) -> u16
     ensures { λ r. ⌜ r ≡ measureIn (now (fields .entry)) (now (starts .entry)) (countsOf shape) (now (v .entry)) ⌝ }
 {
     let line = layout::line(starts, invariant_line(shape) + 2);
-    let m = eval::value(fields, line as usize + 1, v, 0, terms::MAX_DEPTH);
+    let m = eval::value(fields, line as usize + 1, v, 0, limits::MAX_DEPTH);
     m.value
 }
 
 // ---- the two processes
 
 // Where the line of row k of the implementation starts, and of the specification, rows being counted from 1.
-pub fn impl_line(starts: &[u16; 84], shape: Shape, k: u16) -> u16
+pub fn impl_line(starts: &limits::Starts, shape: Shape, k: u16) -> u16
     ensures { λ r. ⌜ r ≡ implLine (now (starts .entry)) (countsOf shape) k ⌝ }
 {
     layout::line(starts, before(impl_rows_line(shape) as usize + k as usize))
 }
 
-pub fn spec_line(starts: &[u16; 84], shape: Shape, k: u16) -> u16
+pub fn spec_line(starts: &limits::Starts, shape: Shape, k: u16) -> u16
     ensures { λ r. ⌜ r ≡ specLine (now (starts .entry)) (countsOf shape) k ⌝ }
 {
     layout::line(starts, before(spec_rows_line(shape) as usize + k as usize))
@@ -345,11 +345,11 @@ fn before(i: usize) -> usize
 
 // What row k of the implementation does at v.
 pub fn impl_step<'a>(
-    fields: &'a [u16; terms::MAX_FIELDS],
-    starts: &'a [u16; 84],
+    fields: &'a limits::Fields,
+    starts: &'a limits::Starts,
     shape: Shape,
     k: u16,
-    v: &[u16; terms::MAX_PARAMETERS],
+    v: &limits::Values,
     sum: u16,
 ) -> Step
     ensures { λ r. ⌜ r ≡ implStep (now (fields .entry)) (now (starts .entry)) (countsOf shape) k (now (v .entry)) sum ⌝ }
@@ -368,11 +368,11 @@ pub fn impl_step<'a>(
 
 // What row k of the specification does at t.
 pub fn spec_step<'a>(
-    fields: &'a [u16; terms::MAX_FIELDS],
-    starts: &'a [u16; 84],
+    fields: &'a limits::Fields,
+    starts: &'a limits::Starts,
     shape: Shape,
     k: u16,
-    t: &[u16; terms::MAX_PARAMETERS],
+    t: &limits::Values,
     sum: u16,
 ) -> Step
     ensures { λ r. ⌜ r ≡ specStep (now (fields .entry)) (now (starts .entry)) (countsOf shape) k (now (t .entry)) sum ⌝ }
@@ -391,8 +391,8 @@ pub fn spec_step<'a>(
 
 // The span of row k of the implementation, and of the specification.
 pub fn impl_span<'a>(
-    fields: &'a [u16; terms::MAX_FIELDS],
-    starts: &'a [u16; 84],
+    fields: &'a limits::Fields,
+    starts: &'a limits::Starts,
     shape: Shape,
     k: u16,
 ) -> u16
@@ -402,8 +402,8 @@ pub fn impl_span<'a>(
 }
 
 pub fn spec_span<'a>(
-    fields: &'a [u16; terms::MAX_FIELDS],
-    starts: &'a [u16; 84],
+    fields: &'a limits::Fields,
+    starts: &'a limits::Starts,
     shape: Shape,
     k: u16,
 ) -> u16
@@ -414,8 +414,8 @@ pub fn spec_span<'a>(
 
 // The implementation's row of an action, and the specification's, by number; 0 where there is none.
 pub fn impl_row<'a>(
-    fields: &'a [u16; terms::MAX_FIELDS],
-    starts: &'a [u16; 84],
+    fields: &'a limits::Fields,
+    starts: &'a limits::Starts,
     shape: Shape,
     action: u16,
 ) -> u16
@@ -425,8 +425,8 @@ pub fn impl_row<'a>(
 }
 
 pub fn spec_row<'a>(
-    fields: &'a [u16; terms::MAX_FIELDS],
-    starts: &'a [u16; 84],
+    fields: &'a limits::Fields,
+    starts: &'a limits::Starts,
     shape: Shape,
     action: u16,
 ) -> u16

@@ -14,7 +14,7 @@ pub struct Found {
 }
 
 // For the value at a place of the desk's fields.
-pub fn value_sum_free(desk: &[u16; terms::MAX_FIELDS], at: usize, depth: usize) -> Found
+pub fn value_sum_free(desk: &limits::Fields, at: usize, depth: usize) -> Found
     ensures { λ r. ⌜ r ≡ foundV at (readV depth (drop at (now (desk .entry)))) ⌝ }
 {
     let fields: &[u16] = desk;
@@ -87,7 +87,7 @@ pub fn value_sum_free(desk: &[u16; terms::MAX_FIELDS], at: usize, depth: usize) 
 }
 
 // For the formula at a place of the desk's fields.
-pub fn formula_sum_free(desk: &[u16; terms::MAX_FIELDS], at: usize, depth: usize) -> Found
+pub fn formula_sum_free(desk: &limits::Fields, at: usize, depth: usize) -> Found
     ensures { λ r. ⌜ r ≡ foundF at (readF depth (drop at (now (desk .entry)))) ⌝ }
 {
     let fields: &[u16] = desk;

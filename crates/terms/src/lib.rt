@@ -7,13 +7,6 @@ ghost use lib.ListN.{getD};
 ghost use Rattle.terms.specs.Mark.{valueMark, formulaMark};
 ghost use Rattle.terms.specs.Tree.{arithOf, compareOf, joinOf};
 
-// The most fields of a design text, the most parameters of a process, and the depth of the deepest term allowed.
-pub const MAX_FIELDS: usize = 4096;
-
-pub const MAX_PARAMETERS: usize = 8;
-
-pub const MAX_DEPTH: usize = 32;
-
 // The operations of the value marks 3, 4 and 5.
 pub enum Arith {
     Sum,

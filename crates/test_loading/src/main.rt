@@ -67,16 +67,16 @@ fn mixed(number: u32, n: u16) -> u32 {
     (number % MODULUS * FACTOR + n as u32) % MODULUS
 }
 
-fn write_lines<'a>(fields: &'a [u16; reader::MAX_FIELDS], starts: &'a [u16; 84]) {
+fn write_lines<'a>(fields: &'a limits::Fields, starts: &'a limits::Starts) {
     let mut i = 0;
-    while i < design::MAX_LINES {
+    while i < limits::MAX_LINES {
         write_line(fields, terms::field(starts, i), terms::field(starts, i + 1));
         i += 1;
     }
 }
 
 // A line's kind and length, where it has fields.
-fn write_line(fields: &[u16; reader::MAX_FIELDS], start: u16, end: u16) {
+fn write_line(fields: &limits::Fields, start: u16, end: u16) {
     if start < end {
         write_number(b", ", terms::field(fields, start as usize) as u64);
         write_number(b" of ", (end - start) as u64);

@@ -82,7 +82,7 @@ fn check(line: &[u8]) -> Checked {
 
 // Puts the term's fields at a place, evaluates it there, and writes what it evaluates to and how many fields on the next term stands.
 fn evaluate(line: &[u8], words: &[u8], at: usize) {
-    let mut fields = [0u16; terms::MAX_FIELDS];
+    let mut fields = [0u16; limits::MAX_FIELDS];
     copy(reader::rest(line, HEAD), &mut fields, at);
     let params = [number(line, 6), number(line, 7), 0, 0, 0, 0, 0, 0];
     let sum = number(line, 5);
@@ -106,17 +106,17 @@ fn write_after(at: usize, next: usize) {
 
 // The place from which n fields reach the end.
 fn place_at_end(n: usize) -> usize {
-    if n <= terms::MAX_FIELDS {
-        terms::MAX_FIELDS - n
+    if n <= limits::MAX_FIELDS {
+        limits::MAX_FIELDS - n
     } else {
         0
     }
 }
 
 // The part's fields from a place on, and zeros after them.
-fn copy(part: &[u8], fields: &mut [u16; terms::MAX_FIELDS], at: usize) {
+fn copy(part: &[u8], fields: &mut limits::Fields, at: usize) {
     let mut i = at;
-    while i < terms::MAX_FIELDS {
+    while i < limits::MAX_FIELDS {
         fields[i] = number(part, i - at);
         i += 1;
     }

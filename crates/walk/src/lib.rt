@@ -30,16 +30,13 @@ pub struct Walked {
     pub count: usize,
 }
 
-// The most states that are walked: their numbers fit 16 bits.
-pub const MAX_STATES: usize = 65536;
-
 // The entries of a plan.
 pub const ENTRIES: usize = plan::ENTRIES;
 
 // Whether criterion 1 holds; not where the counts do not fit.
 pub fn start_holds<'a>(
-    fields: &'a [u16; terms::MAX_FIELDS],
-    starts: &'a [u16; 84],
+    fields: &'a limits::Fields,
+    starts: &'a limits::Starts,
     counts: Counts,
 ) -> bool
     ensures { λ r. ⌜ r ≡ startIn (now (fields .entry)) (now (starts .entry)) counts ⌝ }
@@ -53,8 +50,8 @@ pub fn start_holds<'a>(
 
 // The plan for a walk: what does not change from state to state.
 pub fn plan<'a>(
-    fields: &'a [u16; terms::MAX_FIELDS],
-    starts: &'a [u16; 84],
+    fields: &'a limits::Fields,
+    starts: &'a limits::Starts,
     counts: Counts,
 ) -> [u16; ENTRIES]
     ensures { λ r. ⌜ r ≡ planOf (now (fields .entry)) (now (starts .entry)) counts ⌝ }
@@ -64,8 +61,8 @@ pub fn plan<'a>(
 
 // The walk by a plan over n states from number `from` on, where there are so many; else no state is walked.
 pub fn walk<'a>(
-    fields: &'a [u16; terms::MAX_FIELDS],
-    starts: &'a [u16; 84],
+    fields: &'a limits::Fields,
+    starts: &'a limits::Starts,
     counts: Counts,
     plan: &'a [u16; ENTRIES],
     from: usize,
@@ -85,24 +82,24 @@ pub fn walk<'a>(
 
 // How many states may be walked.
 fn walkable<'a>(
-    fields: &'a [u16; terms::MAX_FIELDS],
-    starts: &'a [u16; 84],
+    fields: &'a limits::Fields,
+    starts: &'a limits::Starts,
     counts: Counts,
 ) -> usize
     ensures { λ r. ⌜ r ≡ min (stateCountIn (now (fields .entry)) (now (starts .entry)) counts) 65536 ⌝ }
 {
     let there = layout::state_count(fields, starts, counts);
-    if there < MAX_STATES {
+    if there < limits::MAX_STATES {
         there
     } else {
-        MAX_STATES
+        limits::MAX_STATES
     }
 }
 
 // Criterion 1.
 fn start_meets<'a>(
-    fields: &'a [u16; terms::MAX_FIELDS],
-    starts: &'a [u16; 84],
+    fields: &'a limits::Fields,
+    starts: &'a limits::Starts,
     shape: Shape,
 ) -> bool
     ensures { λ r. ⌜ r ≡ startMeets (now (fields .entry)) (now (starts .entry)) (countsOf shape) ⌝ }
@@ -125,8 +122,8 @@ fn no_walk() -> Walked
 
 // The states from number `from` on, n of them, up to the first that fails.
 fn walk_on<'a>(
-    fields: &'a [u16; terms::MAX_FIELDS],
-    starts: &'a [u16; 84],
+    fields: &'a limits::Fields,
+    starts: &'a limits::Starts,
     shape: Shape,
     plan: &[u16; ENTRIES],
     from: usize,
@@ -155,8 +152,8 @@ fn walk_on<'a>(
 // One state examined: no failure, or its lowest, for which only a state that does not pass the quick test is searched. Outside the
 // invariant nothing is tried.
 fn examine<'a>(
-    fields: &'a [u16; terms::MAX_FIELDS],
-    starts: &'a [u16; 84],
+    fields: &'a limits::Fields,
+    starts: &'a limits::Starts,
     shape: Shape,
     plan: &[u16; ENTRIES],
     number: u16,
