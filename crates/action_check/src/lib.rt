@@ -166,11 +166,7 @@ fn is_bare<'a>(fields: &'a limits::Fields, starts: &'a limits::Starts, i: usize)
 }
 
 // Whether a row's data, which stands after its condition, is `0 0`.
-fn has_zero_data<'a>(
-    fields: &'a limits::Fields,
-    starts: &'a limits::Starts,
-    i: usize,
-) -> bool
+fn has_zero_data<'a>(fields: &'a limits::Fields, starts: &'a limits::Starts, i: usize) -> bool
     ensures { λ r. ⌜ r ≡ lines.bareAt (now (fields .entry)) (now (starts .entry)) i ⌝ }
 {
     let anywhere = [0u16; limits::MAX_PARAMETERS];
@@ -236,12 +232,7 @@ fn agrees<'a>(
 }
 
 // Whether two rows have different actions, or one span.
-fn agree<'a>(
-    fields: &'a limits::Fields,
-    starts: &'a limits::Starts,
-    i: usize,
-    j: usize,
-) -> bool
+fn agree<'a>(fields: &'a limits::Fields, starts: &'a limits::Starts, i: usize, j: usize) -> bool
     ensures { λ r. ⌜ r ≡ lines.agree (now (fields .entry)) (now (starts .entry)) i j ⌝ }
 {
     if number(fields, starts, i, ACTION) != number(fields, starts, j, ACTION) {
@@ -251,12 +242,7 @@ fn agree<'a>(
 }
 
 // The k-th field of a line.
-fn number<'a>(
-    fields: &'a limits::Fields,
-    starts: &'a limits::Starts,
-    i: usize,
-    k: u16,
-) -> u16
+fn number<'a>(fields: &'a limits::Fields, starts: &'a limits::Starts, i: usize, k: u16) -> u16
     ensures { λ r. ⌜ r ≡ getD (lineFrom (now (fields .entry)) (now (starts .entry)) i) k 0 ⌝ }
 {
     let start = terms::field(starts, i) as usize;

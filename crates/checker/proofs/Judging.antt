@@ -10,10 +10,13 @@ use lib.Dec.{eqb}
 use lib.ListN.{length, drop}
 use Rattle.reader.specs.Text.{fieldsByLine}
 use Rattle.writer.specs.declared.Report.{Report}
+use Rattle.writer.specs.Put.{put}
 use Rattle.writer.specs.Report as bytes
+use Rattle.writer.proofs.Bytes.{report-first}
 use Rattle.criteria.specs.Verdict.{accepted, failed}
 use Rattle.criteria.specs.Verdict as criteria
 use Rattle.decision.specs.Verdict.{verdictOf}
+use Rattle.design.specs.Lines.{designText}
 use Rattle.loader.specs.Load.{faultOf, heldBy, loadedOf}
 use Rattle.checker.specs.Said.{saidVerdict}
 use Rattle.desk.specs.declared.Phase.{Phase}
@@ -26,15 +29,16 @@ use Rattle.desk.specs.declared.AfterLoad.{AfterLoad}
 use Rattle.desk.specs.declared.AfterAdvance.{AfterAdvance}
 use Rattle.desk.specs.declared.AfterVerdict.{AfterVerdict}
 use Rattle.desk.specs.Desk.{emptyDesk, opened, notLoaded, loadEmpty, loadOf, advanceOf, tellBy, tellOf}
-use Rattle.checker.specs.OneCall.{verdictReport, refusedReport, designReport, judgedOf, answerOf, bufferAfter}
-use Rattle.checker.proofs.Opened.{designText, Ready, few}
+use Rattle.desk.specs.Answers.{verdictNumbers}
+use Rattle.checker.specs.OneCall.{refusedReport, designReport, judgedOf, answerOf, bufferAfter}
+use Rattle.checker.proofs.Opened.{Ready, few}
 use Rattle.checker.proofs.Stages.{Stage, fresh, going, accepts, fails, advance-fresh}
 
 -- ---- a load on an empty desk
 
 -- a text without fault is held, and nothing is tried yet
 pub opened-stage : (text : List ℕ) → faultOf text ≡ 0 → Stage text (opened (heldBy (fieldsByLine text)))
-opened-stage text ok = fresh (record { held = record { free = ok; fields-are = refl; starts-are = refl; counts-are = refl }; plan-is = refl }) refl refl
+opened-stage text ok = fresh (record { free = ok; held = record { fields-are = refl; starts-are = refl; counts-are = refl; plan-is = refl } }) refl refl
 
 pub loaded-free : (d : Desk) (text : List ℕ) → faultOf text ≡ 0 → loadEmpty d (loadedOf text) ≡ record { answer = done.Done; desk = opened (heldBy (fieldsByLine text)) }
 unfolding loadEmpty loadedOf
@@ -60,11 +64,11 @@ decided-answer text desk (going h e l u p) o = absurd (o e)
 decided-answer text desk (accepts h e v) o = rw (tell-at desk e, v)
 decided-answer text desk (fails x h e v) o = rw (tell-at desk e, v)
 
-decided-report : (text : List ℕ) (desk : Desk) → Stage text desk → desk .phase ≢ phase.Open
-    → verdictReport (tellOf desk .answer) ≡ designReport (verdictOf (designText text))
+pub decided-report : (text : List ℕ) (desk : Desk) → Stage text desk → desk .phase ≢ phase.Open
+    → verdictNumbers (tellOf desk .answer) ≡ designReport (verdictOf (designText text))
 decided-report text desk s o = rw (decided-answer text desk s o) (same-report (verdictOf (designText text)))
   where
-    same-report : (v : criteria.Verdict) → verdictReport (saidVerdict v) ≡ designReport v
+    same-report : (v : criteria.Verdict) → verdictNumbers (saidVerdict v) ≡ designReport v
     same-report accepted = refl
     same-report (failed x) = refl
 
@@ -91,16 +95,16 @@ module _ (text : List ℕ) (e : Desk) (ee : e ≡ emptyDesk) (a : AfterLoad) (ea
   judge-refused k h r er = er ∙ refused-by _ refl k h
 
   judged-by : (z : Bool) → eqb (faultOf text) 0 ≡ z → a .answer ≡ done.Done
-      → verdictReport (tellOf (advanceOf (a .desk) 18446744073709551615 .desk) .answer) ≡ judgedOf text
+      → verdictNumbers (tellOf (advanceOf (a .desk) 18446744073709551615 .desk) .answer) ≡ judgedOf text
   unfolding judgedOf
   judged-by true z h =
       let ok = eqb-true (faultOf text) 0 z in
       let f = loaded ∙ loaded-free emptyDesk text ok in
       let desk : Desk = opened (heldBy (fieldsByLine text)) in
       let same : a .desk ≡ desk = ap (λ x. x .desk) f in
-      let ready : Ready text desk = record { held = record { free = ok; fields-are = refl; starts-are = refl; counts-are = refl }; plan-is = refl } in
+      let ready : Ready text desk = record { free = ok; held = record { fields-are = refl; starts-are = refl; counts-are = refl; plan-is = refl } } in
       let adv = advance-fresh text desk 18446744073709551615 (λ n. omega arith) ready refl refl in
-      let most = few text desk (ready .held) in
+      let most = few text desk ready in
       rw (z, same) (decided-report text (advanceOf desk 18446744073709551615 .desk) (adv .stage) (adv .ends (omega arith)))
   judged-by false z h =
       let f = loaded ∙ loaded-fault emptyDesk text (eqb-false (faultOf text) 0 z) in
@@ -108,12 +112,12 @@ module _ (text : List ℕ) (e : Desk) (ee : e ≡ emptyDesk) (a : AfterLoad) (ea
       let w : _≡_ {A = ℕ} 0 1 = cc in
       absurd (omega arith)
 
-  pub judge-loaded : a .answer ≡ done.Done → (r : Report) → r ≡ verdictReport (tellOf (advanceOf (a .desk) 18446744073709551615 .desk) .answer) → r ≡ judgedOf text
+  pub judge-loaded : a .answer ≡ done.Done → (r : Report) → r ≡ verdictNumbers (tellOf (advanceOf (a .desk) 18446744073709551615 .desk) .answer) → r ≡ judgedOf text
   judge-loaded h r er = er ∙ judged-by _ refl h
 
 -- the rest of a check, call by call
 pub rest-report : (desk : Desk) (n : ℕ) (a : AfterAdvance) → a ≡ advanceOf desk n → (t : AfterVerdict) → t ≡ tellOf (a .desk) → (r : Report)
-    → r ≡ verdictReport (t .answer) → r ≡ verdictReport (tellOf (advanceOf desk n .desk) .answer)
+    → r ≡ verdictNumbers (t .answer) → r ≡ verdictNumbers (tellOf (advanceOf desk n .desk) .answer)
 rest-report desk n a ea t et r er = er ∙ rw (et, ea)
 
 -- ---- the buffer
@@ -132,6 +136,6 @@ module _ (text report : List ℕ) where
     unfolding answerOf
     answered = rw (le-ltb (length report) 31 h, ← ej)
 
-    pub written : (after : List ℕ) → after ≡ bytes.reportOf j ++ drop 31 report → after ≡ bufferAfter text report
+    pub written : (after : List ℕ) → after ≡ put report 0 (bytes.reportOf j) → after ≡ bufferAfter text report
     unfolding bufferAfter
-    written after e = rw (le-ltb (length report) 31 h, ← ej) e
+    written after e = rw (le-ltb (length report) 31 h, ← ej) (e ∙ report-first report j h)

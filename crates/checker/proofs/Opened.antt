@@ -12,7 +12,7 @@ use Rattle.criteria.specs.Design.{Design, sizes, states, stateNumber, initialSt
 use Rattle.criteria.proofs.Parameters.{initial-in-size}
 use Rattle.decision.specs.Tests.{holds1}
 use Rattle.decision.specs.Examine.{examine}
-use Rattle.design.specs.Lines.{countsOf, designOf}
+use Rattle.design.specs.Lines.{countsOf, designText}
 use Rattle.design.specs.Loaded.{fieldsHeld, startsHeld, designIn}
 use Rattle.design.specs.declared.Counts.{Counts}
 use Rattle.layout.specs.Sizes.{countsFit, stateCountIn, initialNumberIn}
@@ -21,23 +21,13 @@ use Rattle.loader.proofs.Passed.{admitted, design-in, counts-allowed}
 use Rattle.walk.specs.Walk.{startIn, planOf}
 use Rattle.walk.proofs.Acceptance.{start-tried, states-walked}
 use Rattle.desk.specs.Said.{saidWalked, walkedBy}
+use Rattle.desk.specs.Desk.{HoldsText}
 use Rattle.desk.specs.declared.Desk.{Desk}
 
--- the design of a text
-abbrev pub designText : List ℕ → Design
-designText text = designOf (fieldsByLine text)
-
--- the desk's arrays hold the lines of a text without fault
-pub record HoldsText (text : List ℕ) (desk : Desk) : Type 0 where
-  pub free : faultOf text ≡ 0
-  pub fields-are : desk .fields ≡ fieldsHeld (fieldsByLine text)
-  pub starts-are : desk .starts ≡ startsHeld (fieldsByLine text)
-  pub counts-are : desk .counts ≡ countsOf (fieldsByLine text)
-
--- and its plan is that of the arrays
+-- the text has no fault, and the desk holds its lines
 pub record Ready (text : List ℕ) (desk : Desk) : Type 0 where
+  pub free : faultOf text ≡ 0
   pub held : HoldsText text desk
-  pub plan-is : desk .plan ≡ planOf (desk .fields) (desk .starts) (desk .counts)
 
 -- ---- arrays that hold a design
 
@@ -67,41 +57,39 @@ module _ (f s : List ℕ) (c : Counts) (fit : countsFit c ≡ true) (d : Design)
 
 -- ---- a desk that holds a text
 
-module _ (text : List ℕ) (desk : Desk) (h : HoldsText text desk) where
+module _ (text : List ℕ) (desk : Desk) (r : Ready text desk) where
   abbrev lines : List (List ℕ)
   lines = fieldsByLine text
 
   abbrev d : Design
   d = designText text
 
+  h : HoldsText text desk
+  h = r .held
+
   pub few : states d ≤ 65536
-  few = admitted text (h .free) .few-states
+  few = admitted text (r .free) .few-states
 
   pub start-is : startIn (desk .fields) (desk .starts) (desk .counts) ≡ holds1 d
   start-is =
       rw (h .fields-are, h .starts-are, h .counts-are)
-      (start-of (fieldsHeld lines) (startsHeld lines) (countsOf lines) (counts-allowed text (h .free)) d (design-in text (h .free)))
+      (start-of (fieldsHeld lines) (startsHeld lines) (countsOf lines) (counts-allowed text (r .free)) d (design-in text (r .free)))
 
   pub total-is : stateCountIn (desk .fields) (desk .starts) (desk .counts) ≡ states d
   total-is =
       rw (h .fields-are, h .starts-are, h .counts-are)
-      (total-of (fieldsHeld lines) (startsHeld lines) (countsOf lines) (counts-allowed text (h .free)) d (design-in text (h .free)) few)
+      (total-of (fieldsHeld lines) (startsHeld lines) (countsOf lines) (counts-allowed text (r .free)) d (design-in text (r .free)) few)
 
   pub initial-is : initialNumberIn (desk .fields) (desk .starts) (desk .counts) ≡ stateNumber d (initialState (d .impl))
   initial-is =
       let f = few in
-      let b = number-below (sizes (d .impl)) (initialState (d .impl)) (initial-in-size (d .impl) (admitted text (h .free) .impl-sizes)) in
+      let b = number-below (sizes (d .impl)) (initialState (d .impl)) (initial-in-size (d .impl) (admitted text (r .free) .impl-sizes)) in
       let small : stateNumber d (initialState (d .impl)) ≤ 65535 = omega arith in
       rw (h .fields-are, h .starts-are, h .counts-are)
-      (initial-of (fieldsHeld lines) (startsHeld lines) (countsOf lines) (counts-allowed text (h .free)) d (design-in text (h .free)) small)
-
-module _ (text : List ℕ) (desk : Desk) (r : Ready text desk) where
-  abbrev ready-lines : List (List ℕ)
-  ready-lines = fieldsByLine text
+      (initial-of (fieldsHeld lines) (startsHeld lines) (countsOf lines) (counts-allowed text (r .free)) d (design-in text (r .free)) small)
 
   pub walk-is : (n from : ℕ) → from + n ≤ states (designText text)
       → walkedBy (desk .fields) (desk .starts) (desk .counts) (desk .plan) n from ≡ saidWalked (walk (examine (designText text)) n from)
   walk-is n from l =
-      let h = r .held in
-      rw (r .plan-is, h .fields-are, h .starts-are, h .counts-are)
-      (walk-of (fieldsHeld ready-lines) (startsHeld ready-lines) (countsOf ready-lines) (counts-allowed text (h .free)) (designText text) (design-in text (h .free)) n from l (few text desk h))
+      rw (h .plan-is, h .fields-are, h .starts-are, h .counts-are)
+      (walk-of (fieldsHeld lines) (startsHeld lines) (countsOf lines) (counts-allowed text (r .free)) d (design-in text (r .free)) n from l few)

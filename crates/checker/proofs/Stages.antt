@@ -21,6 +21,7 @@ use Rattle.decision.specs.Tests.{holds1}
 use Rattle.decision.specs.Examine.{examine}
 use Rattle.decision.specs.Verdict.{verdictOf}
 use Rattle.decision.proofs.Progress.{Progress, begins, goes-on, ends-at-start, ends-well, ends-badly, fails-at, fails-later}
+use Rattle.design.specs.Lines.{designText}
 use Rattle.layout.specs.Sizes.{initialNumberIn}
 use Rattle.loader.proofs.Passed.{admitted}
 use Rattle.desk.specs.Said.{said, saidFailure}
@@ -31,10 +32,11 @@ use Rattle.desk.specs.declared.Advance.{Advance}
 use Rattle.desk.specs.declared.Advance.the-variants as advance
 use Rattle.desk.specs.declared.Desk.{Desk}
 use Rattle.desk.specs.declared.AfterAdvance.{AfterAdvance}
-use Rattle.desk.specs.Answers.{countSaid}
-use Rattle.checker.specs.Count.{examined, stopOf, decidedBy, dueOf}
+use Rattle.desk.specs.Answers.{countSaid, Decided}
+use Rattle.desk.specs.Answers as answers
+use Rattle.checker.specs.Count.{examined, stopOf, decidedBy, dueOf, Due}
 use Rattle.desk.specs.Desk.{placed, ahead, failStart, afterPass, afterWalk, walkOn, examineNext, advanceOpen, advanceBy, advanceOf}
-use Rattle.checker.proofs.Opened.{designText, Ready, start-is, total-is, initial-is, walk-is}
+use Rattle.checker.proofs.Opened.{Ready, start-is, total-is, initial-is, walk-is}
 
 pub data Stage (text : List ℕ) (desk : Desk) : Type 0 where
   -- loaded, nothing tried
@@ -50,7 +52,7 @@ pub data Stage (text : List ℕ) (desk : Desk) : Type 0 where
 moved : {text : List ℕ} {desk : Desk} (n : ℕ) (p : Phase) → Ready text desk → Ready text (placed desk n p)
 moved n p h =
     let t = h .held in
-    record { held = record { free = t .free; fields-are = t .fields-are; starts-are = t .starts-are; counts-are = t .counts-are }; plan-is = h .plan-is }
+    record { free = h .free; held = record { fields-are = t .fields-are; starts-are = t .starts-are; counts-are = t .counts-are; plan-is = t .plan-is } }
 
 -- answers and phases are told apart
 failed-answer : {j k : ℕ} → advance.Failed j ≡ advance.Accepted k → ⊥
@@ -106,18 +108,12 @@ module _ (d : Design) where
 
 -- ---- what is due
 
--- of a design and its verdict, after m states, by n more: the answer, and when the desk is decided
-pub record Due (d : Design) (v : Verdict) (m n : ℕ) (a : Advance) (p : Phase) : Type 0 where
-  pub answers : a ≡ dueOf d v m n
-  pub stays : m + n < stopOf d v → p ≡ phase.Open
-  pub decides : stopOf d v ≤ m + n → p ≢ phase.Open
-
 module _ (d : Design) (v : Verdict) (m n : ℕ) where
   due-open : m + n < stopOf d v → Due d v m n (advance.Open n) phase.Open
   unfolding dueOf
   due-open l = record { answers = rw (lt-ltb (m + n) (stopOf d v) l); stays = λ _. refl; decides = λ u. absurd (omega arith) }
 
-  due-decided : (k : ℕ) (p : Phase) → stopOf d v ≤ m + n → k ≡ stopOf d v - m → p ≢ phase.Open → Due d v m n (decidedBy v k) p
+  due-decided : (k : ℕ) (p : Phase) → stopOf d v ≤ m + n → k ≡ stopOf d v - m → Decided p → Due d v m n (decidedBy v k) p
   unfolding dueOf
   due-decided k p l e o = record { answers = rw (le-ltb (m + n) (stopOf d v) l, e); stays = λ u. absurd (omega arith); decides = λ _. o }
 
@@ -158,14 +154,14 @@ module _ (text : List ℕ) (desk : Desk) (h : Ready text desk) where
   start-stage n z e =
       let f : Phase = phase.Failed (record { criterion = 1; state = initialNumberIn (desk .fields) (desk .starts) (desk .counts); row = 0; sum = 0 }) in
       record {
-        stage = fails (startFailure d) (moved 0 f h) (rw (initial-is text desk (h .held))) (ends-at-start d e);
+        stage = fails (startFailure d) (moved 0 f h) (rw (initial-is text desk h)) (ends-at-start d e);
         accepted-is = λ k q. absurd (failed-answer q);
         says-accepted = λ q. absurd (not-accepted q);
         ends = λ _ q. failed-phase q;
         opens = λ q. absurd (failed-phase q);
         counts = rw (unstarted d m e, unstarted d (m + n) e);
         rests = λ _ j. rw (unstarted d (m + n + j) e, unstarted d (m + n) e);
-        due = rw (ends-at-start d e) (due-decided d (failed (startFailure d)) m n 0 f (omega arith) (omega arith) failed-phase);
+        due = rw (ends-at-start d e) (due-decided d (failed (startFailure d)) m n 0 f (omega arith) (omega arith) (answers.failed _));
       }
 
   -- the start held, or was tried before: n states, or those that remain
@@ -180,12 +176,12 @@ module _ (text : List ℕ) (desk : Desk) (h : Ready text desk) where
     fails-due : (x : Failure) → walk (examine d) (ahead-of n) m .outcome ≡ fail x
         → Due d (verdictOf d) m n (advance.Failed (walk (examine d) (ahead-of n) m .count)) (phase.Failed (saidFailure x))
     fails-due x e =
-        let t = fails-at d (admitted text (h .held .free)) m (ahead-of n) x (omega arith) e in
+        let t = fails-at d (admitted text (h .free)) m (ahead-of n) x (omega arith) e in
         let at = t .0 in
         let most = count-most (examine d) (ahead-of n) m in
         let stop = stop-failed d x (t .1) in
         rw (ends-badly d m (ahead-of n) x p (omega arith) e)
-        (due-decided d (failed x) m n (walk (examine d) (ahead-of n) m .count) (phase.Failed (saidFailure x)) (omega arith) (omega arith) failed-phase)
+        (due-decided d (failed x) m n (walk (examine d) (ahead-of n) m .count) (phase.Failed (saidFailure x)) (omega arith) (omega arith) (answers.failed _))
 
     -- all pass, and there are more
     goes-due : ahead-of n ≡ n → m + n < states d → Progress d (m + ahead-of n) → Due d (verdictOf d) m n (advance.Open (ahead-of n)) phase.Open
@@ -194,7 +190,7 @@ module _ (text : List ℕ) (desk : Desk) (h : Ready text desk) where
         before : (v : Verdict) → verdictOf d ≡ v → m + n < stopOf d v
         before accepted e = l
         before (failed x) e =
-            let t = fails-later d (admitted text (h .held .free)) (m + ahead-of n) x q (omega arith) e in
+            let t = fails-later d (admitted text (h .free)) (m + ahead-of n) x q (omega arith) e in
             let later = t .0 in
             let stop = stop-failed d x (t .1) in
             omega arith
@@ -231,7 +227,7 @@ module _ (text : List ℕ) (desk : Desk) (h : Ready text desk) where
               opens = λ r. absurd (accepted-phase r);
               counts = sum;
               rests = λ _ j. over d (m + n) j (omega arith);
-              due = rw ended (due-decided d accepted m n (ahead-of n) phase.Accepted (omega arith) (omega arith) accepted-phase);
+              due = rw ended (due-decided d accepted m n (ahead-of n) phase.Accepted (omega arith) (omega arith) answers.accepted);
             }
         passed false l q sum =
             let g = leb-false (states d) (m + ahead-of n) l in
@@ -249,24 +245,24 @@ module _ (text : List ℕ) (desk : Desk) (h : Ready text desk) where
     examines : Advances text desk n (examineNext desk n)
     unfolding examineNext walkOn ahead
     examines =
-        rw (total-is text desk (h .held), walk-is text desk h (ahead-of n) m (omega arith)) (walked-by (walk (examine d) (ahead-of n) m .outcome) refl)
+        rw (total-is text desk h, walk-is text desk h (ahead-of n) m (omega arith)) (walked-by (walk (examine d) (ahead-of n) m .outcome) refl)
 
 -- ---- an advance by one state or more, on a desk that is open
 
 pub some-states : (text : List ℕ) (desk : Desk) → Ready text desk → 0 < states (designText text)
 some-states text desk h =
     let d = designText text in
-    let b = number-below (sizes (d .impl)) (initialState (d .impl)) (initial-in-size (d .impl) (admitted text (h .held .free) .impl-sizes)) in
+    let b = number-below (sizes (d .impl)) (initialState (d .impl)) (initial-in-size (d .impl) (admitted text (h .free) .impl-sizes)) in
     omega arith
 
 module _ (text : List ℕ) (desk : Desk) (n : ℕ) (some : n ≢ 0) where
   from-start : (b : Bool) → holds1 (designText text) ≡ b → Ready text desk → desk .next ≡ 0 → Advances text desk n (advanceOpen desk n)
   unfolding advanceOpen
   from-start true e h z =
-      rw (ne-eqb n 0 some, eq-eqb (desk .next) 0 z, start-is text desk (h .held), e)
+      rw (ne-eqb n 0 some, eq-eqb (desk .next) 0 z, start-is text desk h, e)
       (examines text desk h n some (rw z (some-states text desk h)) (rw z (begins (designText text) e)))
   from-start false e h z =
-      rw (ne-eqb n 0 some, eq-eqb (desk .next) 0 z, start-is text desk (h .held), e) (start-stage text desk h n z e)
+      rw (ne-eqb n 0 some, eq-eqb (desk .next) 0 z, start-is text desk h, e) (start-stage text desk h n z e)
 
   from-later : Ready text desk → 0 < desk .next → desk .next < states (designText text) → Progress (designText text) (desk .next) → Advances text desk n (advanceOpen desk n)
   unfolding advanceOpen

@@ -1,5 +1,6 @@
 -- How many states a check examines, and what an advance answers (01, "The desk"), from the verdict on the design.
-use Prim.Native.Nat.{ℕ, suc, _+_, _-_, min}
+use Prim.Native.Nat.{ℕ, suc, _+_, _-_, _≤_, _<_, min}
+use mathlib.Core.Path.{_≡_}
 use mathlib.Core.Bool.{cond}
 use lib.Dec.{eqb, ltb}
 use Rattle.foundation.specs.Walk.{walk}
@@ -8,6 +9,9 @@ use Rattle.criteria.specs.Design.{Design, states}
 use Rattle.criteria.specs.Verdict.{Verdict, accepted, failed}
 use Rattle.decision.specs.Tests.{holds1}
 use Rattle.decision.specs.Examine.{examine}
+use Rattle.desk.specs.declared.Phase.{Phase}
+use Rattle.desk.specs.declared.Phase.the-variants as phase
+use Rattle.desk.specs.Answers.{Decided}
 use Rattle.desk.specs.declared.Advance.{Advance}
 use Rattle.desk.specs.declared.Advance.the-variants as advance
 
@@ -28,3 +32,9 @@ decidedBy (failed x) k = advance.Failed k
 -- "Advance returns open, accepted or failed, and how many states it examined": by n states, at least one, after m
 unfoldable pub dueOf : Design → Verdict → ℕ → ℕ → Advance
 dueOf d v m n = let stop = stopOf d v in cond (ltb (m + n) stop) (advance.Open n) (decidedBy v (stop - m))
+
+-- and the phase that it leaves: after m states and n more, the answer is what is due, and the desk is decided when all are examined
+pub record Due (d : Design) (v : Verdict) (m n : ℕ) (a : Advance) (p : Phase) : Type 0 where
+  pub answers : a ≡ dueOf d v m n
+  pub stays : m + n < stopOf d v → p ≡ phase.Open
+  pub decides : stopOf d v ≤ m + n → Decided p

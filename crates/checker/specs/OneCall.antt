@@ -7,38 +7,28 @@ use mathlib.Core.Bool.{cond}
 use mathlib.Core.List.{List, _++_}
 use lib.Dec.{eqb, ltb}
 use lib.ListN.{length, drop}
-use Rattle.reader.specs.Text.{fieldsByLine}
 use Rattle.writer.specs.declared.Report.{Report}
+use Rattle.writer.specs.Report.{report}
 use Rattle.writer.specs.Report as bytes
 use Rattle.criteria.specs.Verdict as criteria
 use Rattle.decision.specs.Verdict.{verdictOf}
-use Rattle.design.specs.Lines.{designOf}
+use Rattle.design.specs.Lines.{designText}
 use Rattle.loader.specs.Load.{faultOf}
-use Rattle.desk.specs.declared.Verdict.{Verdict}
-use Rattle.desk.specs.declared.Verdict.the-variants as verdict
 
--- "verdict (0, 1, 2), criterion or turned-down number, state, row, sum value; unused fields are 0"
+-- "verdict (0, 1, 2), criterion or turned-down number, state, row, sum value; unused fields are 0": of a text that is turned down
 abbrev pub refusedReport : ℕ → Report
-refusedReport k = record { verdict = 2; number = k; state = 0; row = 0; sum = 0 }
+refusedReport k = report 2 k 0 0 0
 
--- the report's numbers for each case of a desk's verdict; a refused one has its number
-abbrev pub verdictReport : Verdict → Report
-verdictReport verdict.Accepted = record { verdict = 0; number = 0; state = 0; row = 0; sum = 0 }
-verdictReport (verdict.Failed f) = record { verdict = 1; number = f .criterion; state = f .state; row = f .row; sum = f .sum }
-verdictReport (verdict.TurnedDown k) = refusedReport k
-
--- the same numbers, of the verdict on a design
+-- and of the verdict on a design
 abbrev pub designReport : criteria.Verdict → Report
-designReport v =
-    let r = criteria.reportOf v in
-    record { verdict = r .verdict; number = r .criterion; state = r .state; row = r .row; sum = r .sum }
+designReport v = let r = criteria.reportOf v in report (r .verdict) (r .criterion) (r .state) (r .row) (r .sum)
 
 -- the report on a text
 unfoldable pub judgedOf : List ℕ → Report
-judgedOf text = cond (eqb (faultOf text) 0) (designReport (verdictOf (designOf (fieldsByLine text)))) (refusedReport (faultOf text))
+judgedOf text = cond (eqb (faultOf text) 0) (designReport (verdictOf (designText text))) (refusedReport (faultOf text))
 
 unfoldable pub answerOf : List ℕ → List ℕ → ℕ
-answerOf text report = cond (ltb (length report) 31) 9 (judgedOf text .verdict)
+answerOf text buffer = cond (ltb (length buffer) 31) 9 (judgedOf text .verdict)
 
 unfoldable pub bufferAfter : List ℕ → List ℕ → List ℕ
-bufferAfter text report = cond (ltb (length report) 31) report (bytes.reportOf (judgedOf text) ++ drop 31 report)
+bufferAfter text buffer = cond (ltb (length buffer) 31) buffer (bytes.reportOf (judgedOf text) ++ drop 31 buffer)

@@ -2,11 +2,11 @@
 // answers and writes is in specs/OneCall, one equation for every text and every buffer.
 use desk::Desk;
 use desk::Done;
-use desk::Verdict;
 use writer::Report;
 ghost use mathlib.Core.Path.{_≡_};
 ghost use Rattle.desk.specs.Desk.{advanceOf, tellOf};
-ghost use Rattle.checker.specs.OneCall.{verdictReport, refusedReport, judgedOf, answerOf, bufferAfter};
+ghost use Rattle.desk.specs.Answers.{verdictNumbers};
+ghost use Rattle.checker.specs.OneCall.{refusedReport, judgedOf, answerOf, bufferAfter};
 
 // Checks a text and writes the report: 0 accepted, 1 failed, 2 turned down; 9 for a report buffer under 31 bytes, which is not
 // written.
@@ -40,13 +40,13 @@ pub fn judge(text: &[u8]) -> Report
 
 // Examines all that remain, and reports.
 fn judge_rest(desk: Desk) -> Report
-    ensures { λ r. ⌜ r ≡ verdictReport (tellOf (advanceOf desk 18446744073709551615 .desk) .answer) ⌝ }
+    ensures { λ r. ⌜ r ≡ verdictNumbers (tellOf (advanceOf desk 18446744073709551615 .desk) .answer) ⌝ }
 {
     let advanced = desk.advance(18446744073709551615);
     let examined = advanced.desk;
     let told = examined.verdict();
     let answer = told.answer;
-    report_of(answer)
+    desk::verdict_numbers(answer)
 }
 
 fn turned_down(number: u16) -> Report
@@ -58,28 +58,5 @@ fn turned_down(number: u16) -> Report
         state: 0,
         row: 0,
         sum: 0,
-    }
-}
-
-// The report's numbers for a verdict.
-pub fn report_of(verdict: Verdict) -> Report
-    ensures { λ r. ⌜ r ≡ verdictReport verdict ⌝ }
-{
-    match verdict {
-        Verdict::Accepted => Report {
-            verdict: 0,
-            number: 0,
-            state: 0,
-            row: 0,
-            sum: 0,
-        },
-        Verdict::Failed(failure) => Report {
-            verdict: 1,
-            number: failure.criterion,
-            state: failure.state,
-            row: failure.row,
-            sum: failure.sum,
-        },
-        Verdict::TurnedDown(number) => turned_down(number),
     }
 }

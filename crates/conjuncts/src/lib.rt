@@ -95,13 +95,7 @@ fn no_conjunct(at: usize, depth: usize) -> Conjunct
 }
 
 // Whether the first n conjuncts of the condition at a place hold.
-pub fn guard(
-    fields: &limits::Fields,
-    at: usize,
-    v: &limits::Values,
-    sum: u16,
-    n: u16,
-) -> Guarded
+pub fn guard(fields: &limits::Fields, at: usize, v: &limits::Values, sum: u16, n: u16) -> Guarded
     ensures { λ r. ⌜ r ≡ guardIn (now (fields .entry)) (now (v .entry)) sum n at 32 ⌝ }
 {
     let mut place = at;
@@ -135,12 +129,7 @@ pub fn guard(
 }
 
 // Whether the formula at a place holds. Of a conjunction no more is evaluated than up to the first conjunct that fails.
-pub fn holds(
-    fields: &limits::Fields,
-    at: usize,
-    v: &limits::Values,
-    sum: u16,
-) -> bool
+pub fn holds(fields: &limits::Fields, at: usize, v: &limits::Values, sum: u16) -> bool
     ensures { λ r. ⌜ r ≡ evalF (readF 32 (drop at (now (fields .entry))) .tree) (now (v .entry)) sum ⌝ }
 {
     let front = guard(fields, at, v, sum, MOST);

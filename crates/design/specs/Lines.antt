@@ -5,6 +5,7 @@ use mathlib.Core.Bool.{cond}
 use mathlib.Core.List.{List, [], _∷_, map}
 use lib.Dec.{eqb}
 use lib.ListN.{length, getD}
+use Rattle.reader.specs.Text.{fieldsByLine}
 use Rattle.criteria.specs.Design.{Design}
 use Rattle.design.specs.Line.{parameterOf, rowOf, invariantOf, mappingOf, measureOf}
 use Rattle.design.specs.declared.Counts.{Counts}
@@ -41,3 +42,7 @@ designOf lines =
       mapping = mappingOf m (theLine 6 lines);
       measure = measureOf (theLine 7 lines);
     }
+
+-- the design of a text
+abbrev pub designText : List ℕ → Design
+designText text = designOf (fieldsByLine text)

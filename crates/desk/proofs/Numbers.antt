@@ -1,7 +1,7 @@
--- What load and advance answer has the number that specs/Answers gives the call.
-use Prim.Native.Nat.{ℕ, _+_}
+-- What load, advance and verdict answer has the numbers that specs/Answers gives the call.
+use Prim.Native.Nat.{ℕ, _+_, _-_, min}
 use mathlib.Core.Path.{_≡_, refl, sym, ap, _∙_}
-use mathlib.Core.Bool.{Bool, true, false, cond}
+use mathlib.Core.Bool.{Bool, true, false, cond, not, _&&_}
 use mathlib.Core.List.{List}
 use borrow.Author.Tests.{eqb-true}
 use lib.Dec.{eqb, leb}
@@ -16,9 +16,10 @@ use Rattle.desk.specs.declared.Phase.the-variants as phase
 use Rattle.desk.specs.declared.Desk.{Desk}
 use Rattle.desk.specs.declared.AfterLoad.{AfterLoad}
 use Rattle.desk.specs.declared.AfterAdvance.{AfterAdvance}
+use Rattle.desk.specs.declared.AfterVerdict.{AfterVerdict}
 use Rattle.desk.specs.Said.{walkedBy}
-use Rattle.desk.specs.Answers.{doneNumber, refusalNumber, loadNumber, advanceNumber}
-use Rattle.desk.specs.Desk.{loadEmpty, loadBy, loadOf, afterPass, afterWalk, walkOn, failStart, ahead, examineNext, advanceOpen, advanceBy, advanceOf}
+use Rattle.desk.specs.Answers.{doneNumber, refusalNumber, countSaid, verdictNumbers, loadNumber, advanceNumber, countOpen, countBy, advanceCount, numbersTold}
+use Rattle.desk.specs.Desk.{loadEmpty, loadBy, loadOf, afterPass, afterWalk, walkOn, failStart, ahead, examineNext, advanceOpen, advanceBy, advanceOf, tellBy, tellOf}
 
 -- ---- load
 
@@ -91,3 +92,62 @@ advance-by (phase.Failed f) d n = refl
 pub advance-number : (d : Desk) (n : ℕ) (r : AfterAdvance) → r ≡ advanceOf d n → refusalNumber (r .answer) ≡ advanceNumber (d .phase) n
 unfolding advanceOf
 advance-number d n r e = ap (λ (x : AfterAdvance). refusalNumber (x .answer)) e ∙ advance-by (d .phase) d n
+
+-- ---- how many states an advance examines
+
+walked-count : (o : Outcome) (d : Desk) (count at total : ℕ) → countSaid (afterWalk o d count at total .answer) ≡ count
+walked-count (Fail f) d count at total = refl
+walked-count Pass d count at total = go (leb total at)
+  where
+    go : (b : Bool) → countSaid (afterPass b d count at .answer) ≡ count
+    go true = refl
+    go false = refl
+
+next-count : (d : Desk) (n : ℕ)
+    → countSaid (examineNext d n .answer)
+    ≡ walkedBy (d .fields) (d .starts) (d .counts) (d .plan) (min n (stateCountIn (d .fields) (d .starts) (d .counts) - d .next)) (d .next) .count
+unfolding examineNext walkOn ahead
+next-count d n =
+    let total : ℕ = stateCountIn (d .fields) (d .starts) (d .counts) in
+    let w : Walked = walkedBy (d .fields) (d .starts) (d .counts) (d .plan) (min n (total - d .next)) (d .next) in
+    walked-count (w .outcome) d (w .count) (d .next + w .count) total
+
+start-count : (d : Desk) → countSaid (failStart d .answer) ≡ 0
+unfolding failStart
+start-count d = refl
+
+open-count : (d : Desk) (n : ℕ) → countSaid (advanceOpen d n .answer) ≡ cond (eqb n 0) 0 (countOpen d n)
+unfolding advanceOpen
+open-count d n = go (eqb n 0) refl
+  where
+    go : (b : Bool) → eqb n 0 ≡ b → countSaid (advanceOpen d n .answer) ≡ cond (eqb n 0) 0 (countOpen d n)
+    go true e = rw e
+    go false e = rw e (first (eqb (d .next) 0) (startIn (d .fields) (d .starts) (d .counts)))
+      where
+        first : (b c : Bool) → countSaid (cond b (cond c (examineNext d n) (failStart d)) (examineNext d n) .answer)
+            ≡ cond (b && not c) 0 (walkedBy (d .fields) (d .starts) (d .counts) (d .plan) (min n (stateCountIn (d .fields) (d .starts) (d .counts) - d .next)) (d .next) .count)
+        first true true = next-count d n
+        first true false = start-count d
+        first false c = next-count d n
+
+count-by : (p : Phase) (d : Desk) (n : ℕ) → countSaid (advanceBy p d n .answer) ≡ countBy p d n
+count-by phase.Empty d n = refl
+count-by phase.Open d n = open-count d n
+count-by phase.Accepted d n = refl
+count-by (phase.Failed f) d n = refl
+
+pub advance-count : (d : Desk) (n : ℕ) (r : AfterAdvance) → r ≡ advanceOf d n → countSaid (r .answer) ≡ advanceCount d n
+unfolding advanceOf advanceCount
+advance-count d n r e = ap (λ (x : AfterAdvance). countSaid (x .answer)) e ∙ count-by (d .phase) d n
+
+-- ---- verdict
+
+told-by : (p : Phase) (d : Desk) → verdictNumbers (tellBy p d .answer) ≡ numbersTold p
+told-by phase.Empty d = refl
+told-by phase.Open d = refl
+told-by phase.Accepted d = refl
+told-by (phase.Failed f) d = refl
+
+pub verdict-numbers : (d : Desk) (r : AfterVerdict) → r ≡ tellOf d → verdictNumbers (r .answer) ≡ numbersTold (d .phase)
+unfolding tellOf
+verdict-numbers d r e = ap (λ (x : AfterVerdict). verdictNumbers (x .answer)) e ∙ told-by (d .phase) d

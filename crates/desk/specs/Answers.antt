@@ -1,11 +1,17 @@
--- The paper's number and values for each case of an answer, and the number that each call returns by the phase of its desk (01, "The
--- desk", "Turned down by the input" 8, "Turned down by the state"). The values of a verdict are the report's: `verdictReport` in
--- checker/specs/OneCall.
-use Prim.Native.Nat.{ℕ}
-use mathlib.Core.Bool.{cond}
+-- The paper's number and values for each case of an answer, and those that each call returns by its desk (01, "The desk", "Turned down
+-- by the input" 8, "Turned down by the state").
+use Prim.Native.Nat.{ℕ, _-_, min}
+use mathlib.Core.Bool.{Bool, cond, not, _&&_}
 use mathlib.Core.List.{List}
 use lib.Dec.{eqb}
+use Rattle.writer.specs.declared.Report.{Report}
+use Rattle.writer.specs.Report.{report}
+use Rattle.layout.specs.Sizes.{stateCountIn}
 use Rattle.loader.specs.Load.{faultOf}
+use Rattle.walk.specs.Walk.{startIn}
+use Rattle.walk.specs.declared.Failure.{Failure}
+use Rattle.desk.specs.Said.{walkedBy}
+use Rattle.desk.specs.declared.Desk.{Desk}
 use Rattle.desk.specs.declared.Phase.{Phase}
 use Rattle.desk.specs.declared.Phase.the-variants as phase
 use Rattle.desk.specs.declared.Done.{Done}
@@ -14,6 +20,11 @@ use Rattle.desk.specs.declared.Advance.{Advance}
 use Rattle.desk.specs.declared.Advance.the-variants as advance
 use Rattle.desk.specs.declared.Verdict.{Verdict}
 use Rattle.desk.specs.declared.Verdict.the-variants as verdict
+
+-- "A desk is empty, open or decided": accepted or failed
+pub data Decided : Phase → Type 0 where
+  accepted : Decided phase.Accepted
+  failed : (f : Failure) → Decided (phase.Failed f)
 
 -- ---- the numbers of answers
 
@@ -36,11 +47,11 @@ countSaid (advance.Accepted k) = k
 countSaid (advance.Failed k) = k
 countSaid (advance.TurnedDown k) = 0
 
--- the number by which a verdict is turned down, 0 if it isn't
-abbrev pub toldNumber : Verdict → ℕ
-toldNumber verdict.Accepted = 0
-toldNumber (verdict.Failed f) = 0
-toldNumber (verdict.TurnedDown k) = k
+-- "verdict returns the report's numbers": verdict, criterion, state, row, sum value; turned down: "its number, other numbers 0"
+abbrev pub verdictNumbers : Verdict → Report
+verdictNumbers verdict.Accepted = report 0 0 0 0 0
+verdictNumbers (verdict.Failed f) = report 1 (f .criterion) (f .state) (f .row) (f .sum)
+verdictNumbers (verdict.TurnedDown k) = report k 0 0 0 0
 
 -- ---- the number that a call returns; 0 is done
 
@@ -59,14 +70,36 @@ advanceNumber phase.Accepted n = 14
 advanceNumber (phase.Failed f) n = 14
 
 -- 11; 13. "Verdict while open."
-abbrev pub verdictNumber : Phase → ℕ
-verdictNumber phase.Empty = 11
-verdictNumber phase.Open = 13
-verdictNumber phase.Accepted = 0
-verdictNumber (phase.Failed f) = 0
+abbrev pub numbersTold : Phase → Report
+numbersTold phase.Empty = report 11 0 0 0 0
+numbersTold phase.Open = report 13 0 0 0 0
+numbersTold phase.Accepted = report 0 0 0 0 0
+numbersTold (phase.Failed f) = report 1 (f .criterion) (f .state) (f .row) (f .sum)
 
 abbrev pub dropNumber : Phase → ℕ
 dropNumber phase.Empty = 11
 dropNumber phase.Open = 0
 dropNumber phase.Accepted = 0
 dropNumber (phase.Failed f) = 0
+
+-- ---- how many states an advance examines
+
+-- the start is tried in the first advance, and fails
+abbrev pub startFails : Desk → Bool
+startFails d = eqb (d .next) 0 && not (startIn (d .fields) (d .starts) (d .counts))
+
+-- "the next n states, or those that remain", up to the failing one; 0 where no state is examined
+abbrev pub countOpen : Desk → ℕ → ℕ
+countOpen d n =
+    let left = stateCountIn (d .fields) (d .starts) (d .counts) - d .next in
+    cond (startFails d) 0 (walkedBy (d .fields) (d .starts) (d .counts) (d .plan) (min n left) (d .next) .count)
+
+-- "how many states it examined, the failing one included; 0 if criterion 1 failed"; turned down: 0
+abbrev pub countBy : Phase → Desk → ℕ → ℕ
+countBy phase.Empty d n = 0
+countBy phase.Open d n = cond (eqb n 0) 0 (countOpen d n)
+countBy phase.Accepted d n = 0
+countBy (phase.Failed f) d n = 0
+
+unfoldable pub advanceCount : Desk → ℕ → ℕ
+advanceCount d n = countBy (d .phase) d n

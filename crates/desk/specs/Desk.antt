@@ -2,10 +2,14 @@
 -- for every desk and every argument. A desk here is any record of that type; which desks there are in a list of calls is in the
 -- crate claims. What loading a text comes to is in loader/specs/Load, what a walk over states in walk/specs.
 use Prim.Native.Nat.{ℕ, _+_, _-_, min}
+use mathlib.Core.Path.{_≡_}
 use mathlib.Core.Bool.{Bool, true, false, cond}
 use mathlib.Core.List.{List}
 use lib.Dec.{eqb, leb}
 use lib.ListN.{replicate}
+use Rattle.reader.specs.Text.{fieldsByLine}
+use Rattle.design.specs.Lines.{countsOf}
+use Rattle.design.specs.Loaded.{fieldsHeld, startsHeld}
 use Rattle.layout.specs.Sizes.{stateCountIn, initialNumberIn}
 use Rattle.loader.specs.declared.Loaded.{Loaded}
 use Rattle.loader.specs.Load.{loadedOf}
@@ -41,6 +45,13 @@ emptyDesk = record {
 -- the same design, at another state and in another phase
 abbrev pub placed : Desk → ℕ → Phase → Desk
 placed d n p = record { fields = d .fields; starts = d .starts; counts = d .counts; plan = d .plan; next = n; phase = p }
+
+-- "It keeps its own copy of the fields": the desk's arrays hold the lines of a text, and its plan is that of the arrays
+pub record HoldsText (text : List ℕ) (desk : Desk) : Type 0 where
+  pub fields-are : desk .fields ≡ fieldsHeld (fieldsByLine text)
+  pub starts-are : desk .starts ≡ startsHeld (fieldsByLine text)
+  pub counts-are : desk .counts ≡ countsOf (fieldsByLine text)
+  pub plan-is : desk .plan ≡ planOf (desk .fields) (desk .starts) (desk .counts)
 
 -- ---- "Load takes a text and opens the desk"
 

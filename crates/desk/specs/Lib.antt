@@ -1,3 +1,4 @@
 pub mod Said
 pub mod Desk
 pub mod Answers
+pub mod Limits

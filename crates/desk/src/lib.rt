@@ -5,10 +5,13 @@ use design::Counts;
 use walk::Failure;
 use walk::Outcome;
 use walk::Walked;
+use writer::Report;
 ghost use mathlib.Core.Path.{_≡_};
 ghost use Prim.Native.Nat.{_+_, _<_};
 ghost use Rattle.loader.specs.Load.{loadedOf};
-ghost use Rattle.desk.specs.Answers.{doneNumber, refusalNumber, toldNumber, loadNumber, advanceNumber, verdictNumber, dropNumber};
+ghost use Rattle.desk.specs.Answers.{doneNumber, refusalNumber, countSaid, verdictNumbers, loadNumber, advanceNumber, advanceCount, numbersTold, dropNumber};
+ghost use Rattle.writer.specs.Report.{report};
+ghost use Rattle.desk.specs.Limits.{deskLimits};
 ghost use Rattle.desk.specs.Desk.{emptyDesk, notLoaded, loadEmpty, loadOf, notAdvanced, failStart, examineNext, walkOn, advanceOpen, advanceOf, tellOf, dropOf, placed, ahead};
 
 // What a desk is: empty, open or decided.
@@ -21,7 +24,7 @@ pub enum Phase {
 
 pub struct Desk {
     // The fields of the text's lines, and where each line starts.
-    pub fields: limits::Fields,
+    pub fields: [u16; Desk::MAX_FIELDS],
     pub starts: limits::Starts,
     pub counts: Counts,
     // What the walk needs to know of every state, worked out when the text is loaded.
@@ -29,6 +32,18 @@ pub struct Desk {
     // The number of the next state to examine.
     pub next: usize,
     pub phase: Phase,
+}
+
+// The limits of a design text; `line` is that of a line's fields.
+pub struct Limits {
+    pub bytes: usize,
+    pub line: usize,
+    pub fields: usize,
+    pub depth: usize,
+    pub parameters: usize,
+    pub rows: usize,
+    pub span: u16,
+    pub states: usize,
 }
 
 // The answer of a load or a drop: done, or the number by which it is turned down.
@@ -74,7 +89,12 @@ pub struct AfterDrop {
 }
 
 impl Desk {
-    // The limits of a text: its fields in all, the depth of a term, parameters and rows of a process, states.
+    // The limits of a text: its bytes, the fields of a line and in all, the depth of a term, the parameters and rows of a process,
+    // the sum values of a row, the states. That they are those of the faults is what `limits` promises.
+    pub const MAX_BYTES: usize = limits::MAX_BYTES;
+
+    pub const MAX_LINE_FIELDS: usize = limits::MAX_LINE_FIELDS;
+
     pub const MAX_FIELDS: usize = limits::MAX_FIELDS;
 
     pub const MAX_DEPTH: usize = limits::MAX_DEPTH;
@@ -83,10 +103,25 @@ impl Desk {
 
     pub const MAX_ROWS: usize = limits::MAX_ROWS;
 
-    pub const MAX_STATES: usize = walk::MAX_STATES;
+    pub const MAX_SPAN: u16 = limits::MAX_SPAN;
 
-    // A start for each line, and the end of the last.
-    pub const STARTS: usize = limits::MAX_LINES + 1;
+    pub const MAX_STATES: usize = limits::MAX_STATES;
+
+    // The limits of what a desk takes.
+    pub fn limits() -> Limits
+        ensures { λ r. ⌜ r ≡ deskLimits ⌝ }
+    {
+        Limits {
+            bytes: Desk::MAX_BYTES,
+            line: Desk::MAX_LINE_FIELDS,
+            fields: Desk::MAX_FIELDS,
+            depth: Desk::MAX_DEPTH,
+            parameters: Desk::MAX_PARAMETERS,
+            rows: Desk::MAX_ROWS,
+            span: Desk::MAX_SPAN,
+            states: Desk::MAX_STATES,
+        }
+    }
 
     // A new desk.
     pub fn empty() -> Desk
@@ -94,7 +129,7 @@ impl Desk {
     {
         Desk {
             fields: [0u16; Desk::MAX_FIELDS],
-            starts: [0u16; Desk::STARTS],
+            starts: [0u16; limits::STARTS],
             counts: Counts {
                 kind1: 0,
                 kind2: 0,
@@ -125,6 +160,7 @@ impl Desk {
     pub fn advance(self, n: u64) -> AfterAdvance
         ensures { λ r. ⌜ r ≡ advanceOf self n ⌝ }
         ensures { λ r. ⌜ refusalNumber (r .answer) ≡ advanceNumber (self .phase) n ⌝ }
+        ensures { λ r. ⌜ countSaid (r .answer) ≡ advanceCount self n ⌝ }
     {
         let phase = self.phase;
         match phase {
@@ -138,7 +174,7 @@ impl Desk {
     // Tells the report's numbers; the desk stays as it is.
     pub fn verdict(self) -> AfterVerdict
         ensures { λ r. ⌜ r ≡ tellOf self ⌝ }
-        ensures { λ r. ⌜ toldNumber (r .answer) ≡ verdictNumber (self .phase) ⌝ }
+        ensures { λ r. ⌜ verdictNumbers (r .answer) ≡ numbersTold (self .phase) ⌝ }
     {
         let phase = self.phase;
         match phase {
@@ -320,6 +356,37 @@ impl Desk {
             next,
             phase,
         }
+    }
+}
+
+// The numbers of a verdict: those of the report; a verdict that is turned down has its number, and 0 else.
+pub fn verdict_numbers(verdict: Verdict) -> Report
+    ensures { λ r. ⌜ r ≡ verdictNumbers verdict ⌝ }
+{
+    match verdict {
+        Verdict::Accepted => report_of(0, 0, 0, 0, 0),
+        Verdict::Failed(failure) => {
+            report_of(
+                1,
+                failure.criterion,
+                failure.state,
+                failure.row,
+                failure.sum,
+            )
+        }
+        Verdict::TurnedDown(number) => report_of(number, 0, 0, 0, 0),
+    }
+}
+
+fn report_of(verdict: u16, number: u16, state: u16, row: u16, sum: u16) -> Report
+    ensures { λ r. ⌜ r ≡ report verdict number state row sum ⌝ }
+{
+    Report {
+        verdict,
+        number,
+        state,
+        row,
+        sum,
     }
 }
 

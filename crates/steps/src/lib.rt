@@ -148,13 +148,7 @@ pub fn same(n: u8, v: &limits::Values, w: &limits::Values) -> bool
 // ---- the kinds of lines at a state
 
 // What the row in the line that starts at a place does, in a process of n parameters.
-fn step_by(
-    fields: &limits::Fields,
-    line: u16,
-    n: u8,
-    v: &limits::Values,
-    sum: u16,
-) -> Step
+fn step_by(fields: &limits::Fields, line: u16, n: u8, v: &limits::Values, sum: u16) -> Step
     ensures { λ r. ⌜ r ≡ stepOf (rowOf n (drop line (now (fields .entry)))) (now (v .entry)) sum ⌝ }
 {
     let condition = eval::formula(fields, line as usize + 3, v, sum, limits::MAX_DEPTH);

@@ -81,11 +81,7 @@ pub fn walk<'a>(
 }
 
 // How many states may be walked.
-fn walkable<'a>(
-    fields: &'a limits::Fields,
-    starts: &'a limits::Starts,
-    counts: Counts,
-) -> usize
+fn walkable<'a>(fields: &'a limits::Fields, starts: &'a limits::Starts, counts: Counts) -> usize
     ensures { λ r. ⌜ r ≡ min (stateCountIn (now (fields .entry)) (now (starts .entry)) counts) 65536 ⌝ }
 {
     let there = layout::state_count(fields, starts, counts);
@@ -97,11 +93,7 @@ fn walkable<'a>(
 }
 
 // Criterion 1.
-fn start_meets<'a>(
-    fields: &'a limits::Fields,
-    starts: &'a limits::Starts,
-    shape: Shape,
-) -> bool
+fn start_meets<'a>(fields: &'a limits::Fields, starts: &'a limits::Starts, shape: Shape) -> bool
     ensures { λ r. ⌜ r ≡ startMeets (now (fields .entry)) (now (starts .entry)) (countsOf shape) ⌝ }
 {
     let v = steps::initial_state(fields, starts, 0, shape.kind1);

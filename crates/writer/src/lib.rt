@@ -1,11 +1,12 @@
 // A number as six columns of a lent buffer, and the report in its first 31 bytes. What is written is what the reader reads:
-// `columnsOf` and `textOf` are the reader's definitions. Every byte of the buffer at exit is determined; its length stays.
+// `columnsOf` and `textOf` are the reader's definitions. Each function answers its result's length, or 0 where the buffer is too short
+// for it, and then writes nothing. Every byte of the buffer at exit is determined; its length stays.
 ghost use mathlib.Core.Path.{_≡_};
-ghost use mathlib.Core.List.{_++_};
 ghost use Prim.Native.Nat.{_+_, _<_, _≤_};
-ghost use lib.ListN.{length, drop};
+ghost use lib.ListN.{length};
 ghost use lib.Seq.{sets};
 ghost use Rattle.reader.specs.Columns.{columnOf, columnsOf};
+ghost use Rattle.writer.specs.Put.{put, putLength};
 ghost use Rattle.writer.specs.Report.{reportOf};
 
 // The report's five numbers.
@@ -22,6 +23,9 @@ pub struct Report {
 // Five fields and byte 10.
 pub const REPORT_BYTES: usize = 31;
 
+// The columns of a field.
+const COLUMNS: usize = 6;
+
 const BLANK: u8 = 32;
 
 const DIGIT_0: u8 = 48;
@@ -29,7 +33,34 @@ const DIGIT_0: u8 = 48;
 const LINE_END: u8 = 10;
 
 // A number in the six columns from `at` on.
-pub fn put_field(buffer: &mut [u8], at: usize, n: u16)
+pub fn put_field(buffer: &mut [u8], at: usize, n: u16) -> usize
+    ensures { λ r. ⌜ r ≡ putLength (now (buffer .entry)) at (columnsOf n) ⌝ }
+    ensures { λ _. ⌜ now (buffer .exit) ≡ put (now (buffer .entry)) at (columnsOf n) ⌝ }
+{
+    if buffer.len() < COLUMNS {
+        return 0;
+    }
+    if buffer.len() - COLUMNS < at {
+        return 0;
+    }
+    put_columns(buffer, at, n);
+    COLUMNS
+}
+
+// The report in the first 31 bytes; later bytes keep their content.
+pub fn put_report(buffer: &mut [u8], report: Report) -> usize
+    ensures { λ r. ⌜ r ≡ putLength (now (buffer .entry)) 0 (reportOf report) ⌝ }
+    ensures { λ _. ⌜ now (buffer .exit) ≡ put (now (buffer .entry)) 0 (reportOf report) ⌝ }
+{
+    if buffer.len() < REPORT_BYTES {
+        return 0;
+    }
+    put_numbers(buffer, report);
+    REPORT_BYTES
+}
+
+// A number's columns, where there is room for them.
+fn put_columns(buffer: &mut [u8], at: usize, n: u16)
     requires { ⌜ at + 6 ≤ length (now buffer) ⌝ }
     ensures { λ _. ⌜ now (buffer .exit) ≡ sets (now (buffer .entry)) at (columnsOf n) ⌝ }
 {
@@ -41,16 +72,16 @@ pub fn put_field(buffer: &mut [u8], at: usize, n: u16)
     buffer[at + 5] = DIGIT_0 + (n % 10) as u8;
 }
 
-// The report in the first 31 bytes; later bytes keep their content.
-pub fn put_report(buffer: &mut [u8], report: Report)
+// The report's five fields and byte 10, where there is room for them.
+fn put_numbers(buffer: &mut [u8], report: Report)
     requires { ⌜ 31 ≤ length (now buffer) ⌝ }
-    ensures { λ _. ⌜ now (buffer .exit) ≡ reportOf report ++ drop 31 (now (buffer .entry)) ⌝ }
+    ensures { λ _. ⌜ now (buffer .exit) ≡ sets (now (buffer .entry)) 0 (reportOf report) ⌝ }
 {
-    put_field(buffer, 0, report.verdict);
-    put_field(buffer, 6, report.number);
-    put_field(buffer, 12, report.state);
-    put_field(buffer, 18, report.row);
-    put_field(buffer, 24, report.sum);
+    put_columns(buffer, 0, report.verdict);
+    put_columns(buffer, 6, report.number);
+    put_columns(buffer, 12, report.state);
+    put_columns(buffer, 18, report.row);
+    put_columns(buffer, 24, report.sum);
     buffer[30] = LINE_END;
 }
 

@@ -1,9 +1,5 @@
--- `writer::put_field` stores a number's six columns one after the other.
-use native.Mathlib.Omega.{arith}
-use native.Mathlib.Numerals.{towards-suc}
-use Prim.Native.Nat.{_<_}
+-- `writer::put_field` writes a field where it fits.
 use borrow.Author.Needs.{needs}
-use lib.ListN.{length-set}
 use Rattle.writer.proofs.Bytes as bytes
 use Rattle.writer.proofs.put_field.Statement.{statement}
 use Rattle.writer.proofs.put_field.Tie as tie
@@ -12,27 +8,9 @@ pub put-field-spec : {M : Type 1} → statement M
 put-field-spec =
     tie.close
     (tie.spec
+    (λ c. (search bytes.short-none, search bytes.short-kept))
     (λ c. search needs)
+    (λ c. (search bytes.far-none, search bytes.far-kept))
     (λ c κs. search needs)
     (λ c. search needs)
-    (λ c. simp length-set (omega arith))
-    (λ c κs. search needs)
-    (λ c. search needs)
-    (λ c. simp length-set (omega arith))
-    (λ c κs. search needs)
-    (λ c. search needs)
-    (λ c. simp length-set (omega arith))
-    (λ c κs. search needs)
-    (λ c. search needs)
-    (λ c. simp length-set (omega arith))
-    (λ c. search needs)
-    (λ c. search needs)
-    (λ c. search needs)
-    (λ c. simp length-set (omega arith))
-    (λ c. search needs)
-    (λ c.
-    let n = c .before .before .before .before .before .args .n in
-    let small : n < 65536 = search needs in
-    rw
-    (bytes.columns-are n _ _ _ _ small (c .before .before .before .column .ensures) (c .before .before .column2 .ensures) (c .before .column3 .ensures) (c .column4 .ensures))
-    (simp towards-suc)))
+    (λ c. (search bytes.field-put, search bytes.field-kept)))

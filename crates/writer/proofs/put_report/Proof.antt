@@ -1,7 +1,5 @@
--- `writer::put_report` writes five fields and byte 10.
-use native.Mathlib.Omega.{arith}
+-- `writer::put_report` writes the report where it fits.
 use borrow.Author.Needs.{needs}
-use lib.ListN.{length-set}
 use Rattle.writer.proofs.Bytes as bytes
 use Rattle.writer.proofs.put_report.Statement.{statement}
 use Rattle.writer.proofs.put_report.Tie as tie
@@ -10,18 +8,7 @@ pub put-report-spec : {M : Type 1} → statement M
 put-report-spec =
     tie.close
     (tie.spec
-    (λ c κs. search needs)
-    (λ c κs. search needs)
-    (λ c κs. search needs)
-    (λ c κs. search needs)
+    (λ c. (search bytes.report-none, search bytes.report-none-kept))
     (λ c κs. search needs)
     (λ c. search needs)
-    (λ c. simp length-set (omega arith))
-    (λ c.
-    let p₅ = c .before .before in
-    let p₄ = p₅ .before .before .before .before in
-    let p₃ = p₄ .before .before .before .before in
-    let p₂ = p₃ .before .before .before .before in
-    let p₁ = p₂ .before .before .before .before in
-    let s = p₁ .before .before .before in
-    bytes.report-sets (s .args .report) _ _ _ _ _ _ (s .pre) (p₁ .put-field .ensures) (p₂ .put-field2 .ensures) (p₃ .put-field3 .ensures) (p₄ .put-field4 .ensures) (p₅ .put-field5 .ensures)))
+    (λ c. (search bytes.report-put, search bytes.report-kept)))
