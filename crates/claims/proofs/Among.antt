@@ -1,75 +1,111 @@
--- A design text that meets every criterion is accepted both ways.
-use Prim.Native.Nat.{ℕ, _≤_}
+-- A design text that meets every criterion is accepted both ways: by every check and every list of calls that goes to the end, and there
+-- are such.
+use Prim.Native.Nat.{ℕ, _+_, _≤_}
 use mathlib.Core.Path.{_≡_, refl, sym, ap, _∙_}
-use mathlib.Core.List.{List, [], _∷_, nil≢cons}
+use mathlib.Core.List.{List, [], _∷_}
 use native.Mathlib.Omega.{arith}
 use lib.ListN.{length}
-use denote.Ref.{now}
+use Rattle.foundation.specs.Walk.{total}
 use Rattle.criteria.specs.Design.{states}
 use Rattle.criteria.specs.Criteria.{Meets}
 use Rattle.criteria.specs.Verdict.{accepted}
 use Rattle.decision.specs.Verdict.{verdictOf}
 use Rattle.decision.proofs.Demand2.{demand2}
+use Rattle.design.specs.Lines.{designText}
 use Rattle.design.specs.Faults.{DesignText}
 use Rattle.loader.specs.Load.{faultOf}
 use Rattle.loader.proofs.Lowest.{free-exactly}
 use Rattle.loader.proofs.Passed.{admitted}
 use Rattle.desk.specs.declared.Phase.the-variants as phase
-use Rattle.desk.specs.declared.Done.{Done}
 use Rattle.desk.specs.declared.Done.the-variants as done
 use Rattle.desk.specs.declared.Desk.{Desk}
-use Rattle.desk.specs.Desk.{emptyDesk, loadOf}
+use Rattle.desk.specs.declared.AfterLoad.{AfterLoad}
 use Rattle.checker.specs.OneCall.{designReport}
-use Rattle.checker.proofs.Opened.{designText}
 use Rattle.checker.proofs.Stages.{Stage, fresh, going, accepts, fails}
 use Rattle.checker.proofs.Judging.{loaded-free}
-use Rattle.claims.specs.Calls.{Called, load, AcceptedIn, Walked}
-use Rattle.claims.proofs.Lists.{Calls, new, then-load, then-advance, then-verdict, then-drop, latest, earlier}
+use Rattle.claims.specs.Calls.{Called, load, advance, AcceptedIn, Walked, LoadThen}
+use Rattle.claims.specs.Calls as calls
+use Rattle.claims.specs.Contracts.{News, Loads, Checks, Calls, new, then-load, then-advance}
+use Rattle.claims.specs.Demand3.{AcceptedBy, Among}
+use Rattle.claims.proofs.Lists.{loaded-as, answered, answered-all}
 use Rattle.claims.proofs.Kept.{load-at}
-use Rattle.claims.proofs.OneCall.{Checks, answered, long-answer, judged-free}
+use Rattle.claims.proofs.OneCall.{long-answer, judged-free}
 use Rattle.claims.proofs.Reached.{Reached, reached, decided}
-
-new-is : {cs : List Called} {d : Desk} → Calls cs d → cs ≡ [] → d ≡ emptyDesk
-new-is (new e) q = e
-new-is (then-load κs t c e) q = absurd (nil≢cons (sym q))
-new-is (then-advance n c e) q = absurd (nil≢cons (sym q))
-new-is (then-verdict c e) q = absurd (nil≢cons (sym q))
-new-is (then-drop c e) q = absurd (nil≢cons (sym q))
 
 module _ (text : List ℕ) (t : DesignText text) where
   free : faultOf text ≡ 0
   free = free-exactly text .1 t
 
   -- a load on a new desk is done
-  load-new : (d : Desk) → d ≡ emptyDesk → loadOf d text .answer ≡ done.Done
-  load-new d e = rw e (ap (λ r. r .answer) (load-at emptyDesk text refl ∙ loaded-free emptyDesk text free))
+  load-new : {d : Desk} {r : AfterLoad} → News d → Loads d text r → r .answer ≡ done.Done
+  load-new {d} n l = ap (λ r. r .answer) (loaded-as l ∙ load-at d text (ap (λ x. x .phase) n) ∙ loaded-free d text free)
 
-  first-load : {cs : List Called} {d : Desk} {a : Done} → Calls cs d → cs ≡ load text a ∷ [] → a ≡ done.Done
-  first-load (new e) q = absurd (nil≢cons q)
-  first-load {a = a} (then-load {d = d} {r = r} κs u c e) q =
-      let p = latest q in
-      let same : now u ≡ text = cc in
-      let answered : a ≡ r .answer = cc in
-      answered ∙ ap (λ x. x .answer) (e .0) ∙ rw same (load-new d (new-is c (earlier q)))
-  first-load (then-advance n c e) q = let p = latest q in let z : _≡_ {A = ℕ} 0 1 = cc in absurd (omega arith)
-  first-load (then-verdict c e) q = let p = latest q in let z : _≡_ {A = ℕ} 0 1 = cc in absurd (omega arith)
-  first-load (then-drop c e) q = let p = latest q in let z : _≡_ {A = ℕ} 0 1 = cc in absurd (omega arith)
+  -- ---- calls there are: a load, and advances by these numbers
 
-  pub by-load : {d : Desk} {a : Done} → Calls (load text a ∷ []) d → a ≡ done.Done
-  by-load c = first-load c refl
+  pub record There (ns : List ℕ) : Type 0 where
+    pub calls-made : List Called
+    pub desk : Desk
+    pub made : Calls calls-made desk
+    pub is : LoadThen text ns calls-made
+
+  loaded-there : There []
+  loaded-there =
+      let n = answered-all .new in
+      let r = answered-all .load (n .0) text in
+      let c = then-load (new (n .1)) (r .1) in
+      record { calls-made = load text done.Done ∷ []; desk = r .0 .desk; made = rw (load-new (n .1) (r .1)) at c; is = calls.loaded }
+
+  pub there : (ns : List ℕ) → There ns
+  there [] = loaded-there
+  there (n ∷ ns) =
+      let before = there ns in
+      let a = answered-all .advance (before .desk) n in
+      record { calls-made = advance n (a .0 .answer) ∷ before .calls-made; desk = a .0 .desk; made = then-advance n (before .made) (a .1); is = calls.on (before .is) }
+
+  -- such a list walks over as many states as the numbers add up to
+  pub record Walks (calls-made : List Called) (ns : List ℕ) : Type 0 where
+    pub states-in : ℕ
+    pub counted : ℕ
+    pub walked : Walked calls-made text states-in counted
+    pub adds-up : states-in ≡ total ns
+
+  pub walks : {cs : List Called} {ns : List ℕ} → LoadThen text ns cs → Walks cs ns
+  walks calls.loaded = record { states-in = 0; counted = 0; walked = calls.loaded; adds-up = refl }
+  walks (calls.on {ns = ns} {n = n} l) =
+      let w = walks l in
+      let sum = w .adds-up in
+      record { states-in = w .states-in + n; counted = _; walked = calls.on (w .walked); adds-up = omega arith }
+
+  -- ---- of a design that meets the criteria
 
   module _ (m : Meets (designText text)) where
     passes : verdictOf (designText text) ≡ accepted
     passes = demand2 (designText text) (admitted text free) .accepts .1 m
 
-    pub by-check : {report after : List ℕ} {r : ℕ} → Checks text report r after → 31 ≤ length report → r ≡ 0
-    by-check {report} c l = answered c ∙ long-answer text report l ∙ ap (λ r. r .verdict) (judged-free text free) ∙ ap (λ v. designReport v .verdict) passes
+    every-check : {report after : List ℕ} {r : ℕ} → Checks text report r after → 31 ≤ length report → r ≡ 0
+    every-check {report} c l = answered c ∙ long-answer text report l ∙ ap (λ r. r .verdict) (judged-free text free) ∙ ap (λ v. designReport v .verdict) passes
 
-    pub by-advances : {cs : List Called} {d : Desk} {n k : ℕ} → Calls cs d → Walked cs text n k → states (designText text) ≤ n → AcceptedIn cs text
-    by-advances {cs} {d} c w l = let r = reached c w in by-stage r (r .stage) (decided r l)
+    a-check : (report : List ℕ) → 31 ≤ length report → (after : List ℕ) × Checks text report 0 after
+    a-check report l =
+        let a = answered-all .check text report in
+        let c = a .2 in
+        (a .1, rw (every-check c l) at c)
+
+    every-list : {cs : List Called} {d : Desk} {n k : ℕ} → Calls cs d → Walked cs text n k → states (designText text) ≤ n → AcceptedIn cs text
+    every-list {cs} {d} c w l = let r = reached c w in by-stage r (r .stage) (decided r l)
       where
         by-stage : {n k : ℕ} → Reached cs text d n k → Stage text d → (d .phase ≡ phase.Open → ⊥) → AcceptedIn cs text
         by-stage r (fresh h e z) o = absurd (o e)
         by-stage r (going h e a b p) o = absurd (o e)
         by-stage r (accepts h e v) o = r .accepted-in e
         by-stage r (fails x h e v) o = let q = sym passes ∙ v in let z : _≡_ {A = ℕ} 0 1 = cc in absurd (omega arith)
+
+    a-list : (ns : List ℕ) → states (designText text) ≤ total ns → AcceptedBy text ns
+    a-list ns l =
+        let c = there ns in
+        let w = walks (c .is) in
+        let sum = w .adds-up in
+        record { calls = c .calls-made; desk = c .desk; made = c .made; is = c .is; accepted = every-list (c .made) (w .walked) (omega arith) }
+
+    pub among : Among text
+    among = record { check = a-check; every-check = every-check; list = a-list; every-list = every-list }

@@ -9,7 +9,6 @@ use mathlib.Core.List.{List, _∷_, nil≢cons}
 use native.Mathlib.Omega.{arith}
 use borrow.Author.Tests.{eqb-true, eqb-false, eq-eqb}
 use lib.Dec.{eqb}
-use denote.Ref.{now}
 use Rattle.criteria.specs.Verdict.{accepted}
 use Rattle.decision.specs.Verdict.{verdictOf}
 use Rattle.loader.specs.Load.{faultOf, loadedOf}
@@ -21,17 +20,18 @@ use Rattle.desk.specs.declared.Advance.the-variants as progress
 use Rattle.desk.specs.declared.Desk.{Desk}
 use Rattle.desk.specs.declared.AfterAdvance.{AfterAdvance}
 use Rattle.desk.specs.Desk.{loadEmpty, loadBy, loadOf, notAdvanced, advanceOpen, advanceBy, advanceOf, tellBy, tellOf, dropBy, dropOf}
-use Rattle.checker.proofs.Opened.{designText}
+use Rattle.design.specs.Lines.{designText}
 use Rattle.checker.proofs.Stages.{Stage, fresh, going, accepts, fails, Advances, advance-fresh, advance-going}
 use Rattle.checker.proofs.Judging.{opened-stage, loaded-free, loaded-fault}
 use Rattle.claims.specs.Calls.{Called, load, advance, verdict, drop, NoLoad, refused, advanced, told, dropped, LastLoad, here, before, AcceptedIn}
 use Rattle.claims.specs.Calls as calls
-use Rattle.claims.proofs.Lists.{Calls, new, then-load, then-advance, then-verdict, then-drop, latest, earlier}
+use Rattle.claims.specs.Contracts.{Calls, new, then-load, then-advance, then-verdict, then-drop}
+use Rattle.claims.proofs.Lists.{loaded-as, latest, earlier}
 
 -- ---- the last load is one
 
 no-done : {call : Called} {text : List ℕ} → NoLoad call → call ≡ load text done.Done → ⊥
-no-done refused e = let z : _≡_ {A = ℕ} 0 1 = cc in omega arith
+no-done (refused o) e = let z : _≡_ {A = ℕ} 0 1 = cc in omega arith
 no-done advanced e = let z : _≡_ {A = ℕ} 0 1 = cc in omega arith
 no-done told e = let z : _≡_ {A = ℕ} 0 1 = cc in omega arith
 no-done dropped e = let z : _≡_ {A = ℕ} 0 1 = cc in omega arith
@@ -68,10 +68,10 @@ load-empty cs d text e false z = rw (loaded-fault d text (eqb-false (faultOf tex
 
 load-kept : {cs : List Called} {d : Desk} (text : List ℕ) → Kept cs d → Kept (load text (loadOf d text .answer) ∷ cs) (loadOf d text .desk)
 load-kept {cs} {d} text (empty e) = rw (load-at d text e) (load-empty cs d text e _ refl)
-load-kept {d = d} text (holds l (fresh h e z)) = rw (load-at d text e) (keeps refused l (fresh h e z))
-load-kept {d = d} text (holds l (going h e a b p)) = rw (load-at d text e) (keeps refused l (going h e a b p))
-load-kept {d = d} text (holds l (accepts h e v)) = rw (load-at d text e) (keeps refused l (accepts h e v))
-load-kept {d = d} text (holds l (fails x h e v)) = rw (load-at d text e) (keeps refused l (fails x h e v))
+load-kept {d = d} text (holds l (fresh h e z)) = rw (load-at d text e) (keeps (refused (λ z. omega arith)) l (fresh h e z))
+load-kept {d = d} text (holds l (going h e a b p)) = rw (load-at d text e) (keeps (refused (λ z. omega arith)) l (going h e a b p))
+load-kept {d = d} text (holds l (accepts h e v)) = rw (load-at d text e) (keeps (refused (λ z. omega arith)) l (accepts h e v))
+load-kept {d = d} text (holds l (fails x h e v)) = rw (load-at d text e) (keeps (refused (λ z. omega arith)) l (fails x h e v))
 
 -- ---- advance
 
@@ -139,7 +139,7 @@ drop-kept d = empty (drop-empty d (d .phase) refl)
 
 pub kept : {cs : List Called} {d : Desk} → Calls cs d → Kept cs d
 kept (new e) = empty (ap (λ x. x .phase) e)
-kept (then-load κs text c e) = rw (e .0) (load-kept (now text) (kept c))
+kept (then-load {text = text} c e) = rw (loaded-as e) (load-kept text (kept c))
 kept (then-advance n c e) = rw (e .0) (advance-kept n (kept c))
 kept (then-verdict c e) = rw (e .0) (verdict-kept (kept c))
 kept (then-drop {d = d} c e) = rw (e .0) (drop-kept d)
@@ -152,10 +152,10 @@ pub record Accepts (text : List ℕ) : Type 0 where
   pub verdict-is : verdictOf (designText text) ≡ accepted
 
 free-of : {text : List ℕ} {d : Desk} → Stage text d → faultOf text ≡ 0
-free-of (fresh h e z) = h .held .free
-free-of (going h e a b p) = h .held .free
-free-of (accepts h e v) = h .held .free
-free-of (fails x h e v) = h .held .free
+free-of (fresh h e z) = h .free
+free-of (going h e a b p) = h .free
+free-of (accepts h e v) = h .free
+free-of (fails x h e v) = h .free
 
 accepted-at : {cs : List Called} {d : Desk} {text : List ℕ} (n k : ℕ) → Kept cs d → LastLoad cs text → advanceOf d n .answer ≡ progress.Accepted k → Accepts text
 accepted-at {d = d} n k (empty e) l a = absurd (refused-none (sym (ap (λ r. r .answer) (advance-at d n e)) ∙ a))
@@ -165,8 +165,8 @@ accepted-at {d = d} n k (holds {text = t} m s) l a =
 accepted-in : {cs ds : List Called} {d : Desk} {text : List ℕ} → Calls cs d → AcceptedIn ds text → cs ≡ ds → Accepts text
 accepted-in (new e) (calls.here l) q = absurd (nil≢cons q)
 accepted-in (new e) (calls.before a) q = absurd (nil≢cons q)
-accepted-in (then-load κs t c e) (calls.here l) q = let p = latest q in let z : _≡_ {A = ℕ} 0 1 = cc in absurd (omega arith)
-accepted-in (then-load κs t c e) (calls.before a) q = accepted-in c a (earlier q)
+accepted-in (then-load c e) (calls.here l) q = let p = latest q in let z : _≡_ {A = ℕ} 0 1 = cc in absurd (omega arith)
+accepted-in (then-load c e) (calls.before a) q = accepted-in c a (earlier q)
 accepted-in (then-advance {r = r} n c e) (calls.here {n = m} {k = k} l) q =
     let p = latest q in
     let answer : r .answer ≡ progress.Accepted k = cc in

@@ -2,10 +2,11 @@ pub mod Lists
 pub mod Kept
 pub mod Reached
 pub mod OneCall
+pub mod Outcomes
 pub mod Among
 pub mod Counted
-pub mod Demand3
 pub mod Demand1
 pub mod Demand2
+pub mod Demand3
 pub mod Pump
 pub mod Text

@@ -1,36 +1,59 @@
--- A list of desk calls, each with any arguments, the desk handed from call to call. Each call is one that the contract of the method
--- allows: `Post` is what the method ensures, of its arguments, its result and its arguments at exit. So nothing can stand in for
--- the methods.
+-- Laws of calls and lists of calls: what a contract's equation says of a call, that every call has an answer (`answered-all`), and the
+-- latest call of a list.
 use Prim.Native.Nat.{ℕ}
-use mathlib.Core.Path.{_≡_}
+use mathlib.Core.Path.{_≡_, refl}
 use mathlib.Core.List.{List, [], _∷_}
-use denote.Ref.{RefT, now}
-use contract.Lifetimes.{Lfts}
+use denote.Ref.{RefT}
 use Rattle.desk.specs.declared.Desk.{Desk}
 use Rattle.desk.specs.declared.AfterLoad.{AfterLoad}
-use Rattle.desk.specs.declared.AfterAdvance.{AfterAdvance}
-use Rattle.desk.specs.declared.AfterVerdict.{AfterVerdict}
-use Rattle.desk.specs.declared.AfterDrop.{AfterDrop}
-use Rattle.desk.proofs.Desk.empty.Reads as empty-reads
-use Rattle.desk.proofs.Desk.load.Reads as load-reads
-use Rattle.desk.proofs.Desk.advance.Reads as advance-reads
-use Rattle.desk.proofs.Desk.verdict.Reads as verdict-reads
-use Rattle.desk.proofs.Desk.drop.Reads as drop-reads
-use Rattle.claims.specs.Calls.{Called, load, advance, verdict, drop}
+use Rattle.desk.specs.Desk.{emptyDesk, loadOf, advanceOf, tellOf, dropOf}
+use Rattle.desk.proofs.Numbers.{load-number, advance-number, advance-count, verdict-numbers, drop-number}
+use Rattle.checker.specs.OneCall.{answerOf, bufferAfter}
+use Rattle.claims.specs.Calls.{Called}
+use Rattle.claims.specs.Contracts.{Loads, loads, Checks, checks, AsksNothing, Answered}
 
--- after these calls, the latest first, the desk is this
-pub data Calls : List Called → Desk → Type 0 where
-  -- "It starts from a new desk"
-  new : {d : Desk} → empty-reads.Post tt tt d tt → Calls [] d
-  -- "each call gets the desk that the last one returned"
-  then-load : {calls : List Called} {d : Desk} {r : AfterLoad} (κs : Lfts 1) (text : RefT (List ℕ)) → Calls calls d
-      → load-reads.Post κs (d, (text, tt)) r (d, (text, tt)) → Calls (load (now text) (r .answer) ∷ calls) (r .desk)
-  then-advance : {calls : List Called} {d : Desk} {r : AfterAdvance} (n : ℕ) → Calls calls d
-      → advance-reads.Post tt (d, (n, tt)) r (d, (n, tt)) → Calls (advance n (r .answer) ∷ calls) (r .desk)
-  then-verdict : {calls : List Called} {d : Desk} {r : AfterVerdict} → Calls calls d
-      → verdict-reads.Post tt (d, tt) r (d, tt) → Calls (verdict (r .answer) ∷ calls) (r .desk)
-  then-drop : {calls : List Called} {d : Desk} {r : AfterDrop} → Calls calls d
-      → drop-reads.Post tt (d, tt) r (d, tt) → Calls (drop (r .answer) ∷ calls) (r .desk)
+-- ---- one call
+
+pub loaded-as : {d : Desk} {text : List ℕ} {r : AfterLoad} → Loads d text r → r ≡ loadOf d text
+loaded-as (loads κs d text r p) = p .0
+
+pub answered : {text report after : List ℕ} {r : ℕ} → Checks text report r after → r ≡ answerOf text report
+answered (checks κs text report after r p) = p .0
+
+pub written : {text report after : List ℕ} {r : ℕ} → Checks text report r after → after ≡ bufferAfter text report
+written (checks κs text report after r p) = p .1
+
+-- ---- nothing is asked, and every call has an answer
+
+pub asks-nothing : AsksNothing
+asks-nothing = record {
+  of-empty = tt;
+  of-load = λ κs d text. tt;
+  of-advance = λ d n. tt;
+  of-verdict = λ d. tt;
+  of-drop = λ d. tt;
+  of-check = λ κs text report. tt;
+}
+
+-- bytes lent from anywhere
+abbrev lent : List ℕ → RefT (List ℕ)
+lent bytes = record { ptr = (0, 0); name = 0; now = bytes }
+
+pub answered-all : Answered
+answered-all = record {
+  new = (emptyDesk, refl);
+  load = λ d text. (loadOf d text, loads ([], tt) d (lent text) (loadOf d text) (refl, load-number d text (loadOf d text) refl));
+  advance = λ d n. (advanceOf d n, (refl, (advance-number d n (advanceOf d n) refl, advance-count d n (advanceOf d n) refl)));
+  verdict = λ d. (tellOf d, (refl, verdict-numbers d (tellOf d) refl));
+  drop = λ d. (dropOf d, (refl, drop-number d (dropOf d) refl));
+  check = λ text report. (
+    answerOf text report,
+    bufferAfter text report,
+    checks ([], ([], tt)) (lent text) (lent report) (lent (bufferAfter text report)) (answerOf text report) (refl, refl),
+  );
+}
+
+-- ---- lists
 
 -- the latest call of a list, and those before it
 pub latest : {c e : Called} {cs ds : List Called} → c ∷ cs ≡ e ∷ ds → c ≡ e

@@ -1,36 +1,22 @@
--- The one-call check, by its own contract: `Checks` is what it ensures of a text, a report buffer, its answer and the buffer after.
--- What it answers, by the length of the buffer and the text.
+-- What the one-call check answers and writes, by the length of the buffer and the text.
 use Prim.Native.Nat.{ℕ, _<_, _≤_}
 use mathlib.Core.Path.{_≡_, refl, sym, ap, _∙_}
-use mathlib.Core.Logic.{_≢_}
+use mathlib.Core.Logic.{_≢_, _⊎_, inl, inr}
 use mathlib.Core.Bool.{Bool, true, false}
 use mathlib.Core.List.{List, _++_}
 use native.Mathlib.Omega.{arith}
 use borrow.Author.Tests.{eq-eqb, ne-eqb, eqb-true, eqb-false, lt-ltb, le-ltb, ltb-true, ltb-false}
 use lib.Dec.{eqb, ltb}
 use lib.ListN.{length, drop}
-use denote.Ref.{RefT, now}
-use contract.Lifetimes.{Lfts}
 use Rattle.writer.specs.Report as bytes
 use Rattle.criteria.specs.Verdict.{Verdict, accepted, failed}
 use Rattle.decision.specs.Verdict.{verdictOf}
+use Rattle.design.specs.Lines.{designText}
 use Rattle.loader.specs.Load.{faultOf}
 use Rattle.checker.specs.OneCall.{refusedReport, designReport, judgedOf, answerOf, bufferAfter}
-use Rattle.checker.proofs.Opened.{designText}
-use Rattle.checker.proofs.check_design.Reads as check-reads
+use Rattle.claims.specs.Contracts.{Checks}
+use Rattle.claims.proofs.Lists.{answered}
 use Rattle.claims.proofs.Kept.{Accepts}
-
--- a check of this text with this buffer answers so and leaves the buffer so
-pub data Checks : List ℕ → List ℕ → ℕ → List ℕ → Type 0 where
-  checks : (κs : Lfts 2) (text report after : RefT (List ℕ)) (r : ℕ) → check-reads.Post κs (text, (report, tt)) r (text, (after, tt))
-      → Checks (now text) (now report) r (now after)
-
--- its contract's two equations
-pub answered : {text report after : List ℕ} {r : ℕ} → Checks text report r after → r ≡ answerOf text report
-answered (checks κs text report after r p) = p .0
-
-pub written : {text report after : List ℕ} {r : ℕ} → Checks text report r after → after ≡ bufferAfter text report
-written (checks κs text report after r p) = p .1
 
 module _ (text report : List ℕ) where
   pub short-answer : length report < 31 → answerOf text report ≡ 9
@@ -75,3 +61,12 @@ module _ (text : List ℕ) where
 
 pub check-accepts : {text report after : List ℕ} → Checks text report 0 after → Accepts text
 check-accepts {text} {report} c = answer-by text report _ refl (sym (answered c))
+
+-- a design text is accepted or failed
+pub check-ends : {text report after : List ℕ} {r : ℕ} → faultOf text ≡ 0 → Checks text report r after → 31 ≤ length report → (r ≡ 0) ⊎ (r ≡ 1)
+check-ends {text} {report} free c l =
+    by-verdict (verdictOf (designText text)) (answered c ∙ long-answer text report l ∙ ap (λ j. j .verdict) (judged-free text free))
+  where
+    by-verdict : {r : ℕ} (v : Verdict) → r ≡ designReport v .verdict → (r ≡ 0) ⊎ (r ≡ 1)
+    by-verdict accepted e = inl e
+    by-verdict (failed x) e = inr e

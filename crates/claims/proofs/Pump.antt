@@ -28,7 +28,7 @@ use Rattle.decision.proofs.Demand2.{demand2, one-verdict}
 use Rattle.pump.specs.Table.{given, wrong-data, Case, cases}
 use Rattle.pump.proofs.Reports.{Right, ten-reports}
 use Rattle.design.specs.Line.{valuesIn}
-use Rattle.design.specs.Lines.{ofKind, designOf}
+use Rattle.design.specs.Lines.{ofKind, designOf, designText}
 use Rattle.design.specs.Tests.{climbs, eachLineIs, layoutFits, boundsFit}
 use Rattle.design.specs.Faults.{DesignText}
 use Rattle.design.specs.Print.{printLines}
@@ -39,9 +39,11 @@ use Rattle.loader.proofs.Lowest.{free-exactly}
 use Rattle.checker.specs.Count.{dueOf}
 use Rattle.checker.specs.OneCall.{designReport, judgedOf}
 use Rattle.desk.specs.declared.Advance.the-variants as progress
-use Rattle.checker.proofs.Opened.{designText}
-use Rattle.claims.proofs.Demand2.{Comes, claim2}
-use Rattle.claims.proofs.OneCall.{Checks, answered, written as written-as, long-answer, long-buffer, judged-free}
+use Rattle.claims.specs.Contracts.{Checks}
+use Rattle.claims.specs.Demand2.{Comes}
+use Rattle.claims.proofs.Demand2.{claim2}
+use Rattle.claims.proofs.Lists.{answered, written as written-as}
+use Rattle.claims.proofs.OneCall.{long-answer, long-buffer, judged-free}
 
 -- the table as a text
 abbrev pub textFor : Case → List ℕ

@@ -8,7 +8,6 @@ use mathlib.Core.List.{List, _∷_, nil≢cons}
 use native.Mathlib.Omega.{arith}
 use borrow.Author.Tests.{eqb-true, eqb-false}
 use lib.Dec.{eqb}
-use denote.Ref.{now}
 use Rattle.foundation.specs.Walk.{walk}
 use Rattle.terms.specs.Tree.{pick}
 use Rattle.criteria.specs.Design.{Design, states}
@@ -23,15 +22,24 @@ use Rattle.desk.specs.declared.Done.the-variants as done
 use Rattle.desk.specs.declared.Advance.the-variants as progress
 use Rattle.desk.specs.declared.Desk.{Desk}
 use Rattle.desk.specs.declared.AfterAdvance.{AfterAdvance}
-use Rattle.desk.specs.Answers.{countSaid}
+use Rattle.desk.specs.declared.AfterVerdict.{AfterVerdict}
+use Rattle.desk.specs.declared.Verdict.{Verdict}
+use Rattle.desk.specs.Answers.{countSaid, Decided, verdictNumbers}
+use Rattle.desk.specs.Answers as answers
+use Rattle.criteria.specs.Verdict as criteria
+use Rattle.checker.specs.Said.{saidVerdict}
+use Rattle.checker.specs.OneCall.{designReport}
 use Rattle.checker.specs.Count.{examined}
 use Rattle.desk.specs.Desk.{opened, loadEmpty, loadOf, advanceOf, tellOf}
-use Rattle.checker.proofs.Opened.{designText}
-use Rattle.checker.proofs.Stages.{Stage, fresh, going, accepts, fails, Due, Advances, advance-fresh, advance-going, some-states}
-use Rattle.checker.proofs.Judging.{opened-stage, loaded-free, loaded-fault}
+use Rattle.design.specs.Lines.{designText}
+use Rattle.checker.specs.Count.{Due}
+use Rattle.checker.proofs.Stages.{Stage, fresh, going, accepts, fails, Advances, advance-fresh, advance-going, some-states}
+use Rattle.checker.proofs.Judging.{opened-stage, loaded-free, loaded-fault, decided-answer, decided-report}
 use Rattle.claims.specs.Calls.{Called, load, advance, verdict, NoLoad, LastLoad, here, before, AcceptedIn, Walked}
 use Rattle.claims.specs.Calls as calls
-use Rattle.claims.proofs.Lists.{Calls, new, then-load, then-advance, then-verdict, then-drop, latest, earlier}
+use Rattle.claims.specs.Outcomes.{Named, acceptance, failure}
+use Rattle.claims.specs.Contracts.{Tells, Calls, new, then-load, then-advance, then-verdict, then-drop}
+use Rattle.claims.proofs.Lists.{loaded-as, latest, earlier}
 use Rattle.claims.proofs.Kept.{Kept, empty, holds, kept, load-at, advance-at, by-none, tell-desk}
 
 -- after advances by m in all, whose answers counted k
@@ -188,21 +196,21 @@ reached-in : {cs ds : List Called} {d : Desk} {text : List ℕ} {m k : ℕ} → 
 reached-in (new e) calls.loaded q = absurd (nil≢cons q)
 reached-in (new e) (calls.on w) q = absurd (nil≢cons q)
 reached-in (new e) (calls.told w) q = absurd (nil≢cons q)
-reached-in (new e) (calls.refused w) q = absurd (nil≢cons q)
-reached-in {text = text} (then-load {d = d} {r = r} κs t c e) calls.loaded q =
+reached-in (new e) (calls.refused o w) q = absurd (nil≢cons q)
+reached-in {text = text} (then-load {d = d} {text = t} {r = r} c e) calls.loaded q =
     let p = latest q in
-    let same-text : now t ≡ text = cc in
+    let same-text : t ≡ text = cc in
     let answered : r .answer ≡ done.Done = cc in
-    let l = load-done (now t) (kept c) (ap (λ x. x .answer) (sym (e .0)) ∙ answered) in
-    rw (← same-text, answered) (loaded-reached _ (now t) (r .desk) (l .0) (ap (λ x. x .desk) (e .0) ∙ l .1))
-reached-in (then-load κs t c e) (calls.on w) q = let p = latest q in let z : _≡_ {A = ℕ} 0 1 = cc in absurd (omega arith)
-reached-in (then-load κs t c e) (calls.told w) q = let p = latest q in let z : _≡_ {A = ℕ} 0 1 = cc in absurd (omega arith)
-reached-in (then-load {d = d} {r = r} κs t c e) (calls.refused {j = j} w) q =
+    let l = load-done t (kept c) (ap (λ x. x .answer) (sym (loaded-as e)) ∙ answered) in
+    rw (← same-text, answered) (loaded-reached _ t (r .desk) (l .0) (ap (λ x. x .desk) (loaded-as e) ∙ l .1))
+reached-in (then-load c e) (calls.on w) q = let p = latest q in let z : _≡_ {A = ℕ} 0 1 = cc in absurd (omega arith)
+reached-in (then-load c e) (calls.told w) q = let p = latest q in let z : _≡_ {A = ℕ} 0 1 = cc in absurd (omega arith)
+reached-in (then-load {d = d} {text = t} {r = r} c e) (calls.refused {j = j} o w) q =
     let p = latest q in
     let answered : r .answer ≡ done.TurnedDown j = cc in
     let ih = reached-in c w (earlier q) in
-    let stays : r .desk ≡ d = ap (λ x. x .desk) (e .0) ∙ load-stays 0 ih (now t) (ih .stage) in
-    rw (stays, answered) (same (load (now t) (done.TurnedDown j)) calls.refused ih)
+    let stays : r .desk ≡ d = ap (λ x. x .desk) (loaded-as e) ∙ load-stays 0 ih t (ih .stage) in
+    rw (stays, answered) (same (load t (done.TurnedDown j)) (calls.refused o) ih)
 reached-in (then-advance n c e) calls.loaded q = let p = latest q in let z : _≡_ {A = ℕ} 0 1 = cc in absurd (omega arith)
 reached-in (then-advance {r = r} n c e) (calls.on {n = i} {a = a} w) q =
     let p = latest q in
@@ -211,15 +219,15 @@ reached-in (then-advance {r = r} n c e) (calls.on {n = i} {a = a} w) q =
     let ih = reached-in c w (earlier q) in
     rw (many, answered, e .0) (advance-reached n ih (ih .stage))
 reached-in (then-advance n c e) (calls.told w) q = let p = latest q in let z : _≡_ {A = ℕ} 0 1 = cc in absurd (omega arith)
-reached-in (then-advance n c e) (calls.refused w) q = let p = latest q in let z : _≡_ {A = ℕ} 0 1 = cc in absurd (omega arith)
+reached-in (then-advance n c e) (calls.refused o w) q = let p = latest q in let z : _≡_ {A = ℕ} 0 1 = cc in absurd (omega arith)
 reached-in (then-verdict c e) calls.loaded q = let p = latest q in let z : _≡_ {A = ℕ} 0 1 = cc in absurd (omega arith)
 reached-in (then-verdict c e) (calls.on w) q = let p = latest q in let z : _≡_ {A = ℕ} 0 1 = cc in absurd (omega arith)
 reached-in (then-verdict {d = d} c e) (calls.told w) q = rw (e .0) (tells d (reached-in c w (earlier q)))
-reached-in (then-verdict c e) (calls.refused w) q = let p = latest q in let z : _≡_ {A = ℕ} 0 1 = cc in absurd (omega arith)
+reached-in (then-verdict c e) (calls.refused o w) q = let p = latest q in let z : _≡_ {A = ℕ} 0 1 = cc in absurd (omega arith)
 reached-in (then-drop c e) calls.loaded q = let p = latest q in let z : _≡_ {A = ℕ} 0 1 = cc in absurd (omega arith)
 reached-in (then-drop c e) (calls.on w) q = let p = latest q in let z : _≡_ {A = ℕ} 0 1 = cc in absurd (omega arith)
 reached-in (then-drop c e) (calls.told w) q = let p = latest q in let z : _≡_ {A = ℕ} 0 1 = cc in absurd (omega arith)
-reached-in (then-drop c e) (calls.refused w) q = let p = latest q in let z : _≡_ {A = ℕ} 0 1 = cc in absurd (omega arith)
+reached-in (then-drop c e) (calls.refused o w) q = let p = latest q in let z : _≡_ {A = ℕ} 0 1 = cc in absurd (omega arith)
 
 pub reached : {cs : List Called} {d : Desk} {text : List ℕ} {m k : ℕ} → Calls cs d → Walked cs text m k → Reached cs text d m k
 reached c w = reached-in c w refl
@@ -233,3 +241,32 @@ decided {text = text} {d = d} {m = m} r l o = by-stage (r .stage)
     by-stage (going h e a b p) = let a = r .at e in omega arith
     by-stage (accepts h e v) = accepts-not e o
     by-stage (fails x h e v) = opens-not e o
+
+pub ends-decided : {cs : List Called} {text : List ℕ} {d : Desk} {m k : ℕ} → Reached cs text d m k → states (designText text) ≤ m → Decided (d .phase)
+ends-decided {text = text} {d = d} r l = by-stage (r .stage) (decided r l)
+  where
+    by-stage : Stage text d → d .phase ≢ phase.Open → Decided (d .phase)
+    by-stage (fresh h e z) o = absurd (o e)
+    by-stage (going h e a b p) o = absurd (o e)
+    by-stage (accepts h e v) o = rw e answers.accepted
+    by-stage (fails x h e v) o = rw e (answers.failed _)
+
+-- ---- the verdict of a decided desk
+
+decided-not-open : {p : Phase} → Decided p → p ≢ phase.Open
+decided-not-open answers.accepted e = accepts-not refl e
+decided-not-open (answers.failed f) e = opens-not refl e
+
+pub tells-verdict : {cs : List Called} {text : List ℕ} {d : Desk} {m k : ℕ} {r : AfterVerdict} → Reached cs text d m k → Decided (d .phase) → Tells d r
+    → (r .answer ≡ saidVerdict (verdictOf (designText text))) × (verdictNumbers (r .answer) ≡ designReport (verdictOf (designText text)))
+tells-verdict {text = text} {d = d} q o p =
+    let same = ap (λ (x : AfterVerdict). x .answer) (p .0) in
+    (same ∙ decided-answer text d (q .stage) (decided-not-open o), ap verdictNumbers same ∙ decided-report text d (q .stage) (decided-not-open o))
+
+named : (v : criteria.Verdict) {a : Verdict} → a ≡ saidVerdict v → Named a
+named criteria.accepted e = rw e acceptance
+named (criteria.failed x) e = rw e (failure _)
+
+pub walked-named : {text : List ℕ} {cs : List Called} {d : Desk} {m k : ℕ} {r : AfterVerdict} → Calls cs d → Walked cs text m k
+    → states (designText text) ≤ m → Tells d r → Named (r .answer)
+walked-named {text = text} c w l p = let q = reached c w in named (verdictOf (designText text)) (tells-verdict q (ends-decided q l) p .0)

@@ -7,14 +7,13 @@ use mathlib.Core.List.{List}
 use Rattle.foundation.specs.Reflects.{Reflects, so, not-so}
 use Rattle.reader.specs.Text.{textOf, fieldsByLine}
 use Rattle.reader.proofs.Written.{text-written}
-use Rattle.design.specs.Lines.{kindOf, countOf}
+use Rattle.design.specs.Lines.{kindOf, countOf, designText}
 use Rattle.design.specs.Faults.{LineTerms, wrong-terms, DesignText, second, fourth, sixth}
 use Rattle.design.specs.Print.{printLines}
 use Rattle.design.proofs.Fault4.{layout-of}
 use Rattle.design.proofs.Same.{Made}
 use Rattle.design.proofs.Again.{lines-again}
 use Rattle.line_check.proofs.LineFits.{by-line}
-use Rattle.checker.proofs.Opened.{designText}
 
 module _ (text : List ℕ) (is : DesignText text) where
   abbrev lines : List (List ℕ)

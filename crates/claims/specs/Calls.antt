@@ -1,8 +1,9 @@
 -- Lists of desk calls (01, "What demand 3 speaks of"): "any operations that take the desk and give it back (load, advance, verdict,
 -- drop), with any arguments and in any order, those turned down included". A list is given by its calls with their answers, the
--- latest first. How a desk is handed from call to call is in proofs/Lists, by the contracts of the methods themselves.
+-- latest first. How a desk is handed from call to call is in specs/Contracts, by the contracts of the methods themselves.
 use Prim.Native.Nat.{ℕ, _+_}
-use mathlib.Core.List.{List, _∷_}
+use mathlib.Core.Logic.{_≢_}
+use mathlib.Core.List.{List, [], _∷_}
 use Rattle.desk.specs.declared.Done.{Done}
 use Rattle.desk.specs.declared.Done.the-variants as done
 use Rattle.desk.specs.declared.Advance.{Advance}
@@ -19,7 +20,7 @@ pub data Called : Type 0 where
 
 -- anything but a load that returned 0
 pub data NoLoad : Called → Type 0 where
-  refused : {text : List ℕ} {k : ℕ} → NoLoad (load text (done.TurnedDown k))
+  refused : {text : List ℕ} {k : ℕ} → k ≢ 0 → NoLoad (load text (done.TurnedDown k))
   advanced : {n : ℕ} {a : Advance} → NoLoad (advance n a)
   told : {v : Verdict} → NoLoad (verdict v)
   dropped : {a : Done} → NoLoad (drop a)
@@ -40,4 +41,9 @@ pub data Walked : List Called → List ℕ → ℕ → ℕ → Type 0 where
   loaded : {text : List ℕ} {calls : List Called} → Walked (load text done.Done ∷ calls) text 0 0
   on : {calls : List Called} {text : List ℕ} {m k n : ℕ} {a : Advance} → Walked calls text m k → Walked (advance n a ∷ calls) text (m + n) (k + countSaid a)
   told : {calls : List Called} {text : List ℕ} {m k : ℕ} {v : Verdict} → Walked calls text m k → Walked (verdict v ∷ calls) text m k
-  refused : {calls : List Called} {text other : List ℕ} {m k j : ℕ} → Walked calls text m k → Walked (load other (done.TurnedDown j) ∷ calls) text m k
+  refused : {calls : List Called} {text other : List ℕ} {m k j : ℕ} → j ≢ 0 → Walked calls text m k → Walked (load other (done.TurnedDown j) ∷ calls) text m k
+
+-- "load and then advances" on a new desk: the load is done, and these are the advances' numbers, the latest first
+pub data LoadThen (text : List ℕ) : List ℕ → List Called → Type 0 where
+  loaded : LoadThen text [] (load text done.Done ∷ [])
+  on : {ns : List ℕ} {calls : List Called} {n : ℕ} {a : Advance} → LoadThen text ns calls → LoadThen text (n ∷ ns) (advance n a ∷ calls)

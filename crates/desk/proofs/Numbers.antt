@@ -1,4 +1,4 @@
--- What load, advance and verdict answer has the numbers that specs/Answers gives the call.
+-- What load, advance, verdict and drop answer has the numbers that specs/Answers gives the call.
 use Prim.Native.Nat.{ℕ, _+_, _-_, min}
 use mathlib.Core.Path.{_≡_, refl, sym, ap, _∙_}
 use mathlib.Core.Bool.{Bool, true, false, cond, not, _&&_}
@@ -17,9 +17,10 @@ use Rattle.desk.specs.declared.Desk.{Desk}
 use Rattle.desk.specs.declared.AfterLoad.{AfterLoad}
 use Rattle.desk.specs.declared.AfterAdvance.{AfterAdvance}
 use Rattle.desk.specs.declared.AfterVerdict.{AfterVerdict}
+use Rattle.desk.specs.declared.AfterDrop.{AfterDrop}
 use Rattle.desk.specs.Said.{walkedBy}
-use Rattle.desk.specs.Answers.{doneNumber, refusalNumber, countSaid, verdictNumbers, loadNumber, advanceNumber, countOpen, countBy, advanceCount, numbersTold}
-use Rattle.desk.specs.Desk.{loadEmpty, loadBy, loadOf, afterPass, afterWalk, walkOn, failStart, ahead, examineNext, advanceOpen, advanceBy, advanceOf, tellBy, tellOf}
+use Rattle.desk.specs.Answers.{doneNumber, refusalNumber, countSaid, verdictNumbers, loadNumber, advanceNumber, countOpen, countBy, advanceCount, numbersTold, dropNumber}
+use Rattle.desk.specs.Desk.{loadEmpty, loadBy, loadOf, afterPass, afterWalk, walkOn, failStart, ahead, examineNext, advanceOpen, advanceBy, advanceOf, tellBy, tellOf, dropBy, dropOf}
 
 -- ---- load
 
@@ -151,3 +152,15 @@ told-by (phase.Failed f) d = refl
 pub verdict-numbers : (d : Desk) (r : AfterVerdict) → r ≡ tellOf d → verdictNumbers (r .answer) ≡ numbersTold (d .phase)
 unfolding tellOf
 verdict-numbers d r e = ap (λ (x : AfterVerdict). verdictNumbers (x .answer)) e ∙ told-by (d .phase) d
+
+-- ---- drop
+
+drop-by : (p : Phase) (d : Desk) → doneNumber (dropBy p d .answer) ≡ dropNumber p
+drop-by phase.Empty d = refl
+drop-by phase.Open d = refl
+drop-by phase.Accepted d = refl
+drop-by (phase.Failed f) d = refl
+
+pub drop-number : (d : Desk) (r : AfterDrop) → r ≡ dropOf d → doneNumber (r .answer) ≡ dropNumber (d .phase)
+unfolding dropOf
+drop-number d r e = ap (λ (x : AfterDrop). doneNumber (x .answer)) e ∙ drop-by (d .phase) d

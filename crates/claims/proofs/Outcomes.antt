@@ -1,0 +1,82 @@
+-- What each call comes to, by the phase of its desk and the text (specs/Outcomes).
+use Prim.Native.Nat.{ℕ}
+use mathlib.Core.Path.{_≡_, refl, ap, _∙_}
+use mathlib.Core.Logic.{_≢_}
+use mathlib.Core.List.{List, _++_}
+use lib.ListN.{drop}
+use Rattle.writer.specs.Report as bytes
+use Rattle.design.specs.Faults.{DesignText}
+use Rattle.loader.specs.Load.{faultOf}
+use Rattle.loader.proofs.Lowest.{free-exactly, lowest-fault}
+use Rattle.desk.specs.declared.Phase.{Phase}
+use Rattle.desk.specs.declared.Phase.the-variants as phase
+use Rattle.desk.specs.declared.Done.the-variants as done
+use Rattle.desk.specs.declared.Desk.{Desk}
+use Rattle.desk.specs.declared.AfterLoad.{AfterLoad}
+use Rattle.desk.specs.Desk.{emptyDesk, notLoaded, notAdvanced, loadOf, advanceOf, tellBy, tellOf, dropBy, dropOf}
+use Rattle.checker.proofs.Judging.{loaded-free, loaded-fault}
+use Rattle.claims.specs.Contracts.{Loads}
+use Rattle.claims.specs.Outcomes.{Opens, TurnsDown, Refusals}
+use Rattle.claims.proofs.Kept.{load-at, advance-at, by-none}
+use Rattle.claims.proofs.Lists.{loaded-as, answered, written}
+use Rattle.claims.proofs.OneCall.{long-answer, long-buffer, judged-fault}
+
+-- ---- calls turned down
+
+module _ (d : Desk) where
+  by-phase-load : (text : List ℕ) (p : Phase) → d .phase ≡ p → p ≢ phase.Empty → loadOf d text ≡ notLoaded 12 d
+  by-phase-load text phase.Empty e o = absurd (o refl)
+  by-phase-load text phase.Open e o = load-at d text e
+  by-phase-load text phase.Accepted e o = load-at d text e
+  by-phase-load text (phase.Failed f) e o = load-at d text e
+
+  by-phase-advance : (n : ℕ) (p : Phase) → d .phase ≡ p → p ≢ phase.Empty → p ≢ phase.Open → advanceOf d n ≡ notAdvanced 14 d
+  by-phase-advance n phase.Empty e o q = absurd (o refl)
+  by-phase-advance n phase.Open e o q = absurd (q refl)
+  by-phase-advance n phase.Accepted e o q = advance-at d n e
+  by-phase-advance n (phase.Failed f) e o q = advance-at d n e
+
+  tell-at : {p : Phase} → d .phase ≡ p → tellOf d ≡ tellBy p d
+  unfolding tellOf
+  tell-at e = ap (λ p. tellBy p d) e
+
+  drop-at : {p : Phase} → d .phase ≡ p → dropOf d ≡ dropBy p d
+  unfolding dropOf
+  drop-at e = ap (λ p. dropBy p d) e
+
+  pub refusals : Refusals d
+  refusals = record {
+    advance-empty = λ n p e. p .0 ∙ advance-at d n e;
+    verdict-empty = λ p e. p .0 ∙ tell-at e;
+    drop-empty = λ p e. p .0 ∙ drop-at e;
+    load-held = λ p e. loaded-as p ∙ by-phase-load _ (d .phase) refl e;
+    verdict-open = λ p e. p .0 ∙ tell-at e;
+    advance-decided = λ n p e o. p .0 ∙ by-phase-advance n (d .phase) refl e o;
+    advance-none = λ p e. p .0 ∙ advance-at d 0 e ∙ by-none d 0 refl;
+  }
+
+-- ---- loads and drops
+
+pub opened-by : {d : Desk} {text : List ℕ} {r : AfterLoad} → DesignText text → Loads d text r → d .phase ≡ phase.Empty → Opens text r
+opened-by {d} {text} t p e =
+    let free = free-exactly text .1 t in
+    rw (loaded-as p ∙ load-at d text e ∙ loaded-free d text free)
+    (record { number-is = refl; answer-is = refl; opens = refl; at-first = refl; holds = record { fields-are = refl; starts-are = refl; counts-are = refl; plan-is = refl } })
+
+pub turned-by : (d : Desk) (text : List ℕ) → faultOf text ≢ 0 → TurnsDown d text
+turned-by d text z =
+    record {
+      number = faultOf text;
+      lowest = lowest-fault text z;
+      by-load = λ p e. loaded-as p ∙ load-at d text e ∙ loaded-fault d text z;
+      by-check = λ {report} c l. (
+        answered c ∙ long-answer text report l ∙ ap (λ j. j .verdict) (judged-fault text z),
+        written c ∙ long-buffer text report l ∙ ap (λ j. bytes.reportOf j ++ drop 31 report) (judged-fault text z),
+      );
+    }
+
+pub dropped-by : (d : Desk) (p : Phase) → d .phase ≡ p → p ≢ phase.Empty → dropOf d ≡ record { answer = done.Done; desk = emptyDesk }
+dropped-by d phase.Empty e o = absurd (o refl)
+dropped-by d phase.Open e o = drop-at d e
+dropped-by d phase.Accepted e o = drop-at d e
+dropped-by d (phase.Failed f) e o = drop-at d e
