@@ -1,13 +1,12 @@
 -- The pump table of 01 and its nine variants as texts: each is a design text, and the desk and the one-call check come to what 01 says
--- (`pump-reports`), from the criteria (the crate pump has the designs). And the answers of the two that are advanced by 5.
+-- (`pump-reports`), from the criteria (the crate pump has the designs); and 01's own lines (`given-lines`). The two that are advanced by 5
+-- are in PumpByFive.
 use Prim.Native.Nat.{ℕ, suc, _≤_}
 use mathlib.Core.Path.{_≡_, refl, sym, ap, _∙_, subst}
 use mathlib.Core.List.{List, [], _∷_, _++_}
 use lib.ListN.{length, drop}
-use Rattle.foundation.specs.First.{firstIn, allIn}
+use Rattle.foundation.specs.First.{allIn}
 use Rattle.foundation.specs.Nth.{EachIs, first, later}
-use Rattle.foundation.specs.Radix.{valuesOf}
-use Rattle.foundation.specs.Walk.{walk}
 use Rattle.foundation.proofs.Nth.{nth-nil, nth-cons}
 use Rattle.reader.specs.Columns.{columnOf, columnsOf, digitOf, shownAfter, sameBytes, fieldOf}
 use Rattle.reader.specs.Line.{written, fieldsFrom, fieldsOf}
@@ -21,11 +20,9 @@ use Rattle.terms.specs.Read.{readV}
 use Rattle.terms.specs.Print.{printV, printF}
 use Rattle.criteria.specs.Verdict as criteria
 use Rattle.criteria.specs.Verdict.{Demand2}
-use Rattle.decision.specs.Tests.{rowFrom}
-use Rattle.decision.specs.Examine.{examine}
-use Rattle.decision.specs.Verdict.{checked, verdictOf}
+use Rattle.decision.specs.Verdict.{verdictOf}
 use Rattle.decision.proofs.Demand2.{demand2, one-verdict}
-use Rattle.pump.specs.Table.{given, wrong-data, Case, cases}
+use Rattle.pump.specs.Table.{given, Case, cases}
 use Rattle.pump.proofs.Reports.{Right, ten-reports}
 use Rattle.design.specs.Line.{valuesIn}
 use Rattle.design.specs.Lines.{ofKind, designOf, designText}
@@ -36,9 +33,7 @@ use Rattle.line_check.specs.LineFits.{termsFit, lineFits}
 use Rattle.action_check.specs.ActionsFit.{actionsFit}
 use Rattle.loader.specs.Load.{faultOf, tableFault}
 use Rattle.loader.proofs.Lowest.{free-exactly}
-use Rattle.checker.specs.Count.{dueOf}
 use Rattle.checker.specs.OneCall.{designReport, judgedOf}
-use Rattle.desk.specs.declared.Advance.the-variants as progress
 use Rattle.claims.specs.Contracts.{Checks}
 use Rattle.claims.specs.Demand2.{Comes}
 use Rattle.claims.proofs.Demand2.{claim2}
@@ -113,14 +108,20 @@ pub wrong-data-bytes : bytes.reportOf (record { verdict = 1; number = 8; state =
 unfolding columnOf columnsOf bytes.reportOf textOf written
 wrong-data-bytes = refl
 
--- ---- "advancing by 5": what is due in each call (Demand2, `advances`)
-
--- "open 5, open 5, accepted 2"
-pub given-answers : (dueOf given (verdictOf given) 0 5 ≡ progress.Open 5) × (dueOf given (verdictOf given) 5 5 ≡ progress.Open 5) × (dueOf given (verdictOf given) 10 5 ≡ progress.Accepted 2)
-unfolding dueOf checked examine walk firstIn valuesOf rowFrom evalV
-given-answers = (refl, refl, refl)
-
--- "open 5, failed 5"
-pub wrong-data-answers : (dueOf wrong-data (verdictOf wrong-data) 0 5 ≡ progress.Open 5) × (dueOf wrong-data (verdictOf wrong-data) 5 5 ≡ progress.Failed 5)
-unfolding dueOf checked examine walk firstIn valuesOf rowFrom evalV
-wrong-data-answers = (refl, refl)
+-- "Fields, each in six columns in the text", number by number
+pub given-lines : printLines given
+    ≡ (1 ∷ 3 ∷ 0 ∷ [])
+    ∷ (1 ∷ 4 ∷ 0 ∷ [])
+    ∷ (2 ∷ 2 ∷ 0 ∷ [])
+    ∷ (2 ∷ 4 ∷ 0 ∷ [])
+    ∷ (3 ∷ 1 ∷ 4 ∷ 12 ∷ 1 ∷ 0 ∷ 0 ∷ 0 ∷ 2 ∷ 0 ∷ 1 ∷ 2 ∷ [])
+    ∷ (3 ∷ 0 ∷ 1 ∷ 12 ∷ 1 ∷ 0 ∷ 0 ∷ 1 ∷ 0 ∷ 0 ∷ 0 ∷ 2 ∷ 1 ∷ 1 ∷ [])
+    ∷ (3 ∷ 2 ∷ 1 ∷ 12 ∷ 1 ∷ 0 ∷ 0 ∷ 2 ∷ 1 ∷ 1 ∷ 0 ∷ 0 ∷ 1 ∷ 1 ∷ [])
+    ∷ (4 ∷ 1 ∷ 4 ∷ 12 ∷ 1 ∷ 0 ∷ 0 ∷ 0 ∷ 2 ∷ 0 ∷ 1 ∷ 2 ∷ [])
+    ∷ (4 ∷ 2 ∷ 1 ∷ 12 ∷ 1 ∷ 0 ∷ 0 ∷ 1 ∷ 1 ∷ 1 ∷ 0 ∷ 0 ∷ 1 ∷ 1 ∷ [])
+    ∷ (5 ∷ 10 ∷ [])
+    ∷ (6 ∷ 6 ∷ 12 ∷ 1 ∷ 0 ∷ 0 ∷ 0 ∷ 0 ∷ 0 ∷ 0 ∷ 1 ∷ 1 ∷ 1 ∷ [])
+    ∷ (7 ∷ 6 ∷ 12 ∷ 1 ∷ 0 ∷ 0 ∷ 1 ∷ 0 ∷ 1 ∷ 0 ∷ 0 ∷ [])
+    ∷ []
+unfolding printV printF
+given-lines = refl
