@@ -3,11 +3,12 @@ use desk::Advance;
 use desk::Desk;
 use desk::Done;
 ghost use mathlib.Core.Path.{_≡_};
-ghost use Prim.Native.Nat.{_≤_};
 ghost use Rattle.loader.specs.Load.{faultOf};
+ghost use Rattle.desk.specs.Desk.{emptyDesk, loadOf};
+ghost use Rattle.desk_c.specs.Advances.{isOpen, advancesTill};
 
 // The most advances that are made: as many as there can be states.
-const MOST: u64 = 65536;
+const MOST: u64 = limits::MAX_STATES as u64;
 
 // Loads a text: 0, or the number by which it is turned down.
 #[no_mangle]
@@ -22,11 +23,10 @@ pub extern "C" fn desk_load(text: &[u8]) -> u32
     }
 }
 
-// Loads a text and advances by n while the desk is open: how many advances that takes. That number is free up to the bound; the
-// benchmark compares it with the number of states.
+// Loads a text and advances by n while the desk is open: how many advances that takes.
 #[no_mangle]
 pub extern "C" fn desk_advances(text: &[u8], n: u64) -> u64
-    ensures { λ r. ⌜ r ≤ 65536 ⌝ }
+    ensures { λ r. ⌜ r ≡ advancesTill 65536 (loadOf emptyDesk (now (text .entry)) .desk) n ⌝ }
 {
     let loaded = Desk::empty().load(text);
     let mut desk = loaded.desk;
@@ -44,7 +44,9 @@ pub extern "C" fn desk_advances(text: &[u8], n: u64) -> u64
     made
 }
 
-fn stays_open(answer: Advance) -> bool {
+fn stays_open(answer: Advance) -> bool
+    ensures { λ r. ⌜ r ≡ isOpen answer ⌝ }
+{
     match answer {
         Advance::Open(_) => true,
         Advance::Accepted(_) => false,

@@ -1,11 +1,15 @@
--- The proof of `desk_advances`: it is safe, makes no more advances than there can be states, and ends.
+-- `desk_advances` makes as many advances as it takes.
 use borrow.Author.Needs.{needs}
+use native.Mathlib.Omega.{arith}
+use mathlib.Core.Path.{_≡_}
 use Prim.Native.Nat.{_-_, _≤_}
+use Rattle.desk_c.proofs.Advances.{withLeft, taken}
+use Rattle.desk_c.proofs.Advances as laws
 use Rattle.desk_c.proofs.desk_advances.Statement.{statement}
 use Rattle.desk_c.proofs.desk_advances.Tie as tie
 
 abbrev Inv-loop : tie.InvT-loop
-Inv-loop text n desk₀ made₀ desk made = made ≤ 65536
+Inv-loop text n desk₀ made₀ desk made = (made ≤ 65536) × (withLeft desk n made ≡ taken text n)
 
 abbrev μ-loop : tie.MeasureT-loop
 μ-loop text n desk₀ made₀ desk made = 65536 - made
@@ -18,11 +22,15 @@ desk-advances-spec =
     μ-loop
     (λ c κs. search needs)
     (λ c κs. search needs)
-    (λ c. search needs)
+    (λ c. (omega arith, search laws.begins))
     (λ c κs. search needs)
     (λ c. search needs)
     (λ c κs. search needs)
-    (λ c. search needs)
-    (λ c. search needs)
-    (λ c. search needs)
-    (λ c. search needs))
+    (λ c.
+    let l = c .before .before .before .before .loop in
+    laws.stops _ _ _ _ (l .inv .1) (c .before .before .before .loop-test .taken) _ (c .before .before .advance .ensures .0) _ (c .before .stays-open .ensures) (c .if1 .taken))
+    (λ c. omega arith)
+    (λ c.
+    let l = c .before .before .before .before .before .loop in
+    (omega arith, laws.turns _ _ _ _ (l .inv .1) (c .before .before .before .before .loop-test .taken) _ (c .before .before .before .advance .ensures .0) _ (c .before .before .stays-open .ensures) (c .before .if1 .left)))
+    (λ c. laws.ends _ _ _ _ (c .before .loop .inv .1) (c .loop-test .left)))
