@@ -365,15 +365,7 @@ pub fn verdict_numbers(verdict: Verdict) -> Report
 {
     match verdict {
         Verdict::Accepted => report_of(0, 0, 0, 0, 0),
-        Verdict::Failed(failure) => {
-            report_of(
-                1,
-                failure.criterion,
-                failure.state,
-                failure.row,
-                failure.sum,
-            )
-        }
+        Verdict::Failed(f) => report_of(1, f.criterion, f.state, f.row, f.sum),
         Verdict::TurnedDown(number) => report_of(number, 0, 0, 0, 0),
     }
 }
