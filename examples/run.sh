@@ -24,6 +24,12 @@ for file in examples/*.txt; do
     { "$work/buy" "$file" || true; } | sed 's/.*: //' | cmp -s - "$work/want" || { echo "examples: $name: buy writes another report"; differ=1; }
     count=$((count + 1))
 done
+# A report that can't be written is no verdict.
+if [ -c /dev/full ]; then
+    status=0
+    "$work/buy" examples/pump.txt > /dev/full 2> /dev/null || status=$?
+    [ "$status" = 65 ] || { echo "examples: buy ends with $status on a full disk"; differ=1; }
+fi
 # Each report has its table.
 while IFS=$'\t' read -r name _; do
     [ -f "examples/$name.txt" ] || { echo "examples: $name: a report without a table"; differ=1; }
