@@ -7,8 +7,10 @@
 #include <string.h>
 #include <unistd.h>
 
+struct input standard_input = {.file = STDIN_FILENO};
+
 struct input input_open(const char *name) {
-    if (strcmp(name, "-") == 0) return (struct input){.file = STDIN_FILENO};
+    if (strcmp(name, "-") == 0) return standard_input;
     int file = open(name, O_RDONLY | O_CLOEXEC | O_NOCTTY);
     return (struct input){.file = file, .error = file < 0 ? errno : 0};
 }

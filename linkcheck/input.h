@@ -11,6 +11,8 @@ struct input {
     int error;  /* 0, or the errno of what went wrong */
 };
 
+extern struct input standard_input;
+
 /* Opens the file, or takes standard input for "-". */
 struct input input_open(const char *name);
 

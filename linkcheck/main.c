@@ -1,6 +1,7 @@
 /* linkcheck: the price link checker at a terminal and in scripts. Here are its arguments; run.c has the check of a list of files. */
 #define _POSIX_C_SOURCE 200809L
 #include "explain.h"
+#include "input.h"
 #include "names.h"
 #include "run.h"
 #include "show.h"
@@ -9,6 +10,7 @@
 #include <fcntl.h>
 #include <stdlib.h>
 #include <string.h>
+#include <sys/socket.h>
 #include <unistd.h>
 
 enum { STATUS_USAGE = 64 };
@@ -216,15 +218,20 @@ static int perform(const struct arguments *a) {
     }
 }
 
-/* Opens a descriptor 0, 1 or 2 that is closed, in such a way that using it is an error: else a file would get its number. */
-static void open_standard(void) {
-    for (int file = STDIN_FILENO; file <= STDERR_FILENO; file++)
-        if (fcntl(file, F_GETFD) < 0 && open("/dev/null", file == STDIN_FILENO ? O_WRONLY : O_RDONLY) != file)
-            exit(complain(STATUS_UNREAD, "/dev/null", strerror(errno)));
+/* Opens a descriptor 0, 1 or 2 that is closed on nothing, as a file would get its number else: on a socket without another end, which can
+ * be neither read nor written, nor opened once more under a name like /dev/stdin. */
+static void fill_standard(void) {
+    static const char *const names[] = {"standard input", "standard output", "standard error"};
+    for (int file = STDIN_FILENO; file <= STDERR_FILENO; file++) {
+        if (fcntl(file, F_GETFD) >= 0) continue;
+        if (socket(AF_UNIX, SOCK_STREAM, 0) != file) exit(complain(STATUS_UNREAD, names[file], strerror(errno)));
+        if (file == STDIN_FILENO) standard_input.error = EBADF;
+        if (file == STDOUT_FILENO) standard_output.error = EBADF;
+    }
 }
 
 int main(int count, char **argument) {
-    open_standard();
+    fill_standard();
     const struct arguments a = take_arguments(count, argument);
     return finished(perform(&a));
 }

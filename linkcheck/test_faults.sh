@@ -1,6 +1,7 @@
 #!/usr/bin/env bash
-# Tries linkcheck where the world around it fails: reading, writing, memory, processes. No such fault may become a verdict: each run ends with
-# the right answers, or with a message and a status that says that something could not be done. test/faults.c makes single calls go wrong.
+# Tries linkcheck where the world around it fails: reading, writing, memory, processes. No such fault may become a verdict: each run ends
+# with the right answers, or with a message and a status that says that something could not be done. test/faults.c makes single calls go
+# wrong.
 # Ends with 1 at the first fault. Usage: test_faults.sh [PROGRAM], for another program than the one that is built from these sources.
 set -euo pipefail
 cd "$(dirname "$0")/.."
@@ -86,14 +87,16 @@ written "     1     8     9     3     0
 due 64 "linkcheck: standard input can be given once: -" "$linkcheck" - - < "$good"
 due 64 "standard input can be given once" "$linkcheck" -j 2 - "$bad" - < "$good"
 for round in 1 2 3 4 5 6 7 8; do
-    cat "$good" | due 1 "" "$linkcheck" -j "$round" "$bad" - "$bad" "$bad"
+    due 1 "" "$linkcheck" -j "$round" "$bad" - "$bad" "$bad" < <(cat "$good")
     grep -qx -e "-  accepted" "$work/out" || fail "- among other tables: $(cat "$work/out")"
-    cat "$good" | due 2 "" "$linkcheck" --report -j 2 /dev/stdin /dev/stdin
+    due 2 "" "$linkcheck" --report -j 2 /dev/stdin /dev/stdin < <(cat "$good")
     written "     0     0     0     0     0
      2     4     0     0     0" "a pipe given twice, round $round"
 done
 
 # Closed descriptors: using one is an error, and no file gets its number.
+due 3 "linkcheck: /dev/stdin: " "$linkcheck" /dev/stdin <&-
+due 3 "linkcheck: standard input: Too many open files" faulty socket 1 $EMFILE "$linkcheck" "$good" <&-
 for jobs in 1 2 3; do
     due 3 "linkcheck: -: Bad file descriptor" "$linkcheck" -j "$jobs" - "$bad" "$good" <&-
     due 3 "linkcheck: -: Bad file descriptor" "$linkcheck" -j "$jobs" "$bad" - "$good" <&-
@@ -125,16 +128,22 @@ got=0
 "$linkcheck" --columns README.md > "$work/out" 2>&- || got=$?
 [ "$got" = 3 ] || fail "a message that can't be written: status $got"
 
-# What a process sends is looked at: each changed byte of a header makes its tables unchecked ones, named and counted.
+# What a process sends is looked at: if any byte of its first header is another, its two tables are not checked, named and counted.
 for ((place = 0; place < 32; place++)); do
-    FAULT_IN=worker due 3 "not checked, as the process for it failed" faulty write 1 "flip $place" "$linkcheck" -j 2 "$good" "$good"
-    grep -qx "1 table: 1 accepted, 0 failed, 0 turned down; 1 not read" "$work/out" || fail "byte $place of a header: $(cat "$work/out")"
+    FAULT_IN=worker due 3 "not checked, as the process for it failed" \
+        faulty write 1 "flip $place" "$linkcheck" -j 2 "$good" "$good" "$good" "$good"
+    written "$good  accepted
+$good  accepted
+2 tables: 2 accepted, 0 failed, 0 turned down; 2 not read" "byte $place of a header"
 done
 
-# ---- full disk ----
+# ---- writing ----
 
+# A full disk, and one that tells so when the output is closed.
+due 3 "linkcheck: cannot write: Input/output error" faulty close 1 $EIO "$linkcheck" --show - < "$good"
 if [ -c /dev/full ]; then
-    for arguments in "$good" "-j 2 $good $bad" "--report $good" "--json $good" "--show $good" "--aut $good" "--dot $good" "--columns $good" "--help"; do
+    for arguments in "$good" "-j 2 $good $bad" "--report $good" "--json $good" "--show $good" "--aut $good" "--dot $good" \
+        "--columns $good" "--help"; do
         got=0
         # shellcheck disable=SC2086
         "$linkcheck" $arguments > /dev/full 2> "$work/error" || got=$?
@@ -162,8 +171,8 @@ named error 64 "linkcheck: too many arguments: $shown" --show "$good" "$odd"
 for look in "" --json --report --show --columns --aut --dot; do
     named error 3 "linkcheck: $work/$shown: No such file or directory" $look "$work/$odd"
 done
-named out 3 "{\"file\":\"$work/\\u001b[31m\\u000a\\ufffd\\u009b\\u007f"$'\303\251\342\202\254'"\\ufffd\\ufffd\\ufffd\",\"verdict\":\"unreadable\",\
-\"why\":\"No such file or directory\"}" --json "$work/$odd"
+escaped="\\u001b[31m\\u000a\\ufffd\\u009b\\u007f"$'\303\251\342\202\254'"\\ufffd\\ufffd\\ufffd"
+named out 3 "{\"file\":\"$work/$escaped\",\"verdict\":\"unreadable\",\"why\":\"No such file or directory\"}" --json "$work/$odd"
 echo x > "$work/$odd"
 named error 2 "linkcheck: $work/$shown: line 1, field 1: not a number from 0 to 65535" --columns "$work/$odd"
 for look in --aut --dot; do
@@ -181,8 +190,8 @@ declare -A seen known
 
 # A line of a run that ended with 3: one of the run without a fault, or one that says that something was not read.
 right_line() {
-    [ -n "${known["x$1"]:-}" ] || [ "$1" = "     9 not read               " ] || [[ $1 == '{"file":"'*'","verdict":"unreadable","why":"'*'"}' ]] ||
-        [[ $1 =~ $summary_line ]]
+    [ -n "${known["x$1"]:-}" ] || [[ $1 =~ $summary_line ]] || [ "$1" = "     9 not read               " ] ||
+        [[ $1 == '{"file":"'*'","verdict":"unreadable","why":"'*'"}' ]]
 }
 summary_line='^([0-9]+) tables?: ([0-9]+) accepted, ([0-9]+) failed, ([0-9]+) turned down(; ([0-9]+) not read)?$'
 # The summary of such a run counts as many tables as have their line, and all, unless a folder could not be looked at.
@@ -192,47 +201,47 @@ counts_are_right() {
     [ "$read" = "${BASH_REMATCH[1]}" ] && [ "$read" = $((${#lines[@]} - 1)) ] && [ "$unread" -gt 0 ] || return 1
     [ $((read + unread)) = "$in_all" ] || { [[ $1 =~ ^(scandir|stat|lstat|.*alloc)$ ]] && [ $((read + unread)) -lt "$in_all" ]; }
 }
-# What is wrong with a run, by its status got and its outputs; nothing if it is right.
-wrong_with_run() {
+wrong() { fail "$call number $n, fault $how, ${arguments[*]}: $*"; }
+# Looks at a run by its status, got, and its outputs. A call that only has to be made again must not show.
+judge() {
     local out error line
     IFS= read -r -d '' out < "$work/out" || true
     IFS= read -r -d '' error < "$work/error" || true
-    if [ "$got" = "$whole_status" ] && [ "$out" = "$whole" ] && { [ "$got" -lt 3 ] || [ -n "$error" ]; }; then return; fi
-    if [ "$2" = retried ]; then echo "not as without the fault"; return; fi
-    if [ "$2" = kill ] && [ "$got" = 137 ] && [ "${whole#"$out"}" != "$whole" -o -z "$out" ]; then return; fi
-    [ "$got" = 3 ] || { echo "status $got, $whole_status without the fault"; return; }
-    # Standard error may be what could not be written.
-    [ -n "$error" ] || { [ "$1" = write ] && [ "$out" = "$whole" -o "$whole_status" -ge 2 ]; } || echo "no message"
+    if [ "$got $out$error" = "$whole_status $whole$whole_error" ]; then return; fi
+    if [ "$how" = short ] || [[ "$call $how" =~ ^(read|write|waitpid)\ $EINTR$ ]]; then wrong "not as without the fault"; fi
+    if [ "$how $got" = "kill 137" ] && [[ $whole == "$out"* ]]; then return; fi
+    [ "$got" = 3 ] || wrong "status $got, $whole_status without the fault"
+    # It may be the message that could not be written.
+    [ -n "$error" ] || [ "$call $out" = "write $whole" ] || wrong "no message"
     if [[ $whole == "$out"* ]]; then return; fi
     mapfile -t lines < "$work/out"
-    for line in "${lines[@]}"; do right_line "$line" || echo "a wrong line: $line"; done
-    counts_are_right "$1" "${lines[-1]}" || echo "wrong counts: ${lines[-1]}"
+    for line in "${lines[@]}"; do right_line "$line" || wrong "$line"; done
+    counts_are_right "$call" "${lines[-1]}" || wrong "${lines[-1]}"
 }
-# at_every_call CALL HOW ARGUMENTS...: with $input as standard input.
+# at_every_call CALL HOW: the arguments with $input as standard input. Number 0 is every call.
 at_every_call() {
-    local call=$1 how=$2 n=0 wrong kind=$2
-    shift 2
-    if [ "$how" = short ] || { [ "$how" = $EINTR ] && [[ $call =~ ^(read|write|waitpid)$ ]]; }; then kind=retried; fi
+    local call=$1 how=$2 n=1
+    if [ "$how" = short ]; then n=0; fi
     while :; do
-        n=$((n + 1)) got=0
+        got=0
         : > "$work/reached"
-        faulty "$call" "$n" "$how" "$linkcheck" "$@" < "$input" > "$work/out" 2> "$work/error" || got=$?
-        wrong=$(wrong_with_run "$call" "$kind")
-        [ -z "$wrong" ] || fail "$call number $n, fault $how, $*: $wrong"
+        faulty "$call" "$n" "$how" "$linkcheck" "${arguments[@]}" < "$input" > "$work/out" 2> "$work/error" || got=$?
+        judge
         if [ ! -s "$work/reached" ]; then break; fi
-        runs=$((runs + 1)) seen[$call]=$((${seen[$call]:-0} + 1))
+        n=$((n + 1)) runs=$((runs + 1)) seen[$call]=$((${seen[$call]:-0} + 1))
     done
 }
 calls=("read $EIO" "read $EAGAIN" "read $EINTR" "read short" "write $ENOSPC" "write $EINTR" "write short" "close $EIO" "close $EINTR"
-    "malloc $ENOMEM" "calloc $ENOMEM" "realloc $ENOMEM" "open $EMFILE" "open $EINTR" "stat $EACCES" "lstat $EIO" "scandir $ENOMEM" "fcntl $EINTR"
-    "pipe $EMFILE" "fork $EAGAIN" "waitpid $EINTR" "waitpid $ECHILD" "read kill" "write kill" "close kill" "malloc kill")
-# Each fault in one list of arguments.
+    "malloc $ENOMEM" "calloc $ENOMEM" "realloc $ENOMEM" "open $EMFILE" "open $EINTR" "stat $EACCES" "lstat $EIO" "scandir $ENOMEM"
+    "fcntl $EINTR" "pipe $EMFILE" "fork $EAGAIN" "waitpid $EINTR" "waitpid $ECHILD" "read kill" "write kill" "close kill" "malloc kill")
+# Each fault with these arguments.
 with_every_fault() {
     local line
-    got=0
+    arguments=("$@") got=0
     "$linkcheck" "$@" < "$input" > "$work/out" 2> "$work/error" || got=$?
     whole_status=$got
     IFS= read -r -d '' whole < "$work/out" || true
+    IFS= read -r -d '' whole_error < "$work/error" || true
     known=() in_all=0
     while IFS= read -r line; do
         known["x$line"]=1
@@ -240,16 +249,17 @@ with_every_fault() {
     done < "$work/out"
     for line in "${calls[@]}"; do
         # shellcheck disable=SC2086
-        at_every_call $line "$@"
+        at_every_call $line
     done
 }
 export FAULT_REACHED=$work/reached MALLOC_PERTURB_=165
 mkdir -p "$work/store/within"
-for i in 1 2 3; do cp "$good" "$work/store/good$i"; done
+for i in 1 2 3 4 5 6; do cp "$good" "$work/store/good$i"; done
 cp "$bad" "$work/store/within/bad"
 input=/dev/null
 with_every_fault "$work/store"
 with_every_fault -j 3 "$work/store"
+with_every_fault -j 16 "$work/store" "$work/store" "$good"
 with_every_fault --json -j 2 "$work/store"
 with_every_fault --report "$work/store" "$none"
 with_every_fault -j 2 "$good" "$work/missing" "$good"
@@ -260,15 +270,27 @@ with_every_fault --show "$bad"
 with_every_fault --aut "$good"
 with_every_fault --dot spec "$good"
 with_every_fault --aut "$none"
+sanitized="no sanitizer"
+export ASAN_OPTIONS=exitcode=99:verify_asan_link_order=0 UBSAN_OPTIONS=print_stacktrace=1
+if [ $# = 0 ] && linkcheck/build.sh "$work/sanitized" -g -fsanitize=address,undefined -fno-sanitize-recover=all 2> "$work/error" &&
+    faulty none 1 $EIO "$work/sanitized" --help > /dev/null 2>&1; then
+    plain=$linkcheck linkcheck=$work/sanitized sanitized="some with the sanitizers"
+    with_every_fault --json -j 2 "$good" "$work/missing" "$work/store/within"
+    input=$good with_every_fault --columns
+    with_every_fault --dot spec "$good"
+    linkcheck=$plain
+fi
 unset FAULT_REACHED MALLOC_PERTURB_
 for line in "${calls[@]}"; do [ "${seen[${line% *}]:-0}" -gt 0 ] || fail "no call of ${line% *} was reached"; done
 [ "$runs" -ge 1000 ] || fail "only $runs runs with a fault"
 # What linkcheck calls is either tried above or can't go wrong: poll is asked again, and strdup needs malloc.
-can_not='_ITM_.*|__(assert|ctype|cxa|errno|gmon|libc|stack)_.*|_exit|alarm|alphasort|clock_gettime|exit|free|isatty|mem.*|poll|qsort|sig.*|str.*|v?sn?printf'
+can_not='alarm|alphasort|clock_gettime|_?exit|free|isatty|mem.*|poll|qsort|sig.*|str.*|v?sn?printf'
+can_not+='|_ITM_.*|__(assert|ctype|cxa|errno|gmon|libc|stack)_.*'
 if [ $# = 0 ] && imported=$(nm -D --undefined-only "$linkcheck" 2> /dev/null); then
-    for call in $(awk '{ sub("@.*", "", $2); print $2 }' <<< "$imported"); do
-        [ "${seen[$call]:-0}" -gt 0 ] || [[ $call =~ ^($can_not)$ ]] || fail "$call is not tried"
-    done
+    while read -r _ call; do
+        call=${call%%@*}
+        [ "${seen[$call]:-0}" -gt 0 ] || [ "$call" = socket ] || [[ $call =~ ^($can_not)$ ]] || fail "$call is not tried"
+    done <<< "$imported"
 fi
 
 # ---- killed processes ----
@@ -331,4 +353,4 @@ said "linkcheck: $work/slow: not checked, as the process for it failed" "killed 
 written "$good  accepted
 $good  accepted
 2 tables: 2 accepted, 0 failed, 0 turned down; 2 not read" "killed processes"
-echo "linkcheck faults: $runs runs with a fault at one call: ${seen[*]}"
+echo "linkcheck faults: $runs runs with a fault at one call of ${#seen[@]} functions, $sanitized: no fault"

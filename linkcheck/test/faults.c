@@ -20,6 +20,7 @@
 #include <stdlib.h>
 #include <string.h>
 #include <sys/mman.h>
+#include <sys/socket.h>
 #include <sys/stat.h>
 #include <sys/syscall.h>
 #include <sys/wait.h>
@@ -166,6 +167,10 @@ int lstat(const char *path, struct stat *file) {
 int scandir(const char *folder, struct dirent ***list, int (*filter)(const struct dirent *),
             int (*order)(const struct dirent **, const struct dirent **)) {
     return struck("scandir") ? -1 : THE_REAL(scandir)(folder, list, filter, order);
+}
+
+int socket(int domain, int type, int protocol) {
+    return struck("socket") ? -1 : THE_REAL(socket)(domain, type, protocol);
 }
 
 int pipe(int ends[2]) {
