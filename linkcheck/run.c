@@ -2,10 +2,7 @@
  * the first process takes one answer from each pipe in turn, and so has them in order. */
 #define _POSIX_C_SOURCE 200809L
 #include "run.h"
-#include "explain.h"
-#include "input.h"
 #include "json.h"
-#include "names.h"
 
 #include <errno.h>
 #include <poll.h>
@@ -17,52 +14,6 @@
 #include <sys/wait.h>
 #include <time.h>
 #include <unistd.h>
-
-/* What there is to say of one file: its line, without byte 10; or why it could not be read, if that is its status. */
-struct answer {
-    unsigned status; /* the exit status if it were alone */
-    char *words;     /* on the heap */
-    size_t length;
-};
-
-/* ---- one file ---- */
-
-static void put_verdict(struct output *out, const char *name, const struct verdict *v, enum format format) {
-    switch (format) {
-    case REPORT: put_bytes(out, v->report, sizeof v->report - 1); break;
-    case JSON: json_verdict(out, name, v); break;
-    case WORDS:
-        put_name(out, name);
-        put(out, "  ");
-        print_verdict(out, v);
-    }
-}
-
-/* The answer with these words, which have all been added, or there was no memory for them. */
-static struct answer answer_of(unsigned status, struct output words) {
-    const size_t length = words.length;
-    put_bytes(&words, "", 1);
-    if (words.error) no_memory();
-    return (struct answer){status, words.bytes, length};
-}
-
-static struct answer unread(const char *why) {
-    struct output words = {.file = KEPT};
-    put(&words, why);
-    return answer_of(STATUS_UNREAD, words);
-}
-
-static struct answer answer_to(const struct path *path, enum format format) {
-    static struct text own;
-    static struct verdict verdict;
-    struct output words = {.file = KEPT};
-    if (path->wrong) return unread(path->wrong);
-    int error = path->text ? 0 : text_read(&own, path->name);
-    if (error) return unread(strerror(error));
-    verdict_of(&verdict, path->text ? path->text : &own);
-    put_verdict(&words, path->name, &verdict, format);
-    return answer_of(verdict.outcome, words);
-}
 
 /* ---- progress ---- */
 
@@ -149,48 +100,6 @@ static int highest_status(const struct tally *t) {
     int status = STATUS_UNREAD;
     while (status > 0 && t->with_status[status] == 0) status--;
     return status;
-}
-
-/* ---- answers through a pipe ---- */
-
-/* What comes before the words of an answer. */
-struct header {
-    uint64_t mark, number, status, length; /* the number is that of the file in the list */
-};
-
-enum { HEADER_MARK = 0x6B6E696C };
-
-/* More words than any answer has: a byte of the name becomes six at most, and what is said of a table is far shorter than this. */
-static size_t too_long(const char *name) {
-    return 6 * strlen(name) + 4096;
-}
-
-static bool receive(int from, void *bytes, size_t length) {
-    struct input in = {.file = from};
-    return input_read(&in, bytes, length) == length;
-}
-
-static bool is_one_line(const struct answer *a) {
-    for (size_t i = 0; i < a->length; i++)
-        if ((unsigned char)a->words[i] < ' ') return false;
-    return a->length > 0;
-}
-
-static bool send_answer(int to, size_t number, const struct answer *a) {
-    const struct header h = {HEADER_MARK, number, a->status, a->length};
-    return write_all(to, &h, sizeof h) == 0 && write_all(to, a->words, a->length) == 0;
-}
-
-/* The answer for this file. Whatever is not an answer as it is sent is none. */
-static bool take_answer(int from, size_t number, const char *name, struct answer *a) {
-    struct header h;
-    if (!receive(from, &h, sizeof h)) return false;
-    if (h.mark != HEADER_MARK || h.number != number || h.status > STATUS_UNREAD || h.length >= too_long(name)) return false;
-    *a = (struct answer){(unsigned)h.status, calloc(h.length + 1, 1), h.length};
-    if (!a->words) no_memory();
-    if (receive(from, a->words, a->length) && is_one_line(a)) return true;
-    free(a->words);
-    return false;
 }
 
 /* ---- several processes ---- */
