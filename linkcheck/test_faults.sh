@@ -65,6 +65,9 @@ for look in --columns --show --aut --dot; do
     written "" "$look after a read error"
 done
 exec 9>&-
+due 2 "linkcheck: -: Input/output error" eval "{ faulty read 2 $EIO \"$linkcheck\" --columns || true; } < $good | \"$linkcheck\" -"
+written "-  turned down 4 (kinds of lines): no line of kind 1
+1 table: 0 accepted, 0 failed, 1 turned down" "the check of columns that could not be read"
 
 # A folder without a table.
 mkdir -p "$work/empty/within"
@@ -128,13 +131,13 @@ got=0
 "$linkcheck" --columns README.md > "$work/out" 2>&- || got=$?
 [ "$got" = 3 ] || fail "a message that can't be written: status $got"
 
-# What a process sends is looked at: if any byte of its first header is another, its two tables are not checked, named and counted.
+# What a process sends is looked at: if any byte of its first header is another, its four tables are not checked, named and counted.
+four=("$good" "$good" "$good" "$good")
 for ((place = 0; place < 32; place++)); do
     FAULT_IN=worker due 3 "not checked, as the process for it failed" \
-        faulty write 1 "flip $place" "$linkcheck" -j 2 "$good" "$good" "$good" "$good"
-    written "$good  accepted
-$good  accepted
-2 tables: 2 accepted, 0 failed, 0 turned down; 2 not read" "byte $place of a header"
+        faulty write 1 "flip $place" "$linkcheck" -j 2 "${four[@]}" "${four[@]}"
+    written "$(printf '%s  accepted\n' "${four[@]}")
+4 tables: 4 accepted, 0 failed, 0 turned down; 4 not read" "byte $place of a header"
 done
 
 # ---- writing ----
