@@ -7,7 +7,8 @@ set -euo pipefail
 cd "$(dirname "$0")/.."
 export LC_ALL=C
 work=$(mktemp -d)
-trap 'rm -rf "$work"' EXIT
+first=
+trap 'if [ -n "$first" ]; then kill "$first"; fi; rm -rf "$work"' EXIT
 linkcheck=${1:-$work/linkcheck}
 if [ $# = 0 ]; then linkcheck/build.sh "$linkcheck" -U_FORTIFY_SOURCE; fi
 compile() { ${CC:-cc} -std=c11 -Wall -Wextra -O2 "$@"; }
@@ -98,38 +99,32 @@ for round in 1 2 3 4 5 6 7 8; do
 done
 
 # Closed descriptors: using one is an error, and no file gets its number.
+closed() { # closed DESCRIPTORS STATUS ARGUMENTS...
+    local which=$1 status=$2 got=0
+    shift 2
+    eval '"$linkcheck" "$@" > "$work/out" 2> "$work/error"' "$which" || got=$?
+    [ "$got" = "$status" ] || fail "$* $which: status $got, $status is due"
+}
 due 3 "linkcheck: /dev/stdin: " "$linkcheck" /dev/stdin <&-
 due 3 "linkcheck: standard input: Too many open files" faulty socket 1 $EMFILE "$linkcheck" "$good" <&-
 for jobs in 1 2 3; do
-    due 3 "linkcheck: -: Bad file descriptor" "$linkcheck" -j "$jobs" - "$bad" "$good" <&-
-    due 3 "linkcheck: -: Bad file descriptor" "$linkcheck" -j "$jobs" "$bad" - "$good" <&-
-    due 1 "" "$linkcheck" -j "$jobs" "$bad" "$good" <&-
-    due 1 "" "$linkcheck" -j "$jobs" "$bad" "$good" < /dev/null
+    due 3 "linkcheck: -: Bad file descriptor" "$linkcheck" -j $jobs - "$bad" "$good" <&-
+    due 3 "linkcheck: -: Bad file descriptor" "$linkcheck" -j $jobs "$bad" - "$good" <&-
+    due 1 "" "$linkcheck" -j $jobs "$bad" "$good"
     cp "$work/out" "$work/whole"
-    for closed in '<&-' '2>&-' '<&- 2>&-'; do
-        got=0
-        eval "\"$linkcheck\" -j $jobs $bad $good > \"$work/out\" 2> /dev/null $closed" || got=$?
-        [ "$got" = 1 ] || fail "$closed: status $got"
-        cmp -s "$work/out" "$work/whole" || fail "$closed: $(cat "$work/out")"
+    for which in '<&-' '2>&-' '<&- 2>&-'; do
+        closed "$which" 1 -j $jobs "$bad" "$good"
+        cmp "$work/out" "$work/whole" || fail "$which: $(cat "$work/out")"
     done
-    for closed in '>&-' '<&- >&-'; do
-        got=0
-        eval "\"$linkcheck\" -j $jobs $bad $good 2> \"$work/error\" $closed" || got=$?
-        [ "$got" = 3 ] || fail "$closed: status $got"
-        said "linkcheck: cannot write: Bad file descriptor" "$closed"
+    for which in '>&-' '<&- >&-'; do
+        closed "$which" 3 -j $jobs "$bad" "$good"
+        said "linkcheck: cannot write: Bad file descriptor" "$which"
     done
-    for closed in '<&- >&- 2>&-' '>&- 2>&-'; do
-        got=0
-        eval "\"$linkcheck\" -j $jobs $bad $good $closed" || got=$?
-        [ "$got" = 3 ] || fail "$closed: status $got"
-    done
+    for which in '>&- 2>&-' '<&- >&- 2>&-'; do closed "$which" 3 -j $jobs "$bad" "$good"; done
 done
-got=0
-"$linkcheck" --columns "$work/missing" > "$work/out" 2>&- || got=$?
-[ "$got" = 3 ] || fail "--columns without standard error: status $got"
-got=0
-"$linkcheck" --columns README.md > "$work/out" 2>&- || got=$?
-[ "$got" = 3 ] || fail "a message that can't be written: status $got"
+# A message that can't be written.
+closed '2>&-' 3 --columns README.md
+closed '2>&-' 3 --columns "$work/missing"
 
 # What a process sends is looked at: if any byte of its first header is another, its four tables are not checked, named and counted.
 four=("$good" "$good" "$good" "$good")
@@ -308,19 +303,19 @@ fi
 pipes() { find "/proc/$1/fd" -lname 'pipe:*' -printf '%l\n'; }
 children() { ps -A -o pid= -o ppid= | awk -v parent="$1" '$2 == parent { print $1 }'; }
 running() { case $(ps -o stat= -p "$1" || true) in "" | Z*) return 1 ;; esac; }
-# Starts linkcheck on slow tables in the background, in three processes: their numbers are in first and workers.
+# Starts linkcheck in the background in three processes, the first of which is soon done, and waits until it is: the others are in busy.
 start_slow() {
     "$linkcheck" -j 3 "$good" "$work/slow" "$work/slow" "$good" > "$work/out" 2> "$work/error" < /dev/null &
     first=$!
-    local waited=0
-    # The process of the two good tables is done with them.
-    while workers=$(children "$first"); [ "$(wc -w <<< "$workers")" -lt 2 ] || [ "$waited" -lt 3 ]; do
-        waited=$((waited + 1))
-        [ "$waited" -lt 200 ] || fail "the processes don't start"
+    local worker workers tries
+    for ((tries = 0; tries < 200; tries++)); do
+        mapfile -t workers < <(children "$first")
+        busy=()
+        for worker in "${workers[@]}"; do if running "$worker"; then busy+=("$worker"); fi; done
+        if [ "${#workers[@]} ${#busy[@]}" = "3 2" ]; then return; fi
         sleep 0.05
     done
-    busy=()
-    for worker in $workers; do if running "$worker"; then busy+=("$worker"); fi; done
+    fail "the processes don't start"
 }
 ended_soon() {
     local worker tries
@@ -345,12 +340,14 @@ for signal in TERM KILL; do
     done
     kill -$signal "$first"
     wait "$first" 2> /dev/null && fail "status 0 after SIG$signal"
+    first=
     ended_soon "SIG$signal"
 done
 start_slow
 kill -KILL "${busy[@]}"
 got=0
 wait "$first" || got=$?
+first=
 [ "$got" = 3 ] || fail "killed processes: status $got"
 said "linkcheck: $work/slow: not checked, as the process for it failed" "killed processes"
 written "$good  accepted
