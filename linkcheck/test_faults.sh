@@ -90,12 +90,13 @@ written "     1     8     9     3     0
 
 due 64 "linkcheck: standard input can be given once: -" "$linkcheck" - - < "$good"
 due 64 "standard input can be given once" "$linkcheck" -j 2 - "$bad" - < "$good"
-for round in 1 2 3 4 5 6 7 8; do
-    due 1 "" "$linkcheck" -j "$round" "$bad" - "$bad" "$bad" < <(cat "$good")
+slowly() { while IFS= read -r line; do printf '%s\n' "$line"; sleep 0.02; done < "$1"; }
+for jobs in 1 2 3 4; do
+    due 1 "" "$linkcheck" -j $jobs "$bad" - "$bad" "$bad" < <(slowly "$good")
     grep -qx -e "-  accepted" "$work/out" || fail "- among other tables: $(cat "$work/out")"
-    due 2 "" "$linkcheck" --report -j 2 /dev/stdin /dev/stdin < <(cat "$good")
+    due 2 "" "$linkcheck" --report -j $jobs /dev/stdin /dev/stdin < <(slowly "$good")
     written "     0     0     0     0     0
-     2     4     0     0     0" "a pipe given twice, round $round"
+     2     4     0     0     0" "a pipe given twice"
 done
 
 # Closed descriptors: using one is an error, and no file gets its number.
