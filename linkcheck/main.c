@@ -44,9 +44,10 @@ static const char help[] =
     "      The same as a Graphviz picture, up to 1,000 states; focus points have a double line.\n"
     "  linkcheck --help\n"
     "\n"
-    "Exit status: 0 all accepted, 1 some failed, 2 some turned down, 3 something could not be read or written,\n"
-    "the highest of these; 64 wrong arguments. With --columns, --aut and --dot 0 is done, 2 is a text that is\n"
-    "no table, and 1 is a system that cannot be written.\n";
+    "Exit status: 0 all accepted, 1 some failed, 2 some turned down, 3 something could not be read, checked or\n"
+    "written, as a folder without a table, and a message says what; the highest of these; 64 wrong arguments.\n"
+    "With --columns, --aut and --dot 0 is done, 2 is a text that is no table, and 1 is a system that cannot be\n"
+    "written.\n";
 
 /* The exit status once all is written; another if it could not be. */
 static int finished(int status) {
