@@ -136,6 +136,25 @@ for ((place = 0; place < 32; place++)); do
 4 tables: 4 accepted, 0 failed, 0 turned down; 4 not read" "byte $place of a header"
 done
 
+# A library that was made for other rules: another verdict, a report that says something else, a text that is no table.
+if [ $# = 0 ]; then
+    compile linkcheck/*.c linkcheck/test/other_rules.c -o "$work/other"
+    while read -r returns verdict table; do
+        for jobs in 1 2; do
+            OTHER_RETURNS=$returns OTHER_VERDICT=$verdict due 3 "libchecker.a was built for other rules" \
+                "$work/other" -j $jobs "$table" "$table"
+            if grep accepted "$work/out" | grep -v '^0 tables'; then fail "accepted by other rules"; fi
+        done
+    done << END
+3 3 $good
+9 0 $good
+0 1 $good
+1 0 $good
+4294967295 0 $good
+0 0 $none
+END
+fi
+
 # ---- writing ----
 
 # A full disk, and one that tells so when the output is closed.
@@ -354,4 +373,5 @@ said "linkcheck: $work/slow: not checked, as the process for it failed" "killed 
 written "$good  accepted
 $good  accepted
 2 tables: 2 accepted, 0 failed, 0 turned down; 2 not read" "killed processes"
-echo "linkcheck faults: $runs runs with a fault at one call of ${#seen[@]} functions, $sanitized: no fault"
+echo "linkcheck faults: $runs runs with a fault at one call, $sanitized: no fault"
+for call in "${!seen[@]}"; do echo "    $call ${seen[$call]}"; done | sort
