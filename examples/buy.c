@@ -21,5 +21,9 @@ int main(int words, char **word)
     uint32_t verdict = check_design(text, length, report, sizeof report);
     printf("%s: ", verdict == CHECK_ACCEPTED ? "buy" : "do not buy");
     fwrite(report, 1, sizeof report, stdout);
+    if (fflush(stdout) != 0) {
+        perror("buy");
+        return 65;
+    }
     return (int)verdict;
 }

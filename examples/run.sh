@@ -1,6 +1,6 @@
 #!/usr/bin/env bash
-# Checks every table of examples/ with check_table and with the C program buy, and compares with reports.tsv, byte for byte. Ends with 1 if
-# any differs.
+# Checks every table of examples/ with ./check and with the C program buy, and compares with reports.tsv, byte for byte, and the exit status
+# of ./check with the verdict. Ends with 1 if any differs.
 set -euo pipefail
 cd "$(dirname "$0")/.."
 program=target/bin/check_table
@@ -15,18 +15,25 @@ count=0
 differ=0
 for file in examples/*.txt; do
     name=$(basename "$file" .txt)
-    "$program" < "$file" > "$work/got" || true
+    status=0
+    ./check "$file" > "$work/got" || status=$?
     awk -F '\t' -v name="$name" '$1 == name { print $2 }' examples/reports.tsv > "$work/want"
-    if ! cmp -s "$work/got" "$work/want"; then
-        echo "examples: $name: check_table writes \"$(cat "$work/got")\", the report is \"$(cat "$work/want")\""
+    if ! cmp -s "$work/got" "$work/want" || [ "$status" != "$(awk '{ print $1 }' "$work/want")" ]; then
+        echo "examples: $name: ./check writes \"$(cat "$work/got")\" and ends with $status, the report is \"$(cat "$work/want")\""
         differ=1
     fi
     { "$work/buy" "$file" || true; } | sed 's/.*: //' | cmp -s - "$work/want" || { echo "examples: $name: buy writes another report"; differ=1; }
     count=$((count + 1))
 done
+# A report that can't be written is no verdict.
+if [ -c /dev/full ]; then
+    status=0
+    "$work/buy" examples/pump.txt > /dev/full 2> /dev/null || status=$?
+    [ "$status" = 65 ] || { echo "examples: buy ends with $status on a full disk"; differ=1; }
+fi
 # Each report has its table.
 while IFS=$'\t' read -r name _; do
     [ -f "examples/$name.txt" ] || { echo "examples: $name: a report without a table"; differ=1; }
 done < examples/reports.tsv
 [ "$differ" = 0 ] || exit 1
-echo "examples: $count tables, by check_table and by buy: no difference"
+echo "examples: $count tables, by ./check and by buy: no difference"

@@ -33,21 +33,21 @@ const struct row *failing_row(const struct verdict *v) {
 }
 
 /* "state 9 = (2, 1)"; the values alone if they are outside the sizes. */
-static void print_numbered(FILE *out, const struct process *p, const struct state *s) {
-    if (outside(p, s) == p->parameters) fprintf(out, "state %lu = ", state_number(p, s));
+static void print_numbered(struct output *out, const struct process *p, const struct state *s) {
+    if (outside(p, s) == p->parameters) print(out, "state %lu = ", state_number(p, s));
     print_state(out, p, s);
 }
 
-static void print_place(FILE *out, const struct verdict *v) {
+static void print_place(struct output *out, const struct verdict *v) {
     const struct state s = numbered_state(&v->table.impl, v->state);
     const struct row *row = failing_row(v);
-    fputs(", ", out);
+    put(out, ", ");
     print_numbered(out, &v->table.impl, &s);
     if (!row) return;
-    fprintf(out, ", %srow %u ", row_is_ours(v) ? "our " : "", v->row);
-    if (row->action == INTERNAL) fputs("(internal)", out);
-    else fprintf(out, "(action %u)", row->action);
-    fprintf(out, ", sum value %u", v->sum);
+    print(out, ", %srow %u ", row_is_ours(v) ? "our " : "", v->row);
+    if (row->action == INTERNAL) put(out, "(internal)");
+    else print(out, "(action %u)", row->action);
+    print(out, ", sum value %u", v->sum);
 }
 
 /* ---- what differs, for each criterion ---- */
@@ -60,87 +60,87 @@ struct here {
     struct state state, mapped, next;
 };
 
-static void print_start(FILE *out, const struct here *h) {
+static void print_start(struct output *out, const struct here *h) {
     const struct state ours = initial_state(&h->t->spec);
     if (!invariant_holds(h->t, &h->state)) {
-        fputs("the invariant does not hold in the initial state", out);
+        put(out, "the invariant does not hold in the initial state");
         return;
     }
-    fputs("the initial state is mapped to ", out);
+    put(out, "the initial state is mapped to ");
     print_state(out, &h->t->spec, &h->mapped);
-    fputs(", our initial state is ", out);
+    put(out, ", our initial state is ");
     print_state(out, &h->t->spec, &ours);
 }
 
-static void print_mapped_values(FILE *out, const struct here *h) {
+static void print_mapped_values(struct output *out, const struct here *h) {
     unsigned i = outside(&h->t->spec, &h->mapped);
-    fputs("it is mapped to ", out);
+    put(out, "it is mapped to ");
     print_state(out, &h->t->spec, &h->mapped);
-    if (i < h->t->spec.parameters) fprintf(out, ", and %u is not below the size %u of our parameter %u", h->mapped.value[i], h->t->spec.size[i], i);
+    if (i < h->t->spec.parameters) print(out, ", and %u is not below the size %u of our parameter %u", h->mapped.value[i], h->t->spec.size[i], i);
 }
 
-static void print_invariant(FILE *out, const struct here *h) {
+static void print_invariant(struct output *out, const struct here *h) {
     const struct process *p = &h->t->impl;
     unsigned i = outside(p, &h->next);
-    fputs("the step leads to ", out);
+    put(out, "the step leads to ");
     print_numbered(out, p, &h->next);
-    if (i < p->parameters) fprintf(out, ", and %u is not below the size %u of parameter %u", h->next.value[i], p->size[i], i);
-    else fputs(", where the invariant does not hold", out);
+    if (i < p->parameters) print(out, ", and %u is not below the size %u of parameter %u", h->next.value[i], p->size[i], i);
+    else put(out, ", where the invariant does not hold");
 }
 
-static void print_mapping(FILE *out, const struct here *h) {
+static void print_mapping(struct output *out, const struct here *h) {
     const struct state after = mapped(h->t, &h->next);
-    fputs("the state is mapped to ", out);
+    put(out, "the state is mapped to ");
     print_state(out, &h->t->spec, &h->mapped);
-    fputs(", the step leads to ", out);
+    put(out, ", the step leads to ");
     print_numbered(out, &h->t->impl, &h->next);
-    fputs(", mapped to ", out);
+    put(out, ", mapped to ");
     print_state(out, &h->t->spec, &after);
 }
 
-static void print_measure(FILE *out, const struct here *h) {
-    fprintf(out, "the measure is %u, and %u after the step to ", measure(h->t, &h->state), measure(h->t, &h->next));
+static void print_measure(struct output *out, const struct here *h) {
+    print(out, "the measure is %u, and %u after the step to ", measure(h->t, &h->state), measure(h->t, &h->next));
     print_numbered(out, &h->t->impl, &h->next);
 }
 
-static void print_allowed(FILE *out, const struct here *h) {
+static void print_allowed(struct output *out, const struct here *h) {
     const struct row *ours = row_of(&h->t->spec, h->row->action);
     if (!ours) {
-        fprintf(out, "the board can do action %u, ours has no row of it", h->row->action);
+        print(out, "the board can do action %u, ours has no row of it", h->row->action);
         return;
     }
-    fprintf(out, "the board can do action %u, our row %td is not enabled at the mapped state ", h->row->action, ours - h->t->spec.row + 1);
+    print(out, "the board can do action %u, our row %td is not enabled at the mapped state ", h->row->action, ours - h->t->spec.row + 1);
     print_state(out, &h->t->spec, &h->mapped);
 }
 
-static void print_offered(FILE *out, const struct here *h) {
+static void print_offered(struct output *out, const struct here *h) {
     const struct row *boards = row_of(&h->t->impl, h->row->action);
-    fputs("ours can do it at the mapped state ", out);
+    put(out, "ours can do it at the mapped state ");
     print_state(out, &h->t->spec, &h->mapped);
-    if (boards) fprintf(out, ", the board's row %td is not enabled, nor any internal row", boards - h->t->impl.row + 1);
-    else fprintf(out, ", the board has no row of action %u, and no internal row is enabled", h->row->action);
+    if (boards) print(out, ", the board's row %td is not enabled, nor any internal row", boards - h->t->impl.row + 1);
+    else print(out, ", the board has no row of action %u, and no internal row is enabled", h->row->action);
 }
 
-static void print_data(FILE *out, const struct here *h) {
+static void print_data(struct output *out, const struct here *h) {
     const struct row *ours = row_of(&h->t->spec, h->row->action);
     if (!ours) return;
-    fprintf(out, "the board's data %u, ours %u", data_number(h->row, &h->state, h->sum), data_number(ours, &h->mapped, h->sum));
+    print(out, "the board's data %u, ours %u", data_number(h->row, &h->state, h->sum), data_number(ours, &h->mapped, h->sum));
 }
 
-static void print_next(FILE *out, const struct here *h) {
+static void print_next(struct output *out, const struct here *h) {
     const struct row *ours = row_of(&h->t->spec, h->row->action);
     if (!ours) return;
     const struct state boards = mapped(h->t, &h->next), our_next = next_state(&h->t->spec, ours, &h->mapped, h->sum);
-    fputs("the board's step leads to ", out);
+    put(out, "the board's step leads to ");
     print_numbered(out, &h->t->impl, &h->next);
-    fputs(", mapped to ", out);
+    put(out, ", mapped to ");
     print_state(out, &h->t->spec, &boards);
-    fputs(", ours to ", out);
+    put(out, ", ours to ");
     print_state(out, &h->t->spec, &our_next);
 }
 
-void print_difference(FILE *out, const struct verdict *v) {
-    static void (*const print[])(FILE *, const struct here *) = {
+void print_difference(struct output *out, const struct verdict *v) {
+    static void (*const difference[])(struct output *, const struct here *) = {
         [START] = print_start, [MAPPED_VALUES] = print_mapped_values, [KEEPS_INVARIANT] = print_invariant,
         [KEEPS_MAPPING] = print_mapping, [SMALLER_MEASURE] = print_measure, [ALLOWED] = print_allowed,
         [OFFERED] = print_offered, [DATA] = print_data, [NEXT] = print_next,
@@ -150,25 +150,21 @@ void print_difference(FILE *out, const struct verdict *v) {
     if (v->criterion < START || v->criterion > NEXT || (v->criterion >= KEEPS_INVARIANT && !h.row)) return;
     h.mapped = mapped(t, &h.state);
     if (h.row && !row_is_ours(v)) h.next = next_state(&t->impl, h.row, &h.state, h.sum);
-    print[v->criterion](out, &h);
+    difference[v->criterion](out, &h);
 }
 
-void print_name(FILE *out, const char *name) {
-    for (; *name; name++) fputc((unsigned char)*name < ' ' || *name == 0x7F ? '?' : *name, out);
-}
-
-void print_verdict(FILE *out, const struct verdict *v) {
+void print_verdict(struct output *out, const struct verdict *v) {
     switch (v->outcome) {
-    case CHECK_ACCEPTED: fputs("accepted", out); break;
+    case CHECK_ACCEPTED: put(out, "accepted"); break;
     case CHECK_FAILED:
-        fprintf(out, "failed: criterion %u (%s)", v->criterion, criterion_word(v->criterion));
+        print(out, "failed: criterion %u (%s)", v->criterion, criterion_word(v->criterion));
         print_place(out, v);
-        fputs(": ", out);
+        put(out, ": ");
         print_difference(out, v);
         break;
     default:
-        fprintf(out, "turned down %u (%s)", v->criterion, fault_word(v->criterion));
-        if (v->fault.line) fprintf(out, ", line %zu", v->fault.line);
-        if (v->fault.words[0]) fprintf(out, ": %s", v->fault.words);
+        print(out, "turned down %u (%s)", v->criterion, fault_word(v->criterion));
+        if (v->fault.line) print(out, ", line %zu", v->fault.line);
+        if (v->fault.words[0]) print(out, ": %s", v->fault.words);
     }
 }

@@ -2,9 +2,8 @@
 #ifndef EXPLAIN_H
 #define EXPLAIN_H
 
+#include "output.h"
 #include "verdict.h"
-
-#include <stdio.h>
 
 /* What a criterion, 1 to 9, or a turned-down number, 1 to 7, is about. */
 const char *criterion_word(unsigned criterion);
@@ -15,12 +14,9 @@ bool row_is_ours(const struct verdict *v);
 const struct row *failing_row(const struct verdict *v);
 
 /* What differs, in words, for a failed table. */
-void print_difference(FILE *out, const struct verdict *v);
-
-/* A file's name on one line: control characters, which could end it, become question marks. */
-void print_name(FILE *out, const char *name);
+void print_difference(struct output *out, const struct verdict *v);
 
 /* The verdict as one line's words, without byte 10. */
-void print_verdict(FILE *out, const struct verdict *v);
+void print_verdict(struct output *out, const struct verdict *v);
 
 #endif

@@ -86,7 +86,6 @@ static void leave(struct graph *g, uint32_t from) {
 }
 
 static void graph_free(struct graph *g) {
-    if (!g) return;
     free(g->state);
     free(g->slot);
     free(g);
@@ -106,65 +105,66 @@ static const char *explore(struct graph *g, uint32_t most) {
     return NULL;
 }
 
-static const char *graph_make(struct graph **made, const struct table *t, enum side side, uint32_t most) {
-    struct graph *g = *made = calloc(1, sizeof *g);
-    if (!g) return "no memory";
+static struct graph *graph_of(const struct table *t, enum side side) {
+    struct graph *g = calloc(1, sizeof *g);
+    if (!g) no_memory();
     *g = (struct graph){.t = t, .p = side == IMPLEMENTATION ? &t->impl : &t->spec, .side = side};
     g->state = malloc(MOST_STATES * sizeof *g->state);
     g->slot = calloc(SLOTS, sizeof *g->slot);
-    return g->state && g->slot ? explore(g, most) : "no memory";
+    if (!g->state || !g->slot) no_memory();
+    return g;
 }
 
-static void print_label(FILE *out, const struct edge *e) {
-    if (e->action == INTERNAL) fputs("\"tau\"", out);
-    else fprintf(out, "\"a%u(%u)\"", e->action, e->data);
+static void print_label(struct output *out, const struct edge *e) {
+    if (e->action == INTERNAL) put(out, "\"tau\"");
+    else print(out, "\"a%u(%u)\"", e->action, e->data);
 }
 
-static void print_aut(FILE *out, struct graph *g) {
-    fprintf(out, "des (0,%lu,%lu)\n", g->transitions, (unsigned long)g->states);
+static void print_aut(struct output *out, struct graph *g) {
+    print(out, "des (0,%lu,%lu)\n", g->transitions, (unsigned long)g->states);
     for (uint32_t from = 0; from < g->states; from++) {
         leave(g, from);
         for (size_t i = 0; i < g->edges; i++) {
-            fprintf(out, "(%lu,", (unsigned long)from);
+            print(out, "(%lu,", (unsigned long)from);
             print_label(out, &g->edge[i]);
-            fprintf(out, ",%lu)\n", (unsigned long)g->edge[i].to);
+            print(out, ",%lu)\n", (unsigned long)g->edge[i].to);
         }
     }
 }
 
-static void print_node(FILE *out, const struct graph *g, uint32_t n) {
-    fprintf(out, "  %lu [label=\"", (unsigned long)n);
+static void print_node(struct output *out, const struct graph *g, uint32_t n) {
+    print(out, "  %lu [label=\"", (unsigned long)n);
     print_state(out, g->p, &g->state[n]);
-    fprintf(out, "\"%s];\n", focus_point(g->p, &g->state[n]) ? ", peripheries=2" : "");
+    print(out, "\"%s];\n", focus_point(g->p, &g->state[n]) ? ", peripheries=2" : "");
 }
 
-static void print_dot(FILE *out, struct graph *g) {
-    fprintf(out, "// States by their values; those with a double line are focus points.\ndigraph %s {\n",
-            g->side == IMPLEMENTATION ? "implementation" : "specification");
-    fputs("  rankdir=LR;\n  start [shape=point];\n  start -> 0;\n", out);
+static void print_dot(struct output *out, struct graph *g) {
+    print(out, "// States by their values; those with a double line are focus points.\ndigraph %s {\n",
+          g->side == IMPLEMENTATION ? "implementation" : "specification");
+    put(out, "  rankdir=LR;\n  start [shape=point];\n  start -> 0;\n");
     for (uint32_t from = 0; from < g->states; from++) {
         print_node(out, g, from);
         leave(g, from);
         for (size_t i = 0; i < g->edges; i++) {
-            fprintf(out, "  %lu -> %lu [label=", (unsigned long)from, (unsigned long)g->edge[i].to);
+            print(out, "  %lu -> %lu [label=", (unsigned long)from, (unsigned long)g->edge[i].to);
             print_label(out, &g->edge[i]);
-            fprintf(out, "%s];\n", g->edge[i].action == INTERNAL ? ", style=dashed" : "");
+            print(out, "%s];\n", g->edge[i].action == INTERNAL ? ", style=dashed" : "");
         }
     }
-    fputs("}\n", out);
+    put(out, "}\n");
 }
 
-const char *write_aut(FILE *out, const struct table *t, enum side side) {
-    struct graph *g;
-    const char *why = graph_make(&g, t, side, MOST_STATES);
+const char *write_aut(struct output *out, const struct table *t, enum side side) {
+    struct graph *g = graph_of(t, side);
+    const char *why = explore(g, MOST_STATES);
     if (!why) print_aut(out, g);
     graph_free(g);
     return why;
 }
 
-const char *write_dot(FILE *out, const struct table *t, enum side side) {
-    struct graph *g;
-    const char *why = graph_make(&g, t, side, MOST_DRAWN);
+const char *write_dot(struct output *out, const struct table *t, enum side side) {
+    struct graph *g = graph_of(t, side);
+    const char *why = explore(g, MOST_DRAWN);
     if (!why) print_dot(out, g);
     graph_free(g);
     return why;

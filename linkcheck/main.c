@@ -1,12 +1,17 @@
 /* linkcheck: the price link checker at a terminal and in scripts. Here are its arguments; run.c has the check of a list of files. */
 #define _POSIX_C_SOURCE 200809L
 #include "explain.h"
+#include "input.h"
+#include "names.h"
 #include "run.h"
 #include "show.h"
 
 #include <errno.h>
+#include <fcntl.h>
 #include <stdlib.h>
 #include <string.h>
+#include <sys/socket.h>
+#include <unistd.h>
 
 enum { STATUS_USAGE = 64 };
 
@@ -18,8 +23,9 @@ static const char help[] =
     "      there is one, in which line. \"The board\" is the implementation, \"ours\" the specification. A last line\n"
     "      has the counts. In a folder every file is taken for a table, in name order, folders in it too; names\n"
     "      that begin with a dot are left out.\n"
-    "      -  is standard input.\n"
-    "      --report  the 31 bytes of each report and nothing else\n"
+    "      -  is standard input, given once.\n"
+    "      --report  the 31 bytes of each report and nothing else; 31 bytes that are no report, with 9 in the first\n"
+    "                field, for what could not be read\n"
     "      --json    one JSON object for each table, each on a line\n"
     "      -j N      in N processes, 1 to 256; the order of the lines is the same\n"
     "  linkcheck --show FILE\n"
@@ -38,9 +44,16 @@ static const char help[] =
     "      The same as a Graphviz picture, up to 1,000 states; focus points have a double line.\n"
     "  linkcheck --help\n"
     "\n"
-    "Exit status: 0 all accepted, 1 some failed, 2 some turned down, 3 something could not be read or written,\n"
-    "the highest of these; 64 wrong arguments. With --columns, --aut and --dot 0 is done, 2 is a text that is\n"
-    "no table, and 1 is a system that cannot be written.\n";
+    "Exit status: 0 all accepted, 1 some failed, 2 some turned down, 3 something could not be read, checked or\n"
+    "written, as a folder without a table, and a message says what; the highest of these; 64 wrong arguments.\n"
+    "With --columns, --aut and --dot 0 is done, 2 is a text that is no table, and 1 is a system that cannot be\n"
+    "written.\n";
+
+/* The exit status once all is written; another if it could not be. */
+static int finished(int status) {
+    int error = output_close(&standard_output);
+    return error ? complain(STATUS_UNREAD, "cannot write", strerror(error)) : status;
+}
 
 enum mode { CHECK, SHOW, TYPED_COLUMNS, AUT, DOT };
 
@@ -56,7 +69,14 @@ struct arguments {
 /* ---- arguments ---- */
 
 static _Noreturn void usage(const char *what, const char *which) {
-    fprintf(stderr, "linkcheck: %s%s%s\nlinkcheck --help tells what can be asked.\n", what, which ? ": " : "", which ? which : "");
+    struct output *m = message();
+    put(m, what);
+    if (which) {
+        put(m, ": ");
+        put_name(m, which);
+    }
+    put(m, "\nlinkcheck --help tells what can be asked.");
+    message_sent(m, STATUS_USAGE);
     exit(STATUS_USAGE);
 }
 
@@ -100,8 +120,8 @@ static struct arguments take_arguments(int count, char **argument) {
         } else if (strcmp(arg, "--") == 0) {
             options_end = 1;
         } else if (strcmp(arg, "--help") == 0) {
-            fputs(help, stdout);
-            exit(fflush(stdout) == 0 ? 0 : STATUS_UNREAD);
+            put(&standard_output, help);
+            exit(finished(0));
         } else if (strncmp(arg, "-j", 2) == 0) {
             const char *number = arg[2] ? arg + 2 : i + 1 < count ? argument[++i] : NULL;
             a.processes = process_count(number);
@@ -125,42 +145,28 @@ static enum side side_of(const char *word) {
 
 /* ---- one table ---- */
 
-/* The beginning of a message about a file. */
-static void complain(const char *name) {
-    fputs("linkcheck: ", stderr);
-    print_name(stderr, name);
-    fputs(": ", stderr);
-}
-
-static int cannot_read(const char *name, int error) {
-    complain(name);
-    fprintf(stderr, "%s\n", strerror(error));
-    return STATUS_UNREAD;
-}
-
 static int show(const char *name, const struct verdict *v) {
-    if (v->outcome != CHECK_TURNED_DOWN) show_table(stdout, &v->table);
-    print_name(stdout, name);
-    fputs("  ", stdout);
-    print_verdict(stdout, v);
-    putchar('\n');
+    struct output *out = &standard_output;
+    if (v->outcome != CHECK_TURNED_DOWN) show_table(out, &v->table);
+    put_name(out, name);
+    put(out, "  ");
+    print_verdict(out, v);
+    put(out, "\n");
     return (int)v->outcome;
 }
 
 static int system_of(const char *name, const struct table *t, enum mode mode, enum side side) {
-    const char *why = mode == AUT ? write_aut(stdout, t, side) : write_dot(stdout, t, side);
-    if (!why) return 0;
-    complain(name);
-    fprintf(stderr, "%s\n", why);
-    return 1;
+    const char *why = mode == AUT ? write_aut(&standard_output, t, side) : write_dot(&standard_output, t, side);
+    return why ? complain(1, name, why) : 0;
 }
 
 static int systems_of(const char *name, const struct verdict *v, enum mode mode, enum side first, enum side last) {
     if (v->outcome == CHECK_TURNED_DOWN) {
-        complain(name);
-        print_verdict(stderr, v);
-        fputc('\n', stderr);
-        return CHECK_TURNED_DOWN;
+        struct output *m = message();
+        put_name(m, name);
+        put(m, ": ");
+        print_verdict(m, v);
+        return message_sent(m, CHECK_TURNED_DOWN);
     }
     int status = system_of(name, &v->table, mode, first);
     return last == first ? status : system_of(name, &v->table, mode, last) | status;
@@ -171,24 +177,22 @@ static int look_at(const char *name, enum mode mode, enum side first, enum side 
     static struct text text;
     static struct verdict verdict;
     int error = text_read(&text, name);
-    if (error) return cannot_read(name, error);
+    if (error) return complain(STATUS_UNREAD, name, strerror(error));
     verdict_of(&verdict, &text);
     return mode == SHOW ? show(name, &verdict) : systems_of(name, &verdict, mode, first, last);
 }
 
-static int columns(const char *name) {
-    FILE *in = strcmp(name, "-") == 0 ? stdin : fopen(name, "r");
-    if (!in) return cannot_read(name, errno);
-    int status = write_columns(stdout, in, name) == 0 ? 0 : CHECK_TURNED_DOWN;
-    if (ferror(in)) status = cannot_read(name, errno);
-    if (in != stdin) fclose(in);
-    return status;
-}
-
 /* ---- all of it ---- */
+
+static void expect_one_standard_input(const struct arguments *a) {
+    int given = 0;
+    for (int i = 0; i < a->operands; i++) given += strcmp(a->operand[i], "-") == 0;
+    if (given > 1) usage("standard input can be given once", "-");
+}
 
 static int check(const struct arguments *a) {
     struct paths paths = {0};
+    expect_one_standard_input(a);
     for (int i = 0; i < a->operands; i++) paths_add(&paths, a->operand[i]);
     int status = run(&paths, a->format, a->processes);
     paths_free(&paths);
@@ -202,7 +206,7 @@ static int perform(const struct arguments *a) {
         return look_at(a->operand[0], SHOW, IMPLEMENTATION, SPECIFICATION);
     case TYPED_COLUMNS:
         expect_operands(a, 0, 1);
-        return columns(a->operands ? a->operand[0] : "-");
+        return write_columns(&standard_output, a->operands ? a->operand[0] : "-");
     case AUT:
     case DOT:
         expect_operands(a, 1, 2);
@@ -215,12 +219,20 @@ static int perform(const struct arguments *a) {
     }
 }
 
-int main(int count, char **argument) {
-    const struct arguments a = take_arguments(count, argument);
-    int status = perform(&a);
-    if (fflush(stdout) != 0 || ferror(stdout)) {
-        fprintf(stderr, "linkcheck: cannot write: %s\n", strerror(errno));
-        return STATUS_UNREAD;
+/* Opens a descriptor 0, 1 or 2 that is closed on nothing, as a file would get its number else: on a socket without another end, which can
+ * be neither read nor written, nor opened once more under a name like /dev/stdin. */
+static void fill_standard(void) {
+    static const char *const names[] = {"standard input", "standard output", "standard error"};
+    for (int file = STDIN_FILENO; file <= STDERR_FILENO; file++) {
+        if (fcntl(file, F_GETFD) >= 0) continue;
+        if (socket(AF_UNIX, SOCK_STREAM, 0) != file) exit(complain(STATUS_UNREAD, names[file], strerror(errno)));
+        if (file == STDIN_FILENO) standard_input.error = EBADF;
+        if (file == STDOUT_FILENO) standard_output.error = EBADF;
     }
-    return status;
+}
+
+int main(int count, char **argument) {
+    fill_standard();
+    const struct arguments a = take_arguments(count, argument);
+    return finished(perform(&a));
 }

@@ -1,7 +1,7 @@
 /* The files that are to be checked, in order. */
 #define _POSIX_C_SOURCE 200809L
 #include "paths.h"
-#include "verdict.h"
+#include "output.h"
 
 #include <dirent.h>
 #include <errno.h>
@@ -10,25 +10,20 @@
 #include <string.h>
 #include <sys/stat.h>
 
-_Noreturn void no_memory(void) {
-    fputs("linkcheck: no memory\n", stderr);
-    exit(STATUS_UNREAD);
-}
-
 static char *copy_of(const char *words) {
     char *copy = strdup(words);
     if (!copy) no_memory();
     return copy;
 }
 
-/* Keeps the name, which is on the heap. */
-static void keep(struct paths *p, char *name, const char *wrong) {
+/* Keeps the name and the text, which are on the heap. */
+static void keep(struct paths *p, char *name, const char *wrong, struct text *text) {
     if (p->count == p->room) {
         p->room = p->room ? 2 * p->room : 64;
         p->path = realloc(p->path, p->room * sizeof *p->path);
         if (!p->path) no_memory();
     }
-    p->path[p->count++] = (struct path){name, wrong ? copy_of(wrong) : NULL};
+    p->path[p->count++] = (struct path){name, wrong ? copy_of(wrong) : NULL, text};
 }
 
 static char *joined(const char *folder, const char *name) {
@@ -50,14 +45,14 @@ static void add_folder(struct paths *p, const char *folder);
 static void add_entry(struct paths *p, char *name) {
     struct stat link, file;
     if (lstat(name, &link) != 0 || stat(name, &file) != 0) {
-        keep(p, name, strerror(errno));
+        keep(p, name, strerror(errno), NULL);
     } else if (S_ISREG(file.st_mode)) {
-        keep(p, name, NULL);
+        keep(p, name, NULL, NULL);
     } else if (S_ISDIR(link.st_mode)) {
         add_folder(p, name);
         free(name);
     } else {
-        keep(p, name, S_ISDIR(file.st_mode) ? "a link to a folder, not followed" : "not a file");
+        keep(p, name, S_ISDIR(file.st_mode) ? "a link to a folder, not followed" : "not a file", NULL);
     }
 }
 
@@ -65,7 +60,7 @@ static void add_folder(struct paths *p, const char *folder) {
     struct dirent **entry;
     int count = scandir(folder, &entry, not_hidden, alphasort);
     if (count < 0) {
-        keep(p, copy_of(folder), strerror(errno));
+        keep(p, copy_of(folder), strerror(errno), NULL);
         return;
     }
     for (int i = 0; i < count; i++) {
@@ -75,18 +70,35 @@ static void add_folder(struct paths *p, const char *folder) {
     free(entry);
 }
 
+static void add_and_read(struct paths *p, const char *name) {
+    struct text *text = malloc(sizeof *text);
+    if (!text) no_memory();
+    int error = text_read(text, name);
+    keep(p, copy_of(name), error ? strerror(error) : NULL, text);
+}
+
 void paths_add(struct paths *p, const char *name) {
     struct stat file;
-    if (strcmp(name, "-") == 0) keep(p, copy_of(name), NULL);
-    else if (stat(name, &file) != 0) keep(p, copy_of(name), strerror(errno));
-    else if (S_ISDIR(file.st_mode)) add_folder(p, name);
-    else keep(p, copy_of(name), NULL);
+    const size_t before = p->count;
+    if (strcmp(name, "-") == 0) {
+        add_and_read(p, name);
+    } else if (stat(name, &file) != 0) {
+        keep(p, copy_of(name), strerror(errno), NULL);
+    } else if (S_ISDIR(file.st_mode)) {
+        add_folder(p, name);
+        if (p->count == before) keep(p, copy_of(name), "no table in this folder", NULL);
+    } else if (S_ISREG(file.st_mode)) {
+        keep(p, copy_of(name), NULL, NULL);
+    } else {
+        add_and_read(p, name);
+    }
 }
 
 void paths_free(struct paths *p) {
     for (size_t i = 0; i < p->count; i++) {
         free(p->path[i].name);
         free(p->path[i].wrong);
+        free(p->path[i].text);
     }
     free(p->path);
 }

@@ -2,67 +2,18 @@
  * the first process takes one answer from each pipe in turn, and so has them in order. */
 #define _POSIX_C_SOURCE 200809L
 #include "run.h"
-#include "explain.h"
 #include "json.h"
 
 #include <errno.h>
+#include <poll.h>
+#include <signal.h>
+#include <stdio.h>
 #include <stdlib.h>
 #include <string.h>
 #include <sys/types.h>
 #include <sys/wait.h>
 #include <time.h>
 #include <unistd.h>
-
-/* What is to be written for one file. */
-struct answer {
-    unsigned status; /* the exit status if it were alone */
-    size_t out_length, error_length;
-    char *out, *error;
-};
-
-/* ---- one file ---- */
-
-static void write_verdict(FILE *out, const char *name, const struct verdict *v, enum format format) {
-    switch (format) {
-    case REPORT: fwrite(v->report, 1, sizeof v->report, out); break;
-    case JSON: json_verdict(out, name, v); break;
-    case WORDS:
-        print_name(out, name);
-        fputs("  ", out);
-        print_verdict(out, v);
-        fputc('\n', out);
-    }
-}
-
-static void write_unread(FILE *out, FILE *error, const char *name, const char *why, enum format format) {
-    fputs("linkcheck: ", error);
-    print_name(error, name);
-    fprintf(error, ": %s\n", why);
-    if (format == JSON) json_unreadable(out, name, why);
-}
-
-static struct answer answer_to(const struct path *path, enum format format) {
-    static struct text text;
-    static struct verdict verdict;
-    struct answer a = {0};
-    FILE *out = open_memstream(&a.out, &a.out_length), *error = open_memstream(&a.error, &a.error_length);
-    if (!out || !error) no_memory();
-    const char *wrong = path->wrong;
-    if (!wrong) {
-        int number = text_read(&text, path->name);
-        if (number) wrong = strerror(number);
-    }
-    if (wrong) {
-        a.status = STATUS_UNREAD;
-        write_unread(out, error, path->name, wrong, format);
-    } else {
-        verdict_of(&verdict, &text);
-        a.status = verdict.outcome;
-        write_verdict(out, path->name, &verdict, format);
-    }
-    if (fclose(out) != 0 || fclose(error) != 0) no_memory();
-    return a;
-}
 
 /* ---- progress ---- */
 
@@ -79,51 +30,70 @@ static struct progress progress_start(size_t all) {
     return p;
 }
 
+/* If progress can't be shown, nothing is lost. */
 static void progress_clear(struct progress *p) {
-    if (p->shown) fputs("\r\033[K", stderr);
+    if (p->shown) write_all(STDERR_FILENO, "\r\033[K", 4);
     p->shown = 0;
 }
 
 /* One file more is done. A second after the start, and from then on once a second, it is said. */
 static void progress_step(struct progress *p) {
     struct timespec now;
+    char words[80];
     p->done++;
     if (!p->wanted) return;
     clock_gettime(CLOCK_MONOTONIC, &now);
     if (now.tv_sec - p->last.tv_sec < 1 || p->done == p->all) return;
     p->last = now;
-    fflush(stdout);
-    fprintf(stderr, "\rlinkcheck: %zu of %zu tables", p->done, p->all);
+    output_flush(&standard_output);
+    snprintf(words, sizeof words, "\rlinkcheck: %zu of %zu tables", p->done, p->all);
+    write_all(STDERR_FILENO, words, strlen(words));
     p->shown = 1;
 }
 
 /* ---- the answers together ---- */
 
 struct tally {
+    enum format format;
     size_t with_status[STATUS_UNREAD + 1];
     struct progress progress;
 };
 
-static void give(struct tally *t, struct answer *a) {
-    if (t->progress.in_the_way || a->error_length) progress_clear(&t->progress);
-    fwrite(a->out, 1, a->out_length, stdout);
-    if (a->error_length) {
-        fflush(stdout);
-        fwrite(a->error, 1, a->error_length, stderr);
+/* A file that could not be read has a line where others have their report, as long as one. Its first field is no verdict, and what follows
+ * is no number, so that nothing takes it for a report. */
+static const char not_read[] = "     9 not read               \n";
+
+static void give_unread(enum format format, const char *name, const char *why) {
+    output_flush(&standard_output);
+    complain(STATUS_UNREAD, name, why);
+    if (format == REPORT) put(&standard_output, not_read);
+    if (format == JSON) {
+        json_unreadable(&standard_output, name, why);
+        put(&standard_output, "\n");
     }
+}
+
+static void give(struct tally *t, const char *name, const struct answer *a) {
+    if (t->progress.in_the_way || a->status == STATUS_UNREAD) progress_clear(&t->progress);
+    if (a->status == STATUS_UNREAD) {
+        give_unread(t->format, name, a->words);
+    } else {
+        put_bytes(&standard_output, a->words, a->length);
+        put(&standard_output, "\n");
+    }
+    if (t->progress.in_the_way) output_flush(&standard_output);
     t->with_status[a->status]++;
-    free(a->out);
-    free(a->error);
+    free(a->words);
     progress_step(&t->progress);
 }
 
 static void summary(const struct tally *t) {
     const size_t *with = t->with_status;
     size_t tables = with[CHECK_ACCEPTED] + with[CHECK_FAILED] + with[CHECK_TURNED_DOWN];
-    printf("%zu table%s: %zu accepted, %zu failed, %zu turned down", tables, tables == 1 ? "" : "s", with[CHECK_ACCEPTED], with[CHECK_FAILED],
-           with[CHECK_TURNED_DOWN]);
-    if (with[STATUS_UNREAD]) printf("; %zu not read", with[STATUS_UNREAD]);
-    putchar('\n');
+    print(&standard_output, "%zu table%s: %zu accepted, %zu failed, %zu turned down", tables, tables == 1 ? "" : "s", with[CHECK_ACCEPTED],
+          with[CHECK_FAILED], with[CHECK_TURNED_DOWN]);
+    if (with[STATUS_UNREAD]) print(&standard_output, "; %zu not read", with[STATUS_UNREAD]);
+    put(&standard_output, "\n");
 }
 
 static int highest_status(const struct tally *t) {
@@ -134,99 +104,97 @@ static int highest_status(const struct tally *t) {
 
 /* ---- several processes ---- */
 
+enum { NONE = -1 };
+
 struct worker {
     pid_t process;
-    int answers; /* the reading end of its pipe */
+    int answers; /* the reading end of its pipe; NONE after something else than an answer came */
 };
 
-/* Moves all the bytes, by read or by write. Gives whether it could. */
-static int receive(int from, void *bytes, size_t length) {
-    for (char *at = bytes; length > 0;) {
-        ssize_t got = read(from, at, length);
-        if (got < 0 && errno == EINTR) continue;
-        if (got <= 0) return 0;
-        at += got;
-        length -= (size_t)got;
-    }
-    return 1;
+static int answers_to; /* the writing end of a worker's pipe */
+
+/* A worker ends when nobody can read its answers any more, as the first process is gone. It looks every second. */
+static void look_for_reader(int alarm_signal) {
+    const int kept = errno;
+    struct pollfd end = {.fd = answers_to};
+    (void)alarm_signal;
+    if (poll(&end, 1, 0) > 0) _exit(STATUS_UNREAD);
+    alarm(1);
+    errno = kept;
 }
 
-static int send_all(int to, const void *bytes, size_t length) {
-    for (const char *at = bytes; length > 0;) {
-        ssize_t put = write(to, at, length);
-        if (put < 0 && errno == EINTR) continue;
-        if (put <= 0) return 0;
-        at += put;
-        length -= (size_t)put;
-    }
-    return 1;
+static void end_with_reader(int to) {
+    struct sigaction look = {.sa_handler = look_for_reader, .sa_flags = SA_RESTART};
+    sigset_t alarms;
+    answers_to = to;
+    sigemptyset(&alarms);
+    sigaddset(&alarms, SIGALRM);
+    sigaction(SIGALRM, &look, NULL);
+    sigprocmask(SIG_UNBLOCK, &alarms, NULL);
+    alarm(1);
 }
 
 static _Noreturn void work(const struct paths *paths, enum format format, size_t first, size_t step, int to) {
+    end_with_reader(to);
     for (size_t i = first; i < paths->count; i += step) {
         struct answer a = answer_to(&paths->path[i], format);
-        if (!send_all(to, &a, sizeof a) || !send_all(to, a.out, a.out_length) || !send_all(to, a.error, a.error_length)) _exit(STATUS_UNREAD);
-        free(a.out);
-        free(a.error);
+        if (!send_answer(to, i, &a)) _exit(STATUS_UNREAD);
+        free(a.words);
     }
     _exit(0);
 }
 
-static int start_worker(struct worker *w, const struct paths *paths, enum format format, size_t first, size_t step) {
+/* Starts worker k. It holds the writing end of its own pipe, and no end of another's. */
+static bool start_worker(struct worker *worker, size_t k, const struct paths *paths, enum format format, size_t step) {
     int ends[2];
-    if (pipe(ends) != 0) return 0;
-    w->process = fork();
-    if (w->process == 0) {
-        close(ends[0]);
-        work(paths, format, first, step, ends[1]);
+    if (pipe(ends) != 0) return false;
+    worker[k] = (struct worker){.process = fork(), .answers = ends[0]};
+    if (worker[k].process == 0) {
+        for (size_t other = 0; other <= k; other++) close(worker[other].answers);
+        work(paths, format, k, step, ends[1]);
     }
     close(ends[1]);
-    w->answers = ends[0];
-    if (w->process < 0) close(ends[0]);
-    return w->process > 0;
+    if (worker[k].process < 0) close(ends[0]);
+    return worker[k].process > 0;
 }
 
-/* The next answer of a worker. If it ended early, as for want of memory, its file counts as not read. */
-static struct answer next_answer(const struct worker *w, const struct path *path, enum format format) {
+/* The next answer of a worker. If it failed, as for want of memory, its files from here on count as not read. */
+static struct answer next_answer(struct worker *w, size_t number, const char *name) {
     struct answer a;
-    if (receive(w->answers, &a, sizeof a)) {
-        a.out = malloc(a.out_length + 1);
-        a.error = malloc(a.error_length + 1);
-        if (!a.out || !a.error) no_memory();
-        if (receive(w->answers, a.out, a.out_length) && receive(w->answers, a.error, a.error_length)) return a;
-        free(a.out);
-        free(a.error);
-    }
-    char wrong[] = "the process that checked it ended early";
-    return answer_to(&(struct path){path->name, wrong}, format);
+    if (w->answers != NONE && take_answer(w->answers, number, name, &a)) return a;
+    if (w->answers != NONE) close(w->answers);
+    w->answers = NONE;
+    return unread("not checked, as the process for it failed");
 }
 
-static void run_workers(struct tally *t, const struct paths *paths, enum format format, size_t processes) {
+static void end_worker(struct worker *w) {
+    if (w->answers != NONE) close(w->answers);
+    while (waitpid(w->process, NULL, 0) < 0 && errno == EINTR) continue;
+}
+
+static void run_workers(struct tally *t, const struct paths *paths, size_t processes) {
     struct worker worker[MOST_PROCESSES];
     size_t started = 0;
-    while (started < processes && start_worker(&worker[started], paths, format, started, processes)) started++;
+    while (started < processes && start_worker(worker, started, paths, t->format, processes)) started++;
     for (size_t i = 0; i < paths->count; i++) {
         const struct path *path = &paths->path[i];
         size_t k = i % processes;
         /* What a process that could not be started would have done is done here. */
-        struct answer a = k < started ? next_answer(&worker[k], path, format) : answer_to(path, format);
-        give(t, &a);
+        struct answer a = k < started ? next_answer(&worker[k], i, path->name) : answer_to(path, t->format);
+        give(t, path->name, &a);
     }
-    for (size_t k = 0; k < started; k++) {
-        close(worker[k].answers);
-        waitpid(worker[k].process, NULL, 0);
-    }
+    for (size_t k = 0; k < started; k++) end_worker(&worker[k]);
 }
 
 int run(const struct paths *paths, enum format format, size_t processes) {
-    struct tally t = {.progress = progress_start(paths->count)};
+    struct tally t = {.format = format, .progress = progress_start(paths->count)};
     if (processes > paths->count) processes = paths->count;
     if (processes > 1) {
-        run_workers(&t, paths, format, processes);
+        run_workers(&t, paths, processes);
     } else {
         for (size_t i = 0; i < paths->count; i++) {
             struct answer a = answer_to(&paths->path[i], format);
-            give(&t, &a);
+            give(&t, paths->path[i].name, &a);
         }
     }
     progress_clear(&t.progress);

@@ -3,13 +3,13 @@
 #include "show.h"
 #include "terms.h"
 
-static void show_parameters(FILE *out, const struct process *p, char letter) {
+static void show_parameters(struct output *out, const struct process *p, char letter) {
     for (unsigned i = 0; i < p->parameters; i++)
-        fprintf(out, "  %c%u of size %u, initially %u\n", letter, i, p->size[i], p->initial[i]);
+        print(out, "  %c%u of size %u, initially %u\n", letter, i, p->size[i], p->initial[i]);
 }
 
 /* The next values of the parameters that do not keep theirs. */
-static void show_next(FILE *out, const struct process *p, const struct row *row, char letter) {
+static void show_next(struct output *out, const struct process *p, const struct row *row, char letter) {
     const char *before = "";
     term next = row->next;
     for (unsigned i = 0; i < p->parameters; i++) {
@@ -17,51 +17,51 @@ static void show_next(FILE *out, const struct process *p, const struct row *row,
             next += 2;
             continue;
         }
-        fprintf(out, "%s%c%u := ", before, letter, i);
+        print(out, "%s%c%u := ", before, letter, i);
         next = print_value(out, next, letter);
         before = ", ";
     }
-    if (!*before) fputs("no change", out);
+    if (!*before) put(out, "no change");
 }
 
-static void show_row(FILE *out, const struct process *p, unsigned r, char letter) {
+static void show_row(struct output *out, const struct process *p, unsigned r, char letter) {
     const struct row *row = &p->row[r];
-    fprintf(out, "  row %u: ", r + 1);
-    if (row->span > 1) fprintf(out, "for s below %u, ", row->span);
+    print(out, "  row %u: ", r + 1);
+    if (row->span > 1) print(out, "for s below %u, ", row->span);
     if (row->action == INTERNAL) {
-        fputs("tau", out);
+        put(out, "tau");
     } else {
-        fprintf(out, "a%u(", row->action);
+        print(out, "a%u(", row->action);
         print_value(out, row->data, letter);
-        fputc(')', out);
+        put(out, ")");
     }
-    fputs(" when ", out);
+    put(out, " when ");
     print_formula(out, row->condition, letter);
-    fputs(", then ", out);
+    put(out, ", then ");
     show_next(out, p, row, letter);
-    fputc('\n', out);
+    put(out, "\n");
 }
 
-static void show_process(FILE *out, const struct process *p, char letter) {
+static void show_process(struct output *out, const struct process *p, char letter) {
     show_parameters(out, p, letter);
     for (unsigned r = 0; r < p->rows; r++) show_row(out, p, r, letter);
 }
 
-void show_table(FILE *out, const struct table *t) {
-    fputs("implementation\n", out);
+void show_table(struct output *out, const struct table *t) {
+    put(out, "implementation\n");
     show_process(out, &t->impl, 'p');
-    fputs("specification\n", out);
+    put(out, "specification\n");
     show_process(out, &t->spec, 'q');
-    fputs("invariant\n  ", out);
+    put(out, "invariant\n  ");
     print_formula(out, t->invariant, 'p');
-    fputs("\nmapping\n", out);
+    put(out, "\nmapping\n");
     term value = t->mapping;
     for (unsigned i = 0; i < t->spec.parameters; i++) {
-        fprintf(out, "  q%u = ", i);
+        print(out, "  q%u = ", i);
         value = print_value(out, value, 'p');
-        fputc('\n', out);
+        put(out, "\n");
     }
-    fputs("measure\n  ", out);
+    put(out, "measure\n  ");
     print_value(out, t->measure, 'p');
-    fputc('\n', out);
+    put(out, "\n");
 }

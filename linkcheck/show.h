@@ -2,22 +2,22 @@
 #ifndef SHOW_H
 #define SHOW_H
 
+#include "output.h"
 #include "table.h"
 
-#include <stdio.h>
-
 /* Writes the table for a person, with its terms in infix. */
-void show_table(FILE *out, const struct table *t);
+void show_table(struct output *out, const struct table *t);
 
 enum side { IMPLEMENTATION, SPECIFICATION };
 
 /* Write the transition system that the initial state reaches, within the sizes, and within the invariant on the implementation's side: in
  * the Aldebaran format, or as a Graphviz picture. Give NULL, or why there is none. */
-const char *write_aut(FILE *out, const struct table *t, enum side side);
-const char *write_dot(FILE *out, const struct table *t, enum side side);
+const char *write_aut(struct output *out, const struct table *t, enum side side);
+const char *write_dot(struct output *out, const struct table *t, enum side side);
 
-/* Makes six-column lines from numbers with any blanks between them; lines of blanks alone are left out. Gives 0, or -1 after a message on
- * standard error that begins with the name. */
-int write_columns(FILE *out, FILE *in, const char *name);
+/* Makes six-column lines from the numbers in a file, or in standard input for "-", with any blanks between them; lines of blanks alone are
+ * left out. Nothing is written before the end is read. Gives the exit status, after a message unless it is 0: 2 for what is no table, 3 if
+ * it could not be read. */
+int write_columns(struct output *out, const char *name);
 
 #endif

@@ -77,8 +77,8 @@ unsigned measure(const struct table *t, const struct state *s) {
     return value_at(t->measure, s->value, NO_SUM);
 }
 
-void print_state(FILE *out, const struct process *p, const struct state *s) {
-    fputc('(', out);
-    for (unsigned i = 0; i < p->parameters; i++) fprintf(out, "%s%u", i ? ", " : "", s->value[i]);
-    fputc(')', out);
+void print_state(struct output *out, const struct process *p, const struct state *s) {
+    put(out, "(");
+    for (unsigned i = 0; i < p->parameters; i++) print(out, "%s%u", i ? ", " : "", s->value[i]);
+    put(out, ")");
 }

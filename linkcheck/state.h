@@ -2,10 +2,10 @@
 #ifndef STATE_H
 #define STATE_H
 
+#include "output.h"
 #include "table.h"
 
 #include <stdbool.h>
-#include <stdio.h>
 
 /* One value for each parameter of a process. */
 struct state {
@@ -38,6 +38,6 @@ struct state mapped(const struct table *t, const struct state *s);
 unsigned measure(const struct table *t, const struct state *s);
 
 /* Writes the values as (2, 1). */
-void print_state(FILE *out, const struct process *p, const struct state *s);
+void print_state(struct output *out, const struct process *p, const struct state *s);
 
 #endif

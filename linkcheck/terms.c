@@ -126,7 +126,7 @@ enum { LOOSE, CHOOSES, ADDS = 2, DIVIDES, LEAF };
 enum { EITHER = 1, BOTH, COMPARES, DENIES };
 
 struct printer {
-    FILE *out;
+    struct output *out;
     char letter;
 };
 
@@ -136,41 +136,41 @@ static void value_text(struct printer *p, term *at, int place) {
     static const int binds[] = {LEAF, LEAF, LEAF, ADDS, ADDS, DIVIDES, CHOOSES};
     unsigned mark = *(*at)++;
     bool brackets = binds[mark] < place;
-    if (brackets) fputc('(', p->out);
+    if (brackets) put(p->out, "(");
     switch (mark) {
-    case NUMBER: fprintf(p->out, "%u", *(*at)++); break;
-    case PARAMETER: fprintf(p->out, "%c%u", p->letter, *(*at)++); break;
-    case SUM_VALUE: fputc('s', p->out); break;
+    case NUMBER: print(p->out, "%u", *(*at)++); break;
+    case PARAMETER: print(p->out, "%c%u", p->letter, *(*at)++); break;
+    case SUM_VALUE: put(p->out, "s"); break;
     case SUM:
         value_text(p, at, ADDS);
-        fputs(" + ", p->out);
+        put(p->out, " + ");
         value_text(p, at, ADDS); /* modulo 65,536, a + (b - c) is a + b - c */
         break;
     case DIFFERENCE:
         value_text(p, at, ADDS);
-        fputs(" - ", p->out);
+        put(p->out, " - ");
         value_text(p, at, DIVIDES);
         break;
     case REMAINDER:
         value_text(p, at, DIVIDES);
-        fputs(" mod ", p->out);
+        put(p->out, " mod ");
         value_text(p, at, LEAF);
         break;
     case CHOICE:
-        fputs("if ", p->out);
+        put(p->out, "if ");
         formula_text(p, at, LOOSE);
-        fputs(" then ", p->out);
+        put(p->out, " then ");
         value_text(p, at, ADDS);
-        fputs(" else ", p->out);
+        put(p->out, " else ");
         value_text(p, at, CHOOSES);
         break;
     }
-    if (brackets) fputc(')', p->out);
+    if (brackets) put(p->out, ")");
 }
 
 static void comparison_text(struct printer *p, term *at, const char *sign) {
     value_text(p, at, ADDS);
-    fprintf(p->out, " %s ", sign);
+    print(p->out, " %s ", sign);
     value_text(p, at, ADDS);
 }
 
@@ -180,7 +180,7 @@ static void denial_text(struct printer *p, term *at) {
         ++*at;
         comparison_text(p, at, mark == EQUAL ? "!=" : ">=");
     } else {
-        fputs("not ", p->out);
+        put(p->out, "not ");
         formula_text(p, at, DENIES);
     }
 }
@@ -190,27 +190,27 @@ static void formula_text(struct printer *p, term *at, int place) {
     unsigned mark = *(*at)++;
     int own = binds[mark - TRUE];
     bool brackets = own < place;
-    if (brackets) fputc('(', p->out);
+    if (brackets) put(p->out, "(");
     switch (mark) {
-    case TRUE: fputs("true", p->out); break;
-    case FALSE: fputs("false", p->out); break;
+    case TRUE: put(p->out, "true"); break;
+    case FALSE: put(p->out, "false"); break;
     case EQUAL: comparison_text(p, at, "="); break;
     case LESS: comparison_text(p, at, "<"); break;
     case NOT: denial_text(p, at); break;
     default:
         formula_text(p, at, own);
-        fputs(mark == AND ? " and " : " or ", p->out);
+        put(p->out, mark == AND ? " and " : " or ");
         formula_text(p, at, own);
     }
-    if (brackets) fputc(')', p->out);
+    if (brackets) put(p->out, ")");
 }
 
-term print_value(FILE *out, term v, char letter) {
+term print_value(struct output *out, term v, char letter) {
     value_text(&(struct printer){out, letter}, &v, LOOSE);
     return v;
 }
 
-term print_formula(FILE *out, term f, char letter) {
+term print_formula(struct output *out, term f, char letter) {
     formula_text(&(struct printer){out, letter}, &f, LOOSE);
     return f;
 }

@@ -2,10 +2,10 @@
 #ifndef TERMS_H
 #define TERMS_H
 
+#include "output.h"
 #include "table.h"
 
 #include <stdbool.h>
-#include <stdio.h>
 
 /* The marks of values and of formulas. */
 enum { NUMBER = 0, PARAMETER, SUM_VALUE, SUM, DIFFERENCE, REMAINDER, CHOICE };
@@ -32,7 +32,7 @@ bool holds_at(term f, const unsigned *parameters, unsigned sum);
 void values_at(term v, unsigned count, const unsigned *parameters, unsigned sum, unsigned *values);
 
 /* Writes a term in infix, with brackets where they are needed; parameter i is the letter with i. Gives where the term ends. */
-term print_value(FILE *out, term v, char letter);
-term print_formula(FILE *out, term f, char letter);
+term print_value(struct output *out, term v, char letter);
+term print_formula(struct output *out, term f, char letter);
 
 #endif

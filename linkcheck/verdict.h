@@ -7,9 +7,6 @@
 
 #include <stdbool.h>
 
-/* The exit status if something can't be read or written. */
-enum { STATUS_UNREAD = 3 };
-
 /* A text as it was read, up to the first byte that makes it too long. */
 struct text {
     uint8_t bytes[MAX_TEXT + 1];

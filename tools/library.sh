@@ -4,7 +4,5 @@ set -euo pipefail
 cd "$(dirname "$0")/.."
 library=target/staticlib/lib$1.a
 if [ -f "$library" ] && [ -z "$(find crates crates.txt -newer "$library" -print -quit)" ]; then exit 0; fi
-log=$(mktemp)
-trap 'rm -f "$log"' EXIT
-rt staticlib "$1" 2>&1 | tee "$log" | sed -un '/^rt:/p' >&2 || { tail -n 20 "$log" >&2; exit 1; }
+tools/rt.sh staticlib "$1"
 touch "$library"
