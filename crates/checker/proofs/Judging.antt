@@ -38,7 +38,7 @@ use Rattle.checker.proofs.Stages.{Stage, fresh, going, accepts, fails, 
 
 -- a text without fault is held, and nothing is tried yet
 pub opened-stage : (text : List ℕ) → faultOf text ≡ 0 → Stage text (opened (heldBy (fieldsByLine text)))
-opened-stage text ok = fresh (record { free = ok; held = record { fields-are = refl; starts-are = refl; counts-are = refl; plan-is = refl } }) refl refl
+opened-stage text ok = fresh (record { free = ok; held = record { fields-are = refl; starts-are = refl; counts-are = refl }; plan-is = refl }) refl refl
 
 pub loaded-free : (d : Desk) (text : List ℕ) → faultOf text ≡ 0 → loadEmpty d (loadedOf text) ≡ record { answer = done.Done; desk = opened (heldBy (fieldsByLine text)) }
 unfolding loadEmpty loadedOf
@@ -102,7 +102,7 @@ module _ (text : List ℕ) (e : Desk) (ee : e ≡ emptyDesk) (a : AfterLoad) (ea
       let f = loaded ∙ loaded-free emptyDesk text ok in
       let desk : Desk = opened (heldBy (fieldsByLine text)) in
       let same : a .desk ≡ desk = ap (λ x. x .desk) f in
-      let ready : Ready text desk = record { free = ok; held = record { fields-are = refl; starts-are = refl; counts-are = refl; plan-is = refl } } in
+      let ready : Ready text desk = record { free = ok; held = record { fields-are = refl; starts-are = refl; counts-are = refl }; plan-is = refl } in
       let adv = advance-fresh text desk 18446744073709551615 (λ n. omega arith) ready refl refl in
       let most = few text desk ready in
       rw (z, same) (decided-report text (advanceOf desk 18446744073709551615 .desk) (adv .stage) (adv .ends (omega arith)))

@@ -24,10 +24,11 @@ use Rattle.desk.specs.Said.{saidWalked, walkedBy}
 use Rattle.desk.specs.Desk.{HoldsText}
 use Rattle.desk.specs.declared.Desk.{Desk}
 
--- the text has no fault, and the desk holds its lines
+-- the text has no fault, the desk holds its lines, and its plan is that of its arrays
 pub record Ready (text : List ℕ) (desk : Desk) : Type 0 where
   pub free : faultOf text ≡ 0
   pub held : HoldsText text desk
+  pub plan-is : desk .plan ≡ planOf (desk .fields) (desk .starts) (desk .counts)
 
 -- ---- arrays that hold a design
 
@@ -91,5 +92,5 @@ module _ (text : List ℕ) (desk : Desk) (r : Ready text desk) where
   pub walk-is : (n from : ℕ) → from + n ≤ states (designText text)
       → walkedBy (desk .fields) (desk .starts) (desk .counts) (desk .plan) n from ≡ saidWalked (walk (examine (designText text)) n from)
   walk-is n from l =
-      rw (h .plan-is, h .fields-are, h .starts-are, h .counts-are)
+      rw (r .plan-is, h .fields-are, h .starts-are, h .counts-are)
       (walk-of (fieldsHeld lines) (startsHeld lines) (countsOf lines) (counts-allowed text (r .free)) d (design-in text (r .free)) n from l few)

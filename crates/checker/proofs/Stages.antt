@@ -52,7 +52,7 @@ pub data Stage (text : List ℕ) (desk : Desk) : Type 0 where
 moved : {text : List ℕ} {desk : Desk} (n : ℕ) (p : Phase) → Ready text desk → Ready text (placed desk n p)
 moved n p h =
     let t = h .held in
-    record { free = h .free; held = record { fields-are = t .fields-are; starts-are = t .starts-are; counts-are = t .counts-are; plan-is = t .plan-is } }
+    record { free = h .free; held = record { fields-are = t .fields-are; starts-are = t .starts-are; counts-are = t .counts-are }; plan-is = h .plan-is }
 
 -- answers and phases are told apart
 failed-answer : {j k : ℕ} → advance.Failed j ≡ advance.Accepted k → ⊥

@@ -61,7 +61,7 @@ pub opened-by : {d : Desk} {text : List ℕ} {r : AfterLoad} → DesignText text
 opened-by {d} {text} t p e =
     let free = free-exactly text .1 t in
     rw (loaded-as p ∙ load-at d text e ∙ loaded-free d text free)
-    (record { number-is = refl; answer-is = refl; opens = refl; at-first = refl; holds = record { fields-are = refl; starts-are = refl; counts-are = refl; plan-is = refl } })
+    (record { number-is = refl; answer-is = refl; opens = refl; at-first = refl; holds = record { fields-are = refl; starts-are = refl; counts-are = refl } })
 
 pub turned-by : (d : Desk) (text : List ℕ) → faultOf text ≢ 0 → TurnsDown d text
 turned-by d text z =

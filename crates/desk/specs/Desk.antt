@@ -46,12 +46,11 @@ emptyDesk = record {
 abbrev pub placed : Desk → ℕ → Phase → Desk
 placed d n p = record { fields = d .fields; starts = d .starts; counts = d .counts; plan = d .plan; next = n; phase = p }
 
--- "It keeps its own copy of the fields": the desk's arrays hold the lines of a text, and its plan is that of the arrays
+-- "It keeps its own copy of the fields": the desk's arrays hold the lines of a text
 pub record HoldsText (text : List ℕ) (desk : Desk) : Type 0 where
   pub fields-are : desk .fields ≡ fieldsHeld (fieldsByLine text)
   pub starts-are : desk .starts ≡ startsHeld (fieldsByLine text)
   pub counts-are : desk .counts ≡ countsOf (fieldsByLine text)
-  pub plan-is : desk .plan ≡ planOf (desk .fields) (desk .starts) (desk .counts)
 
 -- ---- "Load takes a text and opens the desk"
 
