@@ -222,17 +222,16 @@ fn copy_fields(part: &[u8], fields: &mut [u16; 4096], to: usize) -> usize
     ensures { λ r. ⌜ r ≡ length (fieldsOf (now (part .entry))) ⌝ }
     ensures { λ _. ⌜ now (fields .exit) ≡ sets (now (fields .entry)) to (fieldsOf (now (part .entry))) ⌝ }
 {
-    let most = part.len() / reader::COLUMNS;
     let mut k = 0;
-    while k < most {
-        let f = reader::field_at(part, k);
+    loop {
+        let step = reader::step_at(part, k);
+        let f = step.field;
         let Field::Number(n) = f else {
             return k;
         };
         fields[to + k] = n;
-        k += 1;
+        k = step.at;
     }
-    k
 }
 
 // How many fields line i has.

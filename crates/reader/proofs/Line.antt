@@ -1,7 +1,7 @@
 -- Laws of a line's fields (specs/Line). The first field, and those after it (`first-field`, `no-field`); a part that starts after the
 -- k-th field has the later fields (`rest-fields`); bytes that are written fields have just these (`fields-written`), and what has
 -- its fields as a whole is their writing (`whole-written`).
-use Prim.Native.Nat.{ℕ, zero, suc, _+_, _-_, _*_, _/_, _<_, _≤_}
+use Prim.Native.Nat.{ℕ, zero, suc, _+_, _-_, _*_, _/_, _^_, _<_, _≤_}
 use mathlib.Core.Path.{_≡_, refl, sym, ap, _∙_}
 use mathlib.Core.Logic.{_≢_}
 use mathlib.Core.List.{List, [], _∷_, _++_, append-assoc}
@@ -9,7 +9,8 @@ use native.Mathlib.Omega.{arith}
 use lib.ListN.{length, take, drop, length-take, length-drop, drop-of-length-le}
 use lib.Seq.{take-all, drop-drop, take-at, drop-at, take-add}
 use Rattle.reader.specs.Columns.{columnsOf, fieldOf}
-use Rattle.reader.specs.Line.{written, Each16, none, more, fieldAt, andThen, fieldsFrom, fieldsOf}
+use Rattle.reader.specs.Line.{written, Each16, none, more, fieldAt, andThen, fieldsFrom, fieldsOf, after, stepAt}
+use Rattle.reader.specs.declared.Step.{Step}
 use Rattle.reader.specs.declared.Field.{Field}
 use Rattle.reader.specs.declared.Field.the-variants.{Number, Malformed}
 use Rattle.reader.proofs.Columns.{is-field, six, read-back}
@@ -59,6 +60,58 @@ none-from (suc k) bytes e = rw e
 pub no-field : (bytes : List ℕ) → fieldAt bytes 0 ≡ Malformed → fieldsOf bytes ≡ []
 unfolding fieldsOf
 no-field bytes e = none-from (length bytes / 6) bytes e
+
+-- ---- a step of the reader
+
+module _ (bytes : List ℕ) (k : ℕ) (f : Field) (ef : f ≡ fieldAt bytes k) where
+  step-by : record { field = f; at = after f k } ≡ stepAt bytes k
+  step-by = ap (λ (g : Field). record { field = g; at = after g k }) ef
+
+  pub step-stays : f ≡ Malformed → record { field = f; at = k } ≡ stepAt bytes k
+  step-stays e = rw (← step-by, e)
+
+  pub step-goes : (n : ℕ) → f ≡ Number n → record { field = f; at = k + 1 } ≡ stepAt bytes k
+  step-goes n e = rw (← step-by, e)
+
+  pub field-inside : (n : ℕ) → f ≡ Number n → 6 * (k + 1) ≤ length bytes
+  field-inside n e = omega (arith, field-here (drop (6 * k) bytes) n (sym ef ∙ e), length-drop (6 * k) bytes)
+
+  pub step-fits : (n : ℕ) → f ≡ Number n → length bytes < 2 ^ 64 → k + 1 < 2 ^ 64
+  step-fits n e h = omega (arith, field-inside n e)
+
+-- what a step says: a field is passed, and where there is none the reader stands still
+module _ (bytes : List ℕ) (k : ℕ) (s : Step) (es : s ≡ stepAt bytes k) where
+  pub step-field : s .field ≡ fieldAt bytes k
+  step-field = ap (λ (t : Step). t .field) es
+
+  step-at : s .at ≡ after (s .field) k
+  step-at = ap (λ (t : Step). t .at) es ∙ ap (λ (f : Field). after f k) (sym step-field)
+
+  pub step-moved : (n : ℕ) → s .field ≡ Number n → s .at ≡ k + 1
+  step-moved n e = rw (step-at, e)
+
+  -- the reader stands still, or goes on
+  stood-by : (f : Field) → s .field ≡ f → s .at ≡ k → f ≡ Malformed
+  stood-by Malformed e h = refl
+  stood-by (Number n) e h = let m = step-moved n e in let z : ⊥ = omega arith in absurd z
+
+  pub stood : s .at ≡ k → s .field ≡ Malformed
+  stood = stood-by (s .field) refl
+
+  went-by : (f : Field) → s .field ≡ f → s .at ≢ k → (n : ℕ) × (f ≡ Number n)
+  went-by Malformed e h = absurd (h (rw (step-at, e)))
+  went-by (Number n) e h = (n, refl)
+
+  pub went : s .at ≢ k → (n : ℕ) × (s .field ≡ Number n)
+  went = went-by (s .field) refl
+
+  at-most : (f : Field) → s .field ≡ f → 6 * k ≤ length bytes → 6 * s .at ≤ length bytes
+  at-most Malformed e h = let m : s .at ≡ k = rw (step-at, e) in omega arith
+  at-most (Number n) e h = omega (arith, step-moved n e, field-inside bytes k (s .field) step-field n e)
+
+  -- it stays within the bytes
+  pub step-within : 6 * k ≤ length bytes → 6 * s .at ≤ length bytes
+  step-within = at-most (s .field) refl
 
 -- ---- the fields after the k-th
 

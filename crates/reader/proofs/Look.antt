@@ -30,6 +30,8 @@ use denote.Struct.Values.{Values}
 use Rattle.reader.specs.declared.LineReader.{LineReader}
 use Rattle.reader.proofs.LineReader as T
 use Rattle.reader.proofs.LineReader.Laws as T′
+use Rattle.reader.proofs.Next as N
+use Rattle.reader.proofs.Next.Laws as N′
 
 -- the reader's type, over the signature's lifetimes
 abbrev pub Reader : Lfts 1 → RattleType
@@ -42,6 +44,16 @@ Decl κs = T.the-type (namedLft 1 0 tt κs)
 abbrev pub Laws : (κs : Lfts 1) → LL.Laws (Decl κs)
 Laws κs = T′.the-laws (namedLft 1 0 tt κs)
 
+-- and those of a field beside a reader
+abbrev pub NextRow : Lfts 1 → RattleType
+NextRow κs = N.the-row (namedLft 1 0 tt κs)
+
+abbrev pub NextDecl : Lfts 1 → Declared
+NextDecl κs = N.the-type (namedLft 1 0 tt κs)
+
+abbrev pub NextLaws : (κs : Lfts 1) → LL.Laws (NextDecl κs)
+NextLaws κs = N′.the-laws (namedLft 1 0 tt κs)
+
 -- a lifetime as the locals of a body have it: MIR erases its name
 abbrev pub inBody : Lft → NamedLft
 inBody κ = record { mir = erased; lft = κ }
@@ -53,12 +65,15 @@ bytesVal s = sliceVal (s .ptr) (length (s .now))
 abbrev pub twoVals : RefT (List ℕ) → ℕ → List Val × (List Val × Unit {0})
 twoVals s n = (bytesVal s ∷ [], (vint w64 n ∷ [], tt))
 
--- what bytes own, what bytes and a number own, and what a reader owns
+-- what bytes own, what a number owns, what both own, and what a reader owns
 abbrev pub Bytes : Lft → RattleType
 Bytes κ = ShrSlice (named 0) κ u8
 
 abbrev pub OwnBytes : Lft → RefT (List ℕ) → Fml
 OwnBytes κ s = Bytes κ .own s (bytesVal s ∷ [])
+
+abbrev pub OwnNumber : ℕ → Fml
+OwnNumber n = owns (usize ∷ []) (n, tt) (vint w64 n ∷ [], tt)
 
 abbrev pub OwnTwo : Lft → RefT (List ℕ) → ℕ → Fml
 OwnTwo κ s n = owns (Bytes κ ∷ usize ∷ []) (s, (n, tt)) (twoVals s n)

@@ -8,8 +8,10 @@ use mathlib.Core.Logic.{_≢_}
 use mathlib.Core.List.{List, [], _∷_, _++_}
 use lib.ListN.{length, take, drop}
 use Rattle.reader.specs.Columns.{columnsOf, fieldOf}
-use denote.Ref.{RefT}
+use denote.Ref.{RefT, now}
 use Rattle.reader.specs.declared.LineReader.{LineReader}
+use Rattle.reader.specs.declared.Next.{Next}
+use Rattle.reader.specs.declared.Step.{Step}
 use Rattle.reader.specs.declared.Field.{Field}
 use Rattle.reader.specs.declared.Field.the-variants.{Number, Malformed}
 
@@ -48,7 +50,23 @@ fieldsFrom (suc k) bytes = let later = fieldsFrom k (drop 6 bytes) in andThen (f
 unfoldable pub fieldsOf : List ℕ → List ℕ
 fieldsOf bytes = fieldsFrom (length bytes / 6) bytes
 
--- "While a line is checked, the reader is a read-only look at one line of the lent text, which advances field by field": the reader of
--- a line whose next field is the k-th
+-- ---- "While a line is checked, the reader is a read-only look at one line of the lent text, which advances field by field"
+
+-- the reader of a line whose next field is the k-th
 abbrev pub readerAt : RefT (List ℕ) → ℕ → LineReader
 readerAt line k = record { line = line; at = k }
+
+-- after the k-th field the next one is the one after it; where there is no field the reader stays
+abbrev pub after : Field → ℕ → ℕ
+after (Number n) k = k + 1
+after Malformed k = k
+
+-- the k-th field, and where the reader stands after it
+abbrev pub stepAt : List ℕ → ℕ → Step
+stepAt bytes k = record { field = fieldAt bytes k; at = after (fieldAt bytes k) k }
+
+-- a reader's next field, and the reader moved on
+abbrev pub nextOf : LineReader → Next
+nextOf r =
+    let s = stepAt (now (r .line)) (r .at) in
+    record { field = s .field; reader = readerAt (r .line) (s .at) }

@@ -1,5 +1,5 @@
 -- `loader::copy_fields` stores the fields that a part begins with: storing those still ahead gives the whole.
-use Prim.Native.Nat.{_+_, _-_, _*_, _/_, _≤_, _<_}
+use Prim.Native.Nat.{_+_, _-_, _*_}
 use mathlib.Core.Path.{_≡_}
 use native.Mathlib.Omega.{arith}
 use borrow.Author.Needs.{needs}
@@ -12,13 +12,12 @@ use Rattle.loader.proofs.copy_fields.Statement.{statement}
 use Rattle.loader.proofs.copy_fields.Tie as tie
 
 abbrev Inv-loop : tie.InvT-loop
-Inv-loop part fields₀ to most k₀ fields k =
-    (k ≤ length part / 6)
-    × ((k + length (fieldsOf (drop (6 * k) part)) ≡ length (fieldsOf part))
-    × (sets fields (to + k) (fieldsOf (drop (6 * k) part)) ≡ sets fields₀ to (fieldsOf part)))
+Inv-loop part fields₀ to k₀ fields k =
+    (k + length (fieldsOf (drop (6 * k) part)) ≡ length (fieldsOf part))
+    × (sets fields (to + k) (fieldsOf (drop (6 * k) part)) ≡ sets fields₀ to (fieldsOf part))
 
 abbrev μ-loop : tie.MeasureT-loop
-μ-loop part fields₀ to most k₀ fields k = length part / 6 - k
+μ-loop part fields₀ to k₀ fields k = length part - k
 
 pub copy-fields-spec : {M : Type 1} → statement M
 copy-fields-spec =
@@ -26,21 +25,13 @@ copy-fields-spec =
     (tie.spec
     Inv-loop
     μ-loop
-    (λ c. (omega arith, (omega arith, search filling.copy-start)))
+    (λ c. (omega arith, search filling.copy-start))
     (λ c κs. search needs)
     (λ c. search needs)
     (λ c. search needs)
     (λ c. (search turns.count-stop, search filling.copy-stop))
-    (λ c.
-    let l = c .before .before .before .before .before in
-    let h : l .before .before .args .to + l .loop .k < 4096 = search filling.copy-place in
-    omega arith)
-    (λ c.
-    let l = c .before .before .before .before .before in
-    let h : l .before .before .args .to + l .loop .k < 4096 = search filling.copy-place in
-    omega arith)
+    (λ c. search (needs, filling.copy-place))
+    (λ c. search (needs, filling.copy-place))
     (λ c. search filling.copy-place)
-    (λ c. search needs)
-    (λ c. search needs)
-    (λ c. (search needs, (search turns.count-turn, search filling.copy-turn)))
-    (λ c. (search turns.count-end, search filling.copy-end)))
+    (λ c. search turns.count-less)
+    (λ c. (search turns.count-turn, search filling.copy-turn)))
