@@ -10,17 +10,21 @@ use lib.Seq.{sets, drop-drop}
 use Rattle.reader.specs.Line.{fieldsOf, stepAt}
 use Rattle.reader.specs.Text.{fieldsByLine, countAll, columnsFault}
 use Rattle.reader.specs.declared.Step.{Step}
+use Rattle.reader.specs.declared.Field.{Field}
 use Rattle.reader.specs.declared.Field.the-variants.{Number, Malformed}
 use Rattle.reader.proofs.Line.{first-field, no-field, step-field, step-moved}
 use Rattle.reader.proofs.Turns.{count-turn}
 use Rattle.reader.proofs.Faults.{columns-free, most-in-all}
 use Rattle.design.specs.Loaded.{joined, startsFrom}
 use Rattle.design.specs.Tests.{eachLineIs}
-use Rattle.loader.specs.Filled.{Filled}
+use Rattle.loader.specs.Filled.{Filled, stored}
 use Rattle.loader.proofs.Places.{AtLine, at-first, at-end, at-next, more-lines, these, part-fields, line-fields, next-within}
 
 pub copy-start : (into vs : List ℕ) (to : ℕ) → sets into (to + 0) vs ≡ sets into to vs
 copy-start into vs to = let e : to + 0 ≡ to = omega arith in rw e
+
+pub number-stored : (into : List ℕ) (at n : ℕ) (f : Field) → f ≡ Number n → set into at n ≡ stored into at f
+number-stored into at n f e = rw e
 
 -- ---- the fields of a part: k of them are stored, from `to` on
 
@@ -32,10 +36,10 @@ module _ (bytes into whole : List ℕ) (to k : ℕ) (inv : sets into (to + k) (f
     pub copy-stop : s .field ≡ Malformed → into ≡ whole
     copy-stop e = rw (no-field (drop (6 * k) bytes) (sym (step-field bytes k s es) ∙ e)) at inv
 
-    pub copy-turn : (n : ℕ) → s .field ≡ Number n → sets (set into (to + k) n) (to + s .at) (fieldsOf (drop (6 * s .at) bytes)) ≡ whole
+    pub copy-turn : (n : ℕ) → s .field ≡ Number n → sets (stored into (to + k) (s .field)) (to + s .at) (fieldsOf (drop (6 * s .at) bytes)) ≡ whole
     copy-turn n e =
         let next : to + (k + 1) ≡ suc (to + k) = omega arith in
-        rw (step-moved bytes k s es n e, next) (rw (first-field (drop (6 * k) bytes) n (sym (step-field bytes k s es) ∙ e), later) at inv)
+        rw (e, step-moved bytes k s es n e, next) (rw (first-field (drop (6 * k) bytes) n (sym (step-field bytes k s es) ∙ e), later) at inv)
 
 -- there is room for one more
 pub copy-place : (bytes : List ℕ) (to k : ℕ) → k + length (fieldsOf (drop (6 * k) bytes)) ≡ length (fieldsOf bytes) → to + length (fieldsOf bytes) ≤ 4096

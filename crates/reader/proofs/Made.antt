@@ -21,13 +21,14 @@ use denote.Builtin.{u8, usize}
 use denote.Ref.{RefT}
 use denote.Slice.{shr-slice-copy}
 use denote.Steps.{owned, nothing}
+use denote.Struct.Rest.{own-shut}
 use denote.Triple.Statement.{Contract}
 use denote.Triple.Spec.{tripleOf}
 use denote.Triple.Clauses.{ensured, lasts}
 use Rattle.reader.specs.Line.{readerAt, nextOf}
 use Rattle.reader.specs.declared.LineReader.{LineReader}
 use Rattle.reader.specs.declared.Next.{Next as Answer}
-use Rattle.reader.proofs.Look.{Reader, Bytes, OwnBytes, bytesVal, With}
+use Rattle.reader.proofs.Look.{Reader, Decl, Laws, Bytes, OwnBytes, OwnReader, bytesVal, With}
 use Rattle.reader.proofs.LineReader.new as new
 use Rattle.reader.proofs.LineReader.moved as moved
 use Rattle.reader.proofs.LineReader.next as next
@@ -81,3 +82,12 @@ module _ {M : Type 1} (𝓤 : URA M) (H : Heap 𝓤) (A : Atoms 𝓤) (W : Given
 
   pub next-said : (r : LineReader) (t : Answer) → ent 𝓤 (ensured 𝓤 H A next.ended (next.clauses 𝓤 H A mem run) (κ, tt) (r, tt) tt t) (fact 𝓤 (t ≡ nextOf r))
   next-said r t = exE 𝓤 _ (λ ws. snd∗ 𝓤 (sem 𝓤 H A (lasts next.ended (κ, tt) (r, tt) ws)) (fact 𝓤 (t ≡ nextOf r)))
+
+-- what the reader of the part s at the k-th field owns is had of what the part owns, which is kept
+module _ {M : Type 1} (𝓤 : URA M) (H : Heap 𝓤) (A : Atoms 𝓤) (W : Given 𝓤 H A) (κ : Lft) (s : RefT (List ℕ)) where
+  pub reader-had : (k : ℕ) → k < 2 ^ 64 → ent 𝓤 (sem 𝓤 H A (OwnBytes κ s)) (sep 𝓤 (sem 𝓤 H A (OwnReader κ (readerAt s k))) (sem 𝓤 H A (OwnBytes κ s)))
+  reader-had k fits =
+      qed W (‵ (OwnBytes κ s) ∷ []) ∵
+      use1 W (‵ (OwnBytes κ s) ⊛ ‵ (OwnBytes κ s)) (shr-slice-copy 𝓤 H A W (named 0) κ u8 .twice s (bytesVal s ∷ [])) $ split ! $
+      nothing ! $ owned ! usize (Is usize) (uint-makes 𝓤 H A W w64) k _ (refl, fits) $ fjoin ! $ move ! (1 ∷ 0 ∷ []) $ fjoin ! $
+      use1 W (‵ (OwnReader κ (readerAt s k))) (own-shut 𝓤 H A W (Decl (κ, tt)) (Laws (κ, tt)) (s, (k, tt))) $ frame ! $ done !

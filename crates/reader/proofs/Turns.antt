@@ -3,12 +3,12 @@
 use Prim.Native.Nat.{ℕ, _+_, _-_, _*_, _<_, _≤_}
 use mathlib.Core.Path.{_≡_, refl, sym, ap, _∙_}
 use mathlib.Core.Logic.{_≢_}
-use mathlib.Core.Bool.{Bool, true, false, cond, _||_, or-true}
+use mathlib.Core.Bool.{Bool, true, false, cond, not, _||_, or-true}
 use mathlib.Core.List.{List, [], _∷_, append-nil}
 use native.Mathlib.Omega.{arith}
 use native.Mathlib.Numerals.{add-one}
 use borrow.Author.Tests.{lt-ltb, le-ltb, ne-eqb}
-use lib.Dec.{ltb}
+use lib.Dec.{T, ltb, eqb, eqb→eq, eqb-refl, T-not}
 use lib.ListN.{length, getD, take, drop, length-drop, drop-of-length-le}
 use lib.Seq.{drop-cons, drop-drop, getD-take, getD-drop, length-take-le}
 use Rattle.reader.specs.Columns.{fieldOf}
@@ -19,7 +19,7 @@ use Rattle.reader.specs.declared.Step.{Step}
 use Rattle.reader.specs.declared.Field.{Field}
 use Rattle.reader.specs.declared.Field.the-variants.{Number, Malformed}
 use Rattle.reader.proofs.Scan.{scan-field}
-use Rattle.reader.proofs.Line.{first-field, no-field, part-all, fields-within, field-inside, step-field, step-moved}
+use Rattle.reader.proofs.Line.{first-field, no-field, part-all, fields-within, field-inside, step-field, step-moved, stood, went}
 use Rattle.reader.proofs.Text.{firstLine, lines-first, beyond, split, fields-first, no-fields, not-whole, whole-line, after-line, last-after, last-written}
 
 -- ==== the columns of a field
@@ -111,6 +111,9 @@ module _ (bytes : List ℕ) (k : ℕ) where
   later : drop 6 (drop (6 * k) bytes) ≡ drop (6 * (k + 1)) bytes
   later = let e : 6 * k + 6 ≡ 6 * (k + 1) = omega arith in drop-drop 6 (6 * k) bytes ∙ ap (λ (j : ℕ). drop j bytes) e
 
+  pub stood-at : (s : Step) → s ≡ stepAt bytes k → T (eqb (s .at) k) → s .field ≡ Malformed
+  stood-at s es h = stood bytes k s es (eqb→eq (s .at) k h)
+
   -- k fields are passed, and those still ahead are the rest
   module _ (inv : k + length (fieldsOf (drop (6 * k) bytes)) ≡ length (fieldsOf bytes)) where
     pub passed-within : 6 * k ≤ length bytes
@@ -120,6 +123,14 @@ module _ (bytes : List ℕ) (k : ℕ) where
     module _ (s : Step) (es : s ≡ stepAt bytes k) where
       pub count-stop : s .field ≡ Malformed → k ≡ length (fieldsOf bytes)
       count-stop e = let m = rw (no-field (drop (6 * k) bytes) (sym (step-field bytes k s es) ∙ e)) at inv in omega arith
+
+      -- the reader stands still: all the fields are passed
+      pub all-passed : T (eqb (s .at) k) → k ≡ length (fieldsOf bytes)
+      all-passed h = count-stop (stood-at s es h)
+
+      -- or it goes on, over a field
+      pub one-passed : T (not (eqb (s .at) k)) → (n : ℕ) × (s .field ≡ Number n)
+      one-passed h = went bytes k s es (λ e. T-not (eqb (s .at) k) h (rw e (eqb-refl k)))
 
       module _ (n : ℕ) (e : s .field ≡ Number n) where
         pub count-turn : s .at + length (fieldsOf (drop (6 * s .at) bytes)) ≡ length (fieldsOf bytes)
