@@ -7,12 +7,11 @@ use native.Mathlib.Omega.{arith}
 use native.Mathlib.Numerals.{add-one}
 use lib.ListN.{length, getD, set, take, drop, length-drop}
 use lib.Seq.{sets, drop-drop}
-use Rattle.reader.specs.Line.{fieldsOf, stepAt}
+use Rattle.reader.specs.Line.{fieldAt, fieldsOf, nextAt}
 use Rattle.reader.specs.Text.{fieldsByLine, countAll, columnsFault}
-use Rattle.reader.specs.declared.Step.{Step}
 use Rattle.reader.specs.declared.Field.{Field}
 use Rattle.reader.specs.declared.Field.the-variants.{Number, Malformed}
-use Rattle.reader.proofs.Line.{first-field, no-field, step-field, step-moved}
+use Rattle.reader.proofs.Line.{first-field, no-field, next-moved}
 use Rattle.reader.proofs.Turns.{count-turn}
 use Rattle.reader.proofs.Faults.{columns-free, most-in-all}
 use Rattle.design.specs.Loaded.{joined, startsFrom}
@@ -32,19 +31,19 @@ module _ (bytes into whole : List ℕ) (to k : ℕ) (inv : sets into (to + k) (f
   later : drop 6 (drop (6 * k) bytes) ≡ drop (6 * (k + 1)) bytes
   later = let e : 6 * k + 6 ≡ 6 * (k + 1) = omega arith in drop-drop 6 (6 * k) bytes ∙ ap (λ (j : ℕ). drop j bytes) e
 
-  module _ (s : Step) (es : s ≡ stepAt bytes k) where
-    pub copy-stop : s .field ≡ Malformed → into ≡ whole
-    copy-stop e = rw (no-field (drop (6 * k) bytes) (sym (step-field bytes k s es) ∙ e)) at inv
+  pub copy-stop : fieldAt bytes k ≡ Malformed → into ≡ whole
+  copy-stop e = rw (no-field (drop (6 * k) bytes) e) at inv
 
-    pub copy-turn : (n : ℕ) → s .field ≡ Number n → sets (stored into (to + k) (s .field)) (to + s .at) (fieldsOf (drop (6 * s .at) bytes)) ≡ whole
-    copy-turn n e =
-        let next : to + (k + 1) ≡ suc (to + k) = omega arith in
-        rw (e, step-moved bytes k s es n e, next) (rw (first-field (drop (6 * k) bytes) n (sym (step-field bytes k s es) ∙ e), later) at inv)
+  pub copy-turn : (n : ℕ) → fieldAt bytes k ≡ Number n
+      → sets (stored into (to + k) (fieldAt bytes k)) (to + nextAt bytes k) (fieldsOf (drop (6 * nextAt bytes k) bytes)) ≡ whole
+  copy-turn n e =
+      let next : to + (k + 1) ≡ suc (to + k) = omega arith in
+      rw (next-moved bytes k n e, e, next) (rw (first-field (drop (6 * k) bytes) n e, later) at inv)
 
 -- there is room for one more
 pub copy-place : (bytes : List ℕ) (to k : ℕ) → k + length (fieldsOf (drop (6 * k) bytes)) ≡ length (fieldsOf bytes) → to + length (fieldsOf bytes) ≤ 4096
-    → (s : Step) → s ≡ stepAt bytes k → (n : ℕ) → s .field ≡ Number n → to + k < 4096
-copy-place bytes to k inv fit s es n e = omega (arith, count-turn bytes k inv s es n e, step-moved bytes k s es n e)
+    → (n : ℕ) → fieldAt bytes k ≡ Number n → to + k < 4096
+copy-place bytes to k inv fit n e = omega (arith, count-turn bytes k inv n e, next-moved bytes k n e)
 
 -- ---- storing one list after another
 

@@ -9,7 +9,7 @@ use native.Mathlib.Omega.{arith}
 use lib.ListN.{length, take, drop, length-take, length-drop, drop-of-length-le}
 use lib.Seq.{take-all, drop-drop, take-at, drop-at, take-add}
 use Rattle.reader.specs.Columns.{columnsOf, fieldOf}
-use Rattle.reader.specs.Line.{written, Each16, none, more, fieldAt, andThen, fieldsFrom, fieldsOf, after, stepAt}
+use Rattle.reader.specs.Line.{written, Each16, none, more, fieldAt, andThen, fieldsFrom, fieldsOf, after, nextAt, stepAt}
 use Rattle.reader.specs.declared.Step.{Step}
 use Rattle.reader.specs.declared.Field.{Field}
 use Rattle.reader.specs.declared.Field.the-variants.{Number, Malformed}
@@ -79,39 +79,32 @@ module _ (bytes : List ℕ) (k : ℕ) (f : Field) (ef : f ≡ fieldAt bytes k) w
   pub step-fits : (n : ℕ) → f ≡ Number n → length bytes < 2 ^ 64 → k + 1 < 2 ^ 64
   step-fits n e h = omega (arith, field-inside n e)
 
--- what a step says: a field is passed, and where there is none the reader stands still
-module _ (bytes : List ℕ) (k : ℕ) (s : Step) (es : s ≡ stepAt bytes k) where
-  pub step-field : s .field ≡ fieldAt bytes k
-  step-field = ap (λ (t : Step). t .field) es
+-- a field is passed, and where there is none the reader stands still
+module _ (bytes : List ℕ) (k : ℕ) where
+  pub next-moved : (n : ℕ) → fieldAt bytes k ≡ Number n → nextAt bytes k ≡ k + 1
+  next-moved n e = ap (λ (f : Field). after f k) e
 
-  step-at : s .at ≡ after (s .field) k
-  step-at = ap (λ (t : Step). t .at) es ∙ ap (λ (f : Field). after f k) (sym step-field)
+  stood-by : (f : Field) → after f k ≡ k → f ≡ Malformed
+  stood-by Malformed h = refl
+  stood-by (Number n) h = let z : ⊥ = omega arith in absurd z
 
-  pub step-moved : (n : ℕ) → s .field ≡ Number n → s .at ≡ k + 1
-  step-moved n e = rw (step-at, e)
+  pub stood : nextAt bytes k ≡ k → fieldAt bytes k ≡ Malformed
+  stood = stood-by (fieldAt bytes k)
 
-  -- the reader stands still, or goes on
-  stood-by : (f : Field) → s .field ≡ f → s .at ≡ k → f ≡ Malformed
-  stood-by Malformed e h = refl
-  stood-by (Number n) e h = let m = step-moved n e in let z : ⊥ = omega arith in absurd z
+  went-by : (f : Field) → after f k ≢ k → (n : ℕ) × (f ≡ Number n)
+  went-by Malformed h = absurd (h refl)
+  went-by (Number n) h = (n, refl)
 
-  pub stood : s .at ≡ k → s .field ≡ Malformed
-  stood = stood-by (s .field) refl
+  pub went : nextAt bytes k ≢ k → (n : ℕ) × (fieldAt bytes k ≡ Number n)
+  went = went-by (fieldAt bytes k)
 
-  went-by : (f : Field) → s .field ≡ f → s .at ≢ k → (n : ℕ) × (f ≡ Number n)
-  went-by Malformed e h = absurd (h (rw (step-at, e)))
-  went-by (Number n) e h = (n, refl)
-
-  pub went : s .at ≢ k → (n : ℕ) × (s .field ≡ Number n)
-  went = went-by (s .field) refl
-
-  at-most : (f : Field) → s .field ≡ f → 6 * k ≤ length bytes → 6 * s .at ≤ length bytes
-  at-most Malformed e h = let m : s .at ≡ k = rw (step-at, e) in omega arith
-  at-most (Number n) e h = omega (arith, step-moved n e, field-inside bytes k (s .field) step-field n e)
+  within-by : (f : Field) → f ≡ fieldAt bytes k → 6 * k ≤ length bytes → 6 * after f k ≤ length bytes
+  within-by Malformed e h = h
+  within-by (Number n) e h = field-inside bytes k (Number n) e n refl
 
   -- it stays within the bytes
-  pub step-within : 6 * k ≤ length bytes → 6 * s .at ≤ length bytes
-  step-within = at-most (s .field) refl
+  pub next-within : 6 * k ≤ length bytes → 6 * nextAt bytes k ≤ length bytes
+  next-within = within-by (fieldAt bytes k) refl
 
 -- ---- the fields after the k-th
 

@@ -1,5 +1,5 @@
 -- A reader of a part: the calls of `new`, `moved` and `next`, for a function with plain parameters that makes a reader and goes on with it
--- (proofs/step_at, proofs/rest, proofs/count). For each call: what it is passed, what it asks, and what its contract says of the result.
+-- (proofs/field_at, proofs/rest, proofs/count). For each call: what it is passed, what it asks, and what its contract says of the result.
 use mathlib.Core.Path.{_≡_, refl}
 use Prim.Native.Nat.{ℕ, _<_, _^_}
 use mathlib.Core.List.{List, [], _∷_}
@@ -13,7 +13,7 @@ use prog.Routine.{Routine}
 use prog.Wp.{Heap}
 use ghost.Atoms.{Atoms, sem}
 use contract.Monad.{Fun, fact}
-use types.Kit.{Given, ‵, raw, _⊛_, ⋆, _$_, _∵_, !, qed, move, drop, use1, use2, split, join, fsplit, fjoin, frame, done}
+use types.Kit.{Given, ‵, raw, _⊛_, ⋆, given, _$_, _∵_, !, qed, move, drop, use1, use2, split, join, learn, fsplit, fjoin, frame, done}
 use denote.RattleType.{owns}
 use denote.Laws.{Is}
 use denote.Plain.{uint-makes}
@@ -21,14 +21,15 @@ use denote.Builtin.{u8, usize}
 use denote.Ref.{RefT}
 use denote.Slice.{shr-slice-copy}
 use denote.Steps.{owned, nothing}
-use denote.Struct.Rest.{own-shut}
+use denote.Struct.Laws as LL
+use denote.Struct.Rest.{all-own, own-open, own-shut}
 use denote.Triple.Statement.{Contract}
 use denote.Triple.Spec.{tripleOf}
 use denote.Triple.Clauses.{ensured, lasts}
 use Rattle.reader.specs.Line.{readerAt, nextOf}
 use Rattle.reader.specs.declared.LineReader.{LineReader}
 use Rattle.reader.specs.declared.Next.{Next as Answer}
-use Rattle.reader.proofs.Look.{Reader, Decl, Laws, Bytes, OwnBytes, OwnReader, bytesVal, With}
+use Rattle.reader.proofs.Look.{Reader, Decl, Laws, NextRow, NextDecl, NextLaws, Bytes, OwnBytes, OwnField, OwnReader, bytesVal, With}
 use Rattle.reader.proofs.LineReader.new as new
 use Rattle.reader.proofs.LineReader.moved as moved
 use Rattle.reader.proofs.LineReader.next as next
@@ -91,3 +92,11 @@ module _ {M : Type 1} (𝓤 : URA M) (H : Heap 𝓤) (A : Atoms 𝓤) (W : Given
       use1 W (‵ (OwnBytes κ s) ⊛ ‵ (OwnBytes κ s)) (shr-slice-copy 𝓤 H A W (named 0) κ u8 .twice s (bytesVal s ∷ [])) $ split ! $
       nothing ! $ owned ! usize (Is usize) (uint-makes 𝓤 H A W w64) k _ (refl, fits) $ fjoin ! $ move ! (1 ∷ 0 ∷ []) $ fjoin ! $
       use1 W (‵ (OwnReader κ (readerAt s k))) (own-shut 𝓤 H A W (Decl (κ, tt)) (Laws (κ, tt)) (s, (k, tt))) $ frame ! $ done !
+
+-- what its field owns is had of what an answer of `next` owns; its reader is let go
+module _ {M : Type 1} (𝓤 : URA M) (H : Heap 𝓤) (A : Atoms 𝓤) (W : Given 𝓤 H A) (κ : Lft) where
+  pub field-out : (t : Answer) (u : Val) → ent 𝓤 (sem 𝓤 H A (NextRow (κ, tt) .own t (u ∷ []))) (sem 𝓤 H A (OwnField (t .field)))
+  field-out t u =
+      qed W (‵ (NextRow (κ, tt) .own t (u ∷ [])) ∷ []) ∵
+      use1 W (given (u ∷ [] ≡ LL.val (NextDecl (κ, tt)) (NextLaws (κ, tt)) t ∷ []) (‵ (all-own (NextDecl (κ, tt) .parts) (NextLaws (κ, tt)) (t .field, (t .reader, tt))))) (own-open 𝓤 H A W (NextDecl (κ, tt)) (NextLaws (κ, tt)) (t .field, (t .reader, tt)) u) $ learn ! (λ _.
+      fsplit ! $ move ! (1 ∷ []) $ drop ! $ done !)

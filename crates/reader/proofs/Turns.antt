@@ -12,14 +12,13 @@ use lib.Dec.{T, ltb, eqb, eqb→eq, eqb-refl, T-not}
 use lib.ListN.{length, getD, take, drop, length-drop, drop-of-length-le}
 use lib.Seq.{drop-cons, drop-drop, getD-take, getD-drop, length-take-le}
 use Rattle.reader.specs.Columns.{fieldOf}
-use Rattle.reader.specs.Line.{written, fieldAt, fieldsOf, stepAt}
+use Rattle.reader.specs.Line.{written, fieldAt, fieldsOf, nextAt}
 use Rattle.reader.specs.Text.{linesOf, lastOf, fieldsByLine, countAll, isLine, anyLine, fault2, fault3, linesFault}
 use Rattle.reader.specs.Scan.{blanksOf, digitsFrom, alone, afterBlanks, scanned}
-use Rattle.reader.specs.declared.Step.{Step}
 use Rattle.reader.specs.declared.Field.{Field}
 use Rattle.reader.specs.declared.Field.the-variants.{Number, Malformed}
 use Rattle.reader.proofs.Scan.{scan-field}
-use Rattle.reader.proofs.Line.{first-field, no-field, part-all, fields-within, field-inside, step-field, step-moved, stood, went}
+use Rattle.reader.proofs.Line.{first-field, no-field, part-all, fields-within, field-inside, next-moved, stood, went}
 use Rattle.reader.proofs.Text.{firstLine, lines-first, beyond, split, fields-first, no-fields, not-whole, whole-line, after-line, last-after, last-written}
 
 -- ==== the columns of a field
@@ -111,35 +110,27 @@ module _ (bytes : List ℕ) (k : ℕ) where
   later : drop 6 (drop (6 * k) bytes) ≡ drop (6 * (k + 1)) bytes
   later = let e : 6 * k + 6 ≡ 6 * (k + 1) = omega arith in drop-drop 6 (6 * k) bytes ∙ ap (λ (j : ℕ). drop j bytes) e
 
-  pub stood-at : (s : Step) → s ≡ stepAt bytes k → T (eqb (s .at) k) → s .field ≡ Malformed
-  stood-at s es h = stood bytes k s es (eqb→eq (s .at) k h)
+  -- the reader stands still at no field, or goes on over one
+  pub stays : T (eqb (nextAt bytes k) k) → fieldAt bytes k ≡ Malformed
+  stays h = stood bytes k (eqb→eq (nextAt bytes k) k h)
+
+  pub goes : T (not (eqb (nextAt bytes k) k)) → (n : ℕ) × (fieldAt bytes k ≡ Number n)
+  goes h = went bytes k (λ e. T-not (eqb (nextAt bytes k) k) h (rw e (eqb-refl k)))
 
   -- k fields are passed, and those still ahead are the rest
   module _ (inv : k + length (fieldsOf (drop (6 * k) bytes)) ≡ length (fieldsOf bytes)) where
     pub passed-within : 6 * k ≤ length bytes
     passed-within = omega (arith, fields-within bytes)
 
-    -- a step of the reader at the k-th field
-    module _ (s : Step) (es : s ≡ stepAt bytes k) where
-      pub count-stop : s .field ≡ Malformed → k ≡ length (fieldsOf bytes)
-      count-stop e = let m = rw (no-field (drop (6 * k) bytes) (sym (step-field bytes k s es) ∙ e)) at inv in omega arith
+    pub count-stop : fieldAt bytes k ≡ Malformed → k ≡ length (fieldsOf bytes)
+    count-stop e = let m = rw (no-field (drop (6 * k) bytes) e) at inv in omega arith
 
-      -- the reader stands still: all the fields are passed
-      pub all-passed : T (eqb (s .at) k) → k ≡ length (fieldsOf bytes)
-      all-passed h = count-stop (stood-at s es h)
+    module _ (n : ℕ) (e : fieldAt bytes k ≡ Number n) where
+      pub count-turn : nextAt bytes k + length (fieldsOf (drop (6 * nextAt bytes k) bytes)) ≡ length (fieldsOf bytes)
+      count-turn = let m = rw (first-field (drop (6 * k) bytes) n e, later) at inv in rw (next-moved bytes k n e) (omega arith)
 
-      -- or it goes on, over a field
-      pub one-passed : T (not (eqb (s .at) k)) → (n : ℕ) × (s .field ≡ Number n)
-      one-passed h = went bytes k s es (λ e. T-not (eqb (s .at) k) h (rw e (eqb-refl k)))
-
-      module _ (n : ℕ) (e : s .field ≡ Number n) where
-        pub count-turn : s .at + length (fieldsOf (drop (6 * s .at) bytes)) ≡ length (fieldsOf bytes)
-        count-turn =
-            let m = rw (first-field (drop (6 * k) bytes) n (sym (step-field bytes k s es) ∙ e), later) at inv in
-            rw (step-moved bytes k s es n e) (omega arith)
-
-        pub count-less : length bytes - s .at < length bytes - k
-        count-less = omega (arith, step-moved bytes k s es n e, field-inside bytes k (s .field) (step-field bytes k s es) n e)
+      pub count-less : length bytes - nextAt bytes k < length bytes - k
+      count-less = omega (arith, next-moved bytes k n e, field-inside bytes k (fieldAt bytes k) refl n e)
 
 -- ==== the lines of a text
 

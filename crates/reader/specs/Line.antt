@@ -61,12 +61,15 @@ abbrev pub after : Field → ℕ → ℕ
 after (Number n) k = k + 1
 after Malformed k = k
 
--- the k-th field, and where the reader stands after it
+-- the place after the k-th
+abbrev pub nextAt : List ℕ → ℕ → ℕ
+nextAt bytes k = after (fieldAt bytes k) k
+
+-- the k-th field, and the place after it
 abbrev pub stepAt : List ℕ → ℕ → Step
-stepAt bytes k = record { field = fieldAt bytes k; at = after (fieldAt bytes k) k }
+stepAt bytes k = record { field = fieldAt bytes k; at = nextAt bytes k }
 
 -- a reader's next field, and the reader moved on
 abbrev pub nextOf : LineReader → Next
 nextOf r =
-    let s = stepAt (now (r .line)) (r .at) in
-    record { field = s .field; reader = readerAt (r .line) (s .at) }
+    record { field = fieldAt (now (r .line)) (r .at); reader = readerAt (r .line) (nextAt (now (r .line)) (r .at)) }

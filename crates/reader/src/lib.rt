@@ -1,7 +1,7 @@
 // From bytes to fields and lines: what six columns are a field, the fields of a line, and whether a text's columns are at fault.
-// Every field is read through a `LineReader`, which goes over a line field by field. Callers use `step_at`, `field_at` and `rest`, whose
-// parameters are plain: a function that has a reader in its hands is proved step by step. Every public function answers any bytes. The
-// definitions are in specs/Columns, specs/Line and specs/Text.
+// Every field is read through a `LineReader`, which goes over a line field by field. `field_at` and `rest` have plain parameters: a
+// function that has a reader in its hands is proved step by step, and a caller of theirs is not. Every public function answers any
+// bytes. The definitions are in specs/Columns, specs/Line and specs/Text.
 ghost use mathlib.Core.Path.{_≡_};
 ghost use Prim.Native.Nat.{_+_, _*_, _≤_};
 ghost use lib.ListN.{length, take, drop};
@@ -46,9 +46,9 @@ pub struct Next<'a> {
 }
 
 // The same with the reader's place alone.
-pub struct Step {
-    pub field: Field,
-    pub at: usize,
+struct Step {
+    field: Field,
+    at: usize,
 }
 
 // Thin functions: each takes the reader apart, and `step_in` and `part_from` do the work on the bytes and the number.
@@ -92,23 +92,11 @@ impl<'a> LineReader<'a> {
     }
 }
 
-// The k-th field of a part of a line, counted from 0, and where the reader stands after it.
-pub fn step_at(part: &[u8], k: usize) -> Step
-    ensures { λ r. ⌜ r ≡ stepAt (now (part .entry)) k ⌝ }
-{
-    let next = LineReader::new(part).moved(k).next();
-    Step {
-        field: next.field,
-        at: next.reader.at,
-    }
-}
-
-// The k-th field of a part of a line; malformed also where the part has no k-th six columns.
+// The k-th field of a part of a line, counted from 0; malformed also where the part has no k-th six columns.
 pub fn field_at(part: &[u8], k: usize) -> Field
     ensures { λ r. ⌜ r ≡ fieldAt (now (part .entry)) k ⌝ }
 {
-    let step = step_at(part, k);
-    step.field
+    LineReader::new(part).moved(k).next().field
 }
 
 // What is left of a part after its first k fields.

@@ -23,7 +23,7 @@ use prog.Wp.{Heap, Out, Env, afterSeq, afterBlock, afterTurn, Calls, Loops, Wp, 
 use ghost.Atoms.{Atoms, sem}
 use contract.Monad.{Fun, fact, fact-use}
 use contract.Running.{givenOf, tables, tablesOf}
-use types.Kit.{Given, Item, ‵, raw, _⊛_, ⋆, some, later, given, runs, anyQ, Sq, _$_, _∵_, !, qed, by, move, drop as let-go, use1, use2, use3, split, join, pick, learn, rewrite, fsplit, fjoin, feqL, suffices, frame, await, done}
+use types.Kit.{Given, Item, ‵, raw, _⊛_, ⋆, some, later, runs, anyQ, Sq, _$_, _∵_, !, qed, by, move, drop as let-go, use1, use2, use3, split, join, pick, rewrite, fsplit, fjoin, feqL, suffices, frame, await, done}
 use types.Part.{whole, sub, look-in}
 use types.Run.{look, store as store-to, init, forget, stop, hop, fld, from, load, of-opd, bin, addr, and-then, no-more, assigns, assigns-last, first, skips, blocks, branches, land, returns-within, enter, alloc1, alloc0, params1, pass1, pass0, free1, free0, exec, Below, again, loops}
 use types.Tokens.{lft-new, lft-end}
@@ -40,7 +40,6 @@ use denote.Lend.{LentAgain, lends-again, comes-back}
 use denote.Steps.{peeks, heard, nothing, owned, only}
 use denote.Enum.Laws as EL
 use denote.Struct.Laws as LL
-use denote.Struct.Rest.{all-own, own-open}
 use denote.Triple.Statement.{Contract, Triple}
 use denote.Triple.Call.{calls-at}
 use denote.Triple.Entry.{onEntry}
@@ -49,14 +48,14 @@ use denote.Triple.Table.{entered, cited}
 use denote.Triple.Walked.{says, needs, onExit, Stays, stay-none, stay-none-slice, stay-ref, walkOf, goes-none, goes-none-slice, goes-ref, Walks, ends-at, walked, walk-meets}
 use denote.Exit.{yes}
 use denote.Triple.Clauses.{ensured, lasts}
-use Rattle.reader.specs.Line.{fieldAt, fieldsOf, stepAt, readerAt, nextOf}
+use Rattle.reader.specs.Line.{fieldAt, fieldsOf, nextAt, readerAt, nextOf}
 use Rattle.reader.specs.declared.LineReader.{LineReader}
 use Rattle.reader.specs.declared.Next.{Next as Answer}
 use Rattle.reader.specs.declared.Field.{Field}
 use Rattle.reader.specs.declared.Field.the-variants.{Number}
 use Rattle.reader.proofs.Line as line
 use Rattle.reader.proofs.Turns as turns
-use Rattle.reader.proofs.Look.{Reader, Decl, Laws, NextRow, NextDecl, NextLaws, Bytes, OwnBytes, OwnReader, bytesVal, inBody}
+use Rattle.reader.proofs.Look.{Reader, Decl, Laws, NextRow, NextDecl, NextLaws, Bytes, OwnBytes, OwnField, OwnReader, bytesVal, fieldVal, inBody}
 use Rattle.reader.proofs.Made as made
 use Rattle.reader.proofs.Made.{New, Next}
 use Rattle.reader.proofs.LineReader as T
@@ -122,9 +121,6 @@ goes-on =
 abbrev Numbers : RattleType
 Numbers = Array u16 4096
 
-abbrev fieldVal : Field → Val
-fieldVal f = F′.the-field-laws .val (F.the-field .into f)
-
 module _ {M : Type 1} (𝓤 : URA M) (H : Heap 𝓤) (A : Atoms 𝓤) (mem : Memory → SProp 𝓤) (run : Routine → Fun 𝓤) where
   abbrev Store : Contract 𝓤
   Store = tripleOf 𝓤 H A store.signature (store.spec 𝓤 H A mem run)
@@ -167,15 +163,15 @@ module _ {M : Type 1} (𝓤 : URA M) (H : Heap 𝓤) (A : Atoms 𝓤) (W : Given
   Nearer-wf = InvImage·wf (λ (i : Upto). length bytes - i .0) (Nat·lt-wfRel .wf)
 
   abbrev on : ℕ → ℕ
-  on k = stepAt bytes k .at
+  on k = nextAt bytes k
 
   -- the call of `store`, at the array lent for the lifetime ν under the name δ: what it is passed, what it asks, and the array's last list
   abbrev to-store : ℕ → GName → List ℕ → ℕ → Field → Store 𝓤 H A mem run .Ghost
   to-store ν δ l n f = (((ν ∷ [], tt), (fullShare, tt), tt, (at δ l, (n, (f, tt))), (vptr b o ∷ [], (vint w64 n ∷ [], (fieldVal f ∷ [], tt)))), tt)
 
-  goes-store : (ν : ℕ) (δ : GName) (l : List ℕ) (n : ℕ) (f : Field) → n < 4096 → ent 𝓤 (⋆ 𝓤 H A (‵ (flft (ν ∷ []) fullShare) ∷ ‵ (OwnArray (ν ∷ []) δ l) ∷ ‵ (F.the-row .own f (fieldVal f ∷ [])) ∷ [])) (Store 𝓤 H A mem run .pre (to-store ν δ l n f))
+  goes-store : (ν : ℕ) (δ : GName) (l : List ℕ) (n : ℕ) (f : Field) → n < 4096 → ent 𝓤 (⋆ 𝓤 H A (‵ (flft (ν ∷ []) fullShare) ∷ ‵ (OwnArray (ν ∷ []) δ l) ∷ ‵ (OwnField f) ∷ [])) (Store 𝓤 H A mem run .pre (to-store ν δ l n f))
   goes-store ν δ l n f room =
-      qed W (‵ (flft (ν ∷ []) fullShare) ∷ ‵ (OwnArray (ν ∷ []) δ l) ∷ ‵ (F.the-row .own f (fieldVal f ∷ [])) ∷ []) ∵ says ! room $ nothing ! $ move ! (1 ∷ 0 ∷ []) $ join ! $ frame ! $
+      qed W (‵ (flft (ν ∷ []) fullShare) ∷ ‵ (OwnArray (ν ∷ []) δ l) ∷ ‵ (OwnField f) ∷ []) ∵ says ! room $ nothing ! $ move ! (1 ∷ 0 ∷ []) $ join ! $ frame ! $
       nothing ! $ move ! (2 ∷ 0 ∷ []) $ fjoin ! $ owned ! usize (Is usize) (uint-makes 𝓤 H A W w64) n _ (refl, omega arith) $ fjoin ! $ move ! (1 ∷ 0 ∷ []) $ fjoin ! $ done !
 
   store-said : (ν : ℕ) (δ : GName) (l : List ℕ) (n : ℕ) (f : Field) (r : Unit {0}) → ent 𝓤 (ensured 𝓤 H A store.ended (store.clauses 𝓤 H A mem run) (ν ∷ [], tt) (at δ l, (n, (f, tt))) tt r) (A .res δ (Numbers .coded .code (stored l n f)))
@@ -216,19 +212,26 @@ module _ {M : Type 1} (𝓤 : URA M) (H : Heap 𝓤) (A : Atoms 𝓤) (W : Given
     fits i = omega (arith, long, turns.passed-within bytes (i .0) (i .1 .1 .0))
 
     on-fits : (i : Upto) → on (i .0) < 2 ^ 64
-    on-fits i = omega (arith, long, line.step-within bytes (i .0) (stepAt bytes (i .0)) refl (turns.passed-within bytes (i .0) (i .1 .1 .0)))
+    on-fits i = omega (arith, long, line.next-within bytes (i .0) (turns.passed-within bytes (i .0) (i .1 .1 .0)))
 
     -- the reader went on, over a field, which is stored
     abbrev Passed : Upto → Type 0
     Passed i = (n : ℕ) × (fieldAt bytes (i .0) ≡ Number n)
 
     abbrev moved : (i : Upto) → Passed i → Upto
-    moved i g =
-        (on (i .0), (stored (i .1 .0) (to + i .0) (fieldAt bytes (i .0)), (turns.count-turn bytes (i .0) (i .1 .1 .0) (stepAt bytes (i .0)) refl (g .0) (g .1),
-        filling.copy-turn bytes (i .1 .0) (sets xs to (fieldsOf bytes)) to (i .0) (i .1 .1 .1) (stepAt bytes (i .0)) refl (g .0) (g .1))))
+    moved i g = (
+      on (i .0),
+      (
+        stored (i .1 .0) (to + i .0) (fieldAt bytes (i .0)),
+        (
+          turns.count-turn bytes (i .0) (i .1 .1 .0) (g .0) (g .1),
+          filling.copy-turn bytes (i .1 .0) (sets xs to (fieldsOf bytes)) to (i .0) (i .1 .1 .1) (g .0) (g .1),
+        ),
+      ),
+    )
 
     place-fits : (i : Upto) → Passed i → to + i .0 < 4096
-    place-fits i g = filling.copy-place bytes to (i .0) (i .1 .1 .0) fit (stepAt bytes (i .0)) refl (g .0) (g .1)
+    place-fits i g = filling.copy-place bytes to (i .0) (i .1 .1 .0) fit (g .0) (g .1)
 
     module _ (l₀ l₁ l₂ l₃ l₄ l₅ l₆ l₇ l₈ l₉ m₀ m₁ m₂ m₃ m₄ : ℕ) where
       abbrev En : Env 𝓤 H
@@ -267,8 +270,7 @@ module _ {M : Type 1} (𝓤 : URA M) (H : Heap 𝓤) (A : Atoms 𝓤) (W : Given
           peeks ! (NextRow (κ, tt)) (Is (NextRow (κ, tt))) (shows 𝓤 H A (NextRow (κ, tt))) t (u ∷ []) (λ is.
           land ! (from ! (stop !)) (init ! 23 refl (LL.lawful (N.the-type (inBody κ)) (N′.the-laws (inBody κ)) 𝓤 H A W .typed t _ is .0)) $
           rewrite ! 23 (λ (v : Val). ‵ (fat fullShare NextTy l₅ 0 v)) (ap only (LL.tells (NextDecl (κ, tt)) (NextLaws (κ, tt)) t _ is)) refl $
-          use1 W (given (u ∷ [] ≡ LL.val (NextDecl (κ, tt)) (NextLaws (κ, tt)) t ∷ []) (‵ (all-own (NextDecl (κ, tt) .parts) (NextLaws (κ, tt)) (t .field, (t .reader, tt))))) (own-open 𝓤 H A W (NextDecl (κ, tt)) (NextLaws (κ, tt)) (t .field, (t .reader, tt)) u) $ learn ! (λ _.
-          fsplit ! $ move ! (1 ∷ []) $ let-go ! $ move ! (2 ∷ 1 ∷ 3 ∷ 4 ∷ []) $
+          use1 W (‵ (OwnField (t .field))) (made.field-out 𝓤 H A W κ t u) $ move ! (2 ∷ 1 ∷ 3 ∷ 4 ∷ []) $
           -- [what the part owns; the token; the array; its token; the field; room for _14; …]
           assigns ! (of-opd ! (load ! (from ! (fld ! refl (fld ! refl (stop !)))) (look-in ! 23 (sub ! 1 refl (sub ! 1 refl (whole !)))))) (from ! (stop !)) (init ! 19 refl (tt, record { fits = on-fits i })) $
           assigns ! (of-opd ! (load ! (from ! (fld ! refl (stop !))) (look-in ! 25 (sub ! 1 refl (whole !))))) (from ! (stop !)) (init ! 17 refl (tt, record { fits = fits i })) $
@@ -279,9 +281,9 @@ module _ {M : Type 1} (𝓤 : URA M) (H : Heap 𝓤) (A : Atoms 𝓤) (W : Given
           move ! (33 ∷ 34 ∷ []) $ free1 ! $ move ! (31 ∷ 32 ∷ []) $ free1 ! $ move ! (29 ∷ 30 ∷ []) $ free1 ! $ move ! (27 ∷ 28 ∷ []) $ free1 ! $ move ! (25 ∷ 26 ∷ []) $ free1 ! $ move ! (23 ∷ 24 ∷ []) $ free1 ! $
           move ! (21 ∷ 22 ∷ []) $ free1 ! $ move ! (19 ∷ 20 ∷ []) $ free1 ! $ move ! (17 ∷ 18 ∷ []) $ free1 ! $ move ! (15 ∷ 16 ∷ []) $ free1 ! $ move ! (13 ∷ 14 ∷ []) $ free1 ! $ move ! (11 ∷ 12 ∷ []) $ free1 ! $
           move ! (9 ∷ 10 ∷ []) $ free1 ! $ move ! (7 ∷ 8 ∷ []) $ free1 ! $ move ! (5 ∷ 6 ∷ []) $ free1 ! $ free0 ! $ move ! (4 ∷ []) $ let-go ! $
-          by ! (exits k into (fits i) (turns.all-passed bytes k (i .1 .1 .0) (stepAt bytes k) refl same)
-          (filling.copy-stop bytes into (sets xs to (fieldsOf bytes)) to k (i .1 .1 .1) (stepAt bytes k) refl (turns.stood-at bytes k (stepAt bytes k) refl same))))
-          (λ h. let g : Passed i = turns.one-passed bytes k (i .1 .1 .0) (stepAt bytes k) refl h in
+          by ! (exits k into (fits i) (turns.count-stop bytes k (i .1 .1 .0) (turns.stays bytes k same))
+          (filling.copy-stop bytes into (sets xs to (fieldsOf bytes)) to k (i .1 .1 .1) (turns.stays bytes k same))))
+          (λ h. let g : Passed i = turns.goes bytes k h in
           let room : to + k < 4096 = place-fits i g in
           skips ! $ exec ! C Λ En goes-on (anyQ (Turned i)) $
           assigns ! (addr ! (from ! (hop ! (look ! 29 refl) (stop !)))) (from ! (stop !)) (init ! 11 refl (tt, tt)) $
@@ -301,7 +303,7 @@ module _ {M : Type 1} (𝓤 : URA M) (H : Heap 𝓤) (A : Atoms 𝓤) (W : Given
           move ! (2 ∷ []) $ let-go ! $ move ! (2 ∷ 3 ∷ []) $
           assigns-last ! (of-opd ! (load ! (from ! (fld ! refl (stop !))) (look-in ! 22 (sub ! 1 refl (whole !))))) (from ! (stop !)) (store-to ! 24 refl (tt, (typed .1, (record { fits = on-fits i }, tt)))) $
           forget ! 4 refl $ forget ! 6 refl $ forget ! 8 refl $ forget ! 10 refl $ forget ! 12 refl $ forget ! 14 refl $ forget ! 16 refl $ forget ! 18 refl $ forget ! 20 refl $ forget ! 22 refl $
-          again ! Nearer At i (moved i g) (turns.count-less bytes k (i .1 .1 .0) (stepAt bytes k) refl (g .0) (g .1)))))))))))))
+          again ! Nearer At i (moved i g) (turns.count-less bytes k (i .1 .1 .0) (g .0) (g .1))))))))))))
 
     walk : ent 𝓤 (onEntry 𝓤 H A copy-fields.signature (κ, (κ′, tt)) (q, (q′, tt)) a vals) (WpFn 𝓤 H C Λ code.function (bytesVal s ∷ vptr b o ∷ vint w64 to ∷ []) Post)
     walk =

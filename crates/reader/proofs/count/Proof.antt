@@ -43,7 +43,7 @@ use denote.Triple.Table.{entered, cited}
 use denote.Triple.Walked.{says, Stays, stay-none-slice, walkOf, goes-none-slice, Walks, ends-at, walked, walk-meets}
 use denote.Exit.{yes}
 use denote.Triple.Clauses.{ensured}
-use Rattle.reader.specs.Line.{fieldAt, fieldsOf, stepAt, readerAt, nextOf}
+use Rattle.reader.specs.Line.{fieldAt, fieldsOf, nextAt, readerAt, nextOf}
 use Rattle.reader.specs.declared.LineReader.{LineReader}
 use Rattle.reader.specs.declared.Next.{Next as Answer}
 use Rattle.reader.specs.declared.Field.the-variants.{Number}
@@ -109,7 +109,7 @@ module _ {M : Type 1} (𝓤 : URA M) (H : Heap 𝓤) (A : Atoms 𝓤) (W : Given
 
   -- where the reader stands after the k-th field
   abbrev on : ℕ → ℕ
-  on k = stepAt bytes k .at
+  on k = nextAt bytes k
 
   exits : (k : ℕ) → k < 2 ^ 64 → k ≡ length (fieldsOf bytes) → ent 𝓤 (⋆ 𝓤 H A (‵ (OwnBytes κ s) ∷ (‵ (flft κ q) ⊛ ‵ ftrue) ∷ [])) (Post (vint w64 k))
   exits k fits e =
@@ -135,11 +135,11 @@ module _ {M : Type 1} (𝓤 : URA M) (H : Heap 𝓤) (A : Atoms 𝓤) (W : Given
     fits i = omega (arith, long, turns.passed-within bytes (i .0) (i .1))
 
     on-fits : (i : Upto) → on (i .0) < 2 ^ 64
-    on-fits i = omega (arith, long, line.step-within bytes (i .0) (stepAt bytes (i .0)) refl (turns.passed-within bytes (i .0) (i .1)))
+    on-fits i = omega (arith, long, line.next-within bytes (i .0) (turns.passed-within bytes (i .0) (i .1)))
 
     -- the reader went on, over a field
     abbrev moved : (i : Upto) → (n : ℕ) × (fieldAt bytes (i .0) ≡ Number n) → Upto
-    moved i g = (on (i .0), turns.count-turn bytes (i .0) (i .1) (stepAt bytes (i .0)) refl (g .0) (g .1))
+    moved i g = (on (i .0), turns.count-turn bytes (i .0) (i .1) (g .0) (g .1))
 
     module _ (l₀ l₁ l₂ l₃ l₄ l₅ l₆ l₇ : ℕ) where
       abbrev En : Env 𝓤 H
@@ -180,12 +180,12 @@ module _ {M : Type 1} (𝓤 : URA M) (H : Heap 𝓤) (A : Atoms 𝓤) (W : Given
           returns-within ! Post refl (look ! 16 refl) $ forget ! 2 refl $ forget ! 4 refl $ forget ! 6 refl $ forget ! 8 refl $ forget ! 10 refl $ forget ! 12 refl $ forget ! 14 refl $ forget ! 16 refl $
           move ! (16 ∷ 17 ∷ []) $ free1 ! $ move ! (14 ∷ 15 ∷ []) $ free1 ! $ move ! (12 ∷ 13 ∷ []) $ free1 ! $ move ! (10 ∷ 11 ∷ []) $ free1 ! $ move ! (8 ∷ 9 ∷ []) $ free1 ! $ move ! (6 ∷ 7 ∷ []) $ free1 ! $
           move ! (4 ∷ 5 ∷ []) $ free1 ! $ move ! (2 ∷ 3 ∷ []) $ free1 ! $ free0 ! $
-          by ! (exits k (fits i) (turns.all-passed bytes k (i .1) (stepAt bytes k) refl same)))
-          (λ h. let g : (n : ℕ) × (fieldAt bytes k ≡ Number n) = turns.one-passed bytes k (i .1) (stepAt bytes k) refl h in
+          by ! (exits k (fits i) (turns.count-stop bytes k (i .1) (turns.stays bytes k same))))
+          (λ h. let g : (n : ℕ) × (fieldAt bytes k ≡ Number n) = turns.goes bytes k h in
           skips ! $ exec ! C Λ En last (anyQ (Turned i)) $
           assigns-last ! (of-opd ! (load ! (from ! (fld ! refl (stop !))) (look-in ! 10 (sub ! 1 refl (whole !))))) (from ! (stop !)) (store ! 12 refl (tt, (typed .1, (record { fits = on-fits i }, tt)))) $
           forget ! 2 refl $ forget ! 4 refl $ forget ! 6 refl $ forget ! 8 refl $ forget ! 10 refl $
-          again ! Nearer At i (moved i g) (turns.count-less bytes k (i .1) (stepAt bytes k) refl (g .0) (g .1)))))))
+          again ! Nearer At i (moved i g) (turns.count-less bytes k (i .1) (g .0) (g .1)))))))
 
     walk : ent 𝓤 (onEntry 𝓤 H A count.signature (κ, tt) (q, tt) (s, tt) (bytesVal s ∷ [], tt)) (WpFn 𝓤 H C Λ code.function (bytesVal s ∷ []) Post)
     walk =
