@@ -1,6 +1,6 @@
--- Laws of a line's fields (specs/Line). The first field, and those after it (`first-field`, `no-field`); a part that starts after the
--- k-th field has the later fields (`rest-fields`); bytes that are written fields have just these (`fields-written`), and what has
--- its fields as a whole is their writing (`whole-written`).
+-- Laws of a line's fields (specs/Line). The first field, and those after it (`first-field`, `no-field`); a reader goes on over a field
+-- and over nothing else (`went`, `stood`); a part that starts after the k-th field has the later fields (`rest-fields`); bytes that are
+-- written fields have just these (`fields-written`), and what has its fields as a whole is their writing (`whole-written`).
 use Prim.Native.Nat.{ℕ, zero, suc, _+_, _-_, _*_, _/_, _^_, _<_, _≤_}
 use mathlib.Core.Path.{_≡_, refl, sym, ap, _∙_}
 use mathlib.Core.Logic.{_≢_}
@@ -10,7 +10,6 @@ use lib.ListN.{length, take, drop, length-take, length-drop, drop-of-length-le}
 use lib.Seq.{take-all, drop-drop, take-at, drop-at, take-add}
 use Rattle.reader.specs.Columns.{columnsOf, fieldOf}
 use Rattle.reader.specs.Line.{written, Each16, none, more, fieldAt, andThen, fieldsFrom, fieldsOf, after, nextAt, stepAt}
-use Rattle.reader.specs.declared.Step.{Step}
 use Rattle.reader.specs.declared.Field.{Field}
 use Rattle.reader.specs.declared.Field.the-variants.{Number, Malformed}
 use Rattle.reader.proofs.Columns.{is-field, six, read-back}

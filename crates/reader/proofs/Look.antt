@@ -1,7 +1,7 @@
 -- What the proofs about a `LineReader` have in common. The borrow checker covers no function that takes, makes or holds a reader, so each
--- is proved by going through its MIR by hand (proofs/LineReader, proofs/field_at, proofs/rest,
--- proofs/count). Here are the reader's type and what it
--- owns, and `apart`: a reader is taken apart, and its bytes and its number are passed on. Calls that make a reader are in proofs/Made.
+-- is proved by going through its MIR by hand (proofs/LineReader, proofs/field_at, proofs/rest, proofs/count). Here are the reader's type
+-- and what it owns, and `apart`: a reader is taken apart, and its bytes and its number are passed on. Calls that make a reader are in
+-- proofs/Made.
 -- A reader is Copy, as its reference is: what it owns is had twice, once for a callee or a result and once for the exit.
 use mathlib.Core.Path.{_≡_, refl}
 use Prim.Native.Nat.{ℕ, _<_, _^_}

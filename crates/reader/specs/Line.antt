@@ -1,7 +1,7 @@
 -- The fields of a line's bytes, from the left (01, "Design text": "A line is one or more fields of six columns").
 -- Of bytes that are not whole fields `fieldsOf` gives those that they begin with. A part of a line that starts after its k-th field
 -- has just the later fields (proofs/Line): so the rest of a line after a term can be handed on as a part.
--- Last, the reader of a line at one of its fields.
+-- Last, the reader of a line: at one of its fields, and moved on.
 use Prim.Native.Nat.{ℕ, zero, suc, _+_, _*_, _/_, _<_}
 use mathlib.Core.Path.{_≡_}
 use mathlib.Core.Logic.{_≢_}
