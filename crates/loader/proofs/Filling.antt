@@ -1,26 +1,29 @@
 -- Filling a desk's arrays: what a turn of each loop keeps. Storing what is left, from here, gives the whole.
-use Prim.Native.Nat.{ℕ, suc, _+_, _-_, _*_, _/_, _≤_, _<_}
-use mathlib.Core.Path.{_≡_, refl, sym, ap, _∙_}
+use Prim.Native.Nat.{ℕ, suc, _+_, _-_, _*_, _≤_, _<_}
+use mathlib.Core.Path.{_≡_, refl, ap, _∙_}
 use mathlib.Core.Bool.{Bool, true, false}
 use mathlib.Core.List.{List, [], _∷_, _++_}
 use native.Mathlib.Omega.{arith}
 use native.Mathlib.Numerals.{add-one}
 use lib.ListN.{length, getD, set, take, drop, length-drop}
 use lib.Seq.{sets, drop-drop}
-use Rattle.reader.specs.Line.{fieldAt, fieldsOf}
+use Rattle.reader.specs.Line.{fieldAt, fieldsOf, nextAt}
 use Rattle.reader.specs.Text.{fieldsByLine, countAll, columnsFault}
 use Rattle.reader.specs.declared.Field.{Field}
 use Rattle.reader.specs.declared.Field.the-variants.{Number, Malformed}
-use Rattle.reader.proofs.Line.{first-field, no-field, past-end}
+use Rattle.reader.proofs.Line.{first-field, no-field, next-moved}
 use Rattle.reader.proofs.Turns.{count-turn}
 use Rattle.reader.proofs.Faults.{columns-free, most-in-all}
 use Rattle.design.specs.Loaded.{joined, startsFrom}
 use Rattle.design.specs.Tests.{eachLineIs}
-use Rattle.loader.specs.Filled.{Filled}
+use Rattle.loader.specs.Filled.{Filled, stored}
 use Rattle.loader.proofs.Places.{AtLine, at-first, at-end, at-next, more-lines, these, part-fields, line-fields, next-within}
 
 pub copy-start : (into vs : List ℕ) (to : ℕ) → sets into (to + 0) vs ≡ sets into to vs
 copy-start into vs to = let e : to + 0 ≡ to = omega arith in rw e
+
+pub number-stored : (into : List ℕ) (at n : ℕ) (f : Field) → f ≡ Number n → set into at n ≡ stored into at f
+number-stored into at n f e = rw e
 
 -- ---- the fields of a part: k of them are stored, from `to` on
 
@@ -28,22 +31,19 @@ module _ (bytes into whole : List ℕ) (to k : ℕ) (inv : sets into (to + k) (f
   later : drop 6 (drop (6 * k) bytes) ≡ drop (6 * (k + 1)) bytes
   later = let e : 6 * k + 6 ≡ 6 * (k + 1) = omega arith in drop-drop 6 (6 * k) bytes ∙ ap (λ (j : ℕ). drop j bytes) e
 
-  module _ (f : Field) (ef : f ≡ fieldAt bytes k) where
-    pub copy-stop : f ≡ Malformed → into ≡ whole
-    copy-stop e = rw (no-field (drop (6 * k) bytes) (sym ef ∙ e)) at inv
+  pub copy-stop : fieldAt bytes k ≡ Malformed → into ≡ whole
+  copy-stop e = rw (no-field (drop (6 * k) bytes) e) at inv
 
-    pub copy-turn : (n : ℕ) → f ≡ Number n → sets (set into (to + k) n) (to + (k + 1)) (fieldsOf (drop (6 * (k + 1)) bytes)) ≡ whole
-    copy-turn n e =
-        let next : to + (k + 1) ≡ suc (to + k) = omega arith in
-        rw next (rw (first-field (drop (6 * k) bytes) n (sym ef ∙ e), later) at inv)
-
-  pub copy-end : length bytes / 6 ≤ k → into ≡ whole
-  copy-end h = rw (no-field (drop (6 * k) bytes) (sym (past-end bytes k h))) at inv
+  pub copy-turn : (n : ℕ) → fieldAt bytes k ≡ Number n
+      → sets (stored into (to + k) (fieldAt bytes k)) (to + nextAt bytes k) (fieldsOf (drop (6 * nextAt bytes k) bytes)) ≡ whole
+  copy-turn n e =
+      let next : to + (k + 1) ≡ suc (to + k) = omega arith in
+      rw (next-moved bytes k n e, e, next) (rw (first-field (drop (6 * k) bytes) n e, later) at inv)
 
 -- there is room for one more
 pub copy-place : (bytes : List ℕ) (to k : ℕ) → k + length (fieldsOf (drop (6 * k) bytes)) ≡ length (fieldsOf bytes) → to + length (fieldsOf bytes) ≤ 4096
-    → (f : Field) → f ≡ fieldAt bytes k → (n : ℕ) → f ≡ Number n → to + k < 4096
-copy-place bytes to k inv fit f ef n e = let t = count-turn bytes k inv f ef n e in omega arith
+    → (n : ℕ) → fieldAt bytes k ≡ Number n → to + k < 4096
+copy-place bytes to k inv fit n e = omega (arith, count-turn bytes k inv n e, next-moved bytes k n e)
 
 -- ---- storing one list after another
 

@@ -2,8 +2,10 @@
 use Prim.Native.Nat.{ℕ, _≤_, _<_}
 use mathlib.Core.Path.{_≡_}
 use mathlib.Core.List.{List}
-use lib.ListN.{length}
+use lib.ListN.{length, set}
 use lib.Seq.{sets}
+use Rattle.reader.specs.declared.Field.{Field}
+use Rattle.reader.specs.declared.Field.the-variants.{Number, Malformed}
 use Rattle.design.specs.Loaded.{joined, startsFrom}
 
 -- where there are not too many lines, they are held; else the number returned says so
@@ -12,3 +14,8 @@ pub record Filled (lines : List (List ℕ)) (fields starts : List ℕ) (r : ℕ)
   pub fields-held : length lines ≤ 83 → fields′ ≡ sets fields 0 (joined lines)
   pub starts-held : length lines ≤ 83 → starts′ ≡ sets starts 0 (startsFrom 0 lines)
   pub many : 83 < length lines → r ≡ 84
+
+-- a field's number is stored at a place
+abbrev pub stored : List ℕ → ℕ → Field → List ℕ
+stored fields at (Number n) = set fields at n
+stored fields at Malformed = fields

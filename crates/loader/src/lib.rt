@@ -3,17 +3,18 @@
 // that the first one found so is the lowest anywhere in the text is in proofs/Lowest.
 use design::Counts;
 use reader::Field;
+use reader::LineReader;
 ghost use mathlib.Core.Path.{_≡_};
 ghost use mathlib.Core.Bool.{cond, _&&_};
 ghost use lib.Dec.{leb};
-ghost use Prim.Native.Nat.{_+_, _≤_};
+ghost use Prim.Native.Nat.{_+_, _<_, _≤_};
 ghost use lib.ListN.{length, getD};
 ghost use lib.Seq.{sets};
 ghost use Rattle.reader.specs.Line.{fieldsOf};
 ghost use Rattle.reader.specs.Text.{fieldsByLine, columnsFault};
 ghost use Rattle.design.specs.Lines.{kindOf, countOf, countsOf};
 ghost use Rattle.design.specs.Loaded.{lineAt, heldLines};
-ghost use Rattle.loader.specs.Filled.{Filled};
+ghost use Rattle.loader.specs.Filled.{Filled, stored};
 ghost use Rattle.loader.specs.Load.{lineTest, tableFault, loadedOf, refusedBy, Holds};
 ghost use Rattle.design.specs.Tests.{climbs, countsFit, layoutFits, eachLineIs, isParameter, isRow, lengthFitsBy, lengthFits, numbersFitBy, numbersFit};
 
@@ -218,17 +219,26 @@ fn copy_fields(part: &[u8], fields: &mut limits::Fields, to: usize) -> usize
     ensures { λ r. ⌜ r ≡ length (fieldsOf (now (part .entry))) ⌝ }
     ensures { λ _. ⌜ now (fields .exit) ≡ sets (now (fields .entry)) to (fieldsOf (now (part .entry))) ⌝ }
 {
-    let most = part.len() / reader::COLUMNS;
-    let mut k = 0;
-    while k < most {
-        let f = reader::field_at(part, k);
-        let Field::Number(n) = f else {
-            return k;
-        };
-        fields[to + k] = n;
-        k += 1;
+    let mut reader = LineReader::new(part);
+    loop {
+        let next = reader.next();
+        if next.reader.at == reader.at {
+            return reader.at;
+        }
+        store(fields, to + reader.at, next.field);
+        reader = next.reader;
     }
-    k
+}
+
+// A field's number into the array, at a place.
+fn store(fields: &mut [u16; 4096], at: usize, field: Field)
+    requires { ⌜ at < 4096 ⌝ }
+    ensures { λ _. ⌜ now (fields .exit) ≡ stored (now (fields .entry)) at field ⌝ }
+{
+    let Field::Number(n) = field else {
+        return;
+    };
+    fields[at] = n;
 }
 
 // How many fields line i has.

@@ -1,7 +1,7 @@
--- Laws of a line's fields (specs/Line). The first field, and those after it (`first-field`, `no-field`); a part that starts after the
--- k-th field has the later fields (`rest-fields`); bytes that are written fields have just these (`fields-written`), and what has
--- its fields as a whole is their writing (`whole-written`).
-use Prim.Native.Nat.{ℕ, zero, suc, _+_, _-_, _*_, _/_, _<_, _≤_}
+-- Laws of a line's fields (specs/Line). The first field, and those after it (`first-field`, `no-field`); a reader goes on over a field
+-- and over nothing else (`went`, `stood`); a part that starts after the k-th field has the later fields (`rest-fields`); bytes that are
+-- written fields have just these (`fields-written`), and what has its fields as a whole is their writing (`whole-written`).
+use Prim.Native.Nat.{ℕ, zero, suc, _+_, _-_, _*_, _/_, _^_, _<_, _≤_}
 use mathlib.Core.Path.{_≡_, refl, sym, ap, _∙_}
 use mathlib.Core.Logic.{_≢_}
 use mathlib.Core.List.{List, [], _∷_, _++_, append-assoc}
@@ -9,7 +9,7 @@ use native.Mathlib.Omega.{arith}
 use lib.ListN.{length, take, drop, length-take, length-drop, drop-of-length-le}
 use lib.Seq.{take-all, drop-drop, take-at, drop-at, take-add}
 use Rattle.reader.specs.Columns.{columnsOf, fieldOf}
-use Rattle.reader.specs.Line.{written, Each16, none, more, fieldAt, andThen, fieldsFrom, fieldsOf}
+use Rattle.reader.specs.Line.{written, Each16, none, more, fieldAt, andThen, fieldsFrom, fieldsOf, after, nextAt, stepAt}
 use Rattle.reader.specs.declared.Field.{Field}
 use Rattle.reader.specs.declared.Field.the-variants.{Number, Malformed}
 use Rattle.reader.proofs.Columns.{is-field, six, read-back}
@@ -59,6 +59,51 @@ none-from (suc k) bytes e = rw e
 pub no-field : (bytes : List ℕ) → fieldAt bytes 0 ≡ Malformed → fieldsOf bytes ≡ []
 unfolding fieldsOf
 no-field bytes e = none-from (length bytes / 6) bytes e
+
+-- ---- a step of the reader
+
+module _ (bytes : List ℕ) (k : ℕ) (f : Field) (ef : f ≡ fieldAt bytes k) where
+  step-by : record { field = f; at = after f k } ≡ stepAt bytes k
+  step-by = ap (λ (g : Field). record { field = g; at = after g k }) ef
+
+  pub step-stays : f ≡ Malformed → record { field = f; at = k } ≡ stepAt bytes k
+  step-stays e = rw (← step-by, e)
+
+  pub step-goes : (n : ℕ) → f ≡ Number n → record { field = f; at = k + 1 } ≡ stepAt bytes k
+  step-goes n e = rw (← step-by, e)
+
+  pub field-inside : (n : ℕ) → f ≡ Number n → 6 * (k + 1) ≤ length bytes
+  field-inside n e = omega (arith, field-here (drop (6 * k) bytes) n (sym ef ∙ e), length-drop (6 * k) bytes)
+
+  pub step-fits : (n : ℕ) → f ≡ Number n → length bytes < 2 ^ 64 → k + 1 < 2 ^ 64
+  step-fits n e h = omega (arith, field-inside n e)
+
+-- a field is passed, and where there is none the reader stands still
+module _ (bytes : List ℕ) (k : ℕ) where
+  pub next-moved : (n : ℕ) → fieldAt bytes k ≡ Number n → nextAt bytes k ≡ k + 1
+  next-moved n e = ap (λ (f : Field). after f k) e
+
+  stood-by : (f : Field) → after f k ≡ k → f ≡ Malformed
+  stood-by Malformed h = refl
+  stood-by (Number n) h = let z : ⊥ = omega arith in absurd z
+
+  pub stood : nextAt bytes k ≡ k → fieldAt bytes k ≡ Malformed
+  stood = stood-by (fieldAt bytes k)
+
+  went-by : (f : Field) → after f k ≢ k → (n : ℕ) × (f ≡ Number n)
+  went-by Malformed h = absurd (h refl)
+  went-by (Number n) h = (n, refl)
+
+  pub went : nextAt bytes k ≢ k → (n : ℕ) × (fieldAt bytes k ≡ Number n)
+  went = went-by (fieldAt bytes k)
+
+  within-by : (f : Field) → f ≡ fieldAt bytes k → 6 * k ≤ length bytes → 6 * after f k ≤ length bytes
+  within-by Malformed e h = h
+  within-by (Number n) e h = field-inside bytes k (Number n) e n refl
+
+  -- it stays within the bytes
+  pub next-within : 6 * k ≤ length bytes → 6 * nextAt bytes k ≤ length bytes
+  next-within = within-by (fieldAt bytes k) refl
 
 -- ---- the fields after the k-th
 

@@ -1,6 +1,7 @@
 -- What the proofs about a `LineReader` have in common. The borrow checker covers no function that takes, makes or holds a reader, so each
--- is proved by going through its MIR by hand (proofs/LineReader, proofs/field_at, proofs/rest). Here are the reader's type and what it
--- owns, and `apart`: a reader is taken apart, and its bytes and its number are passed on. Calls that make a reader are in proofs/Made.
+-- is proved by going through its MIR by hand (proofs/LineReader, proofs/field_at, proofs/rest, proofs/count). Here are the reader's type
+-- and what it owns, and `apart`: a reader is taken apart, and its bytes and its number are passed on. Calls that make a reader are in
+-- proofs/Made.
 -- A reader is Copy, as its reference is: what it owns is had twice, once for a callee or a result and once for the exit.
 use mathlib.Core.Path.{_≡_, refl}
 use Prim.Native.Nat.{ℕ, _<_, _^_}
@@ -28,8 +29,13 @@ use denote.Struct.Laws as LL
 use denote.Struct.Rest.{all-own, ownAt, rest, own-open, own-out}
 use denote.Struct.Values.{Values}
 use Rattle.reader.specs.declared.LineReader.{LineReader}
+use Rattle.reader.specs.declared.Field.{Field}
 use Rattle.reader.proofs.LineReader as T
 use Rattle.reader.proofs.LineReader.Laws as T′
+use Rattle.reader.proofs.Field as F
+use Rattle.reader.proofs.Field.Laws as F′
+use Rattle.reader.proofs.Next as N
+use Rattle.reader.proofs.Next.Laws as N′
 
 -- the reader's type, over the signature's lifetimes
 abbrev pub Reader : Lfts 1 → RattleType
@@ -42,6 +48,16 @@ Decl κs = T.the-type (namedLft 1 0 tt κs)
 abbrev pub Laws : (κs : Lfts 1) → LL.Laws (Decl κs)
 Laws κs = T′.the-laws (namedLft 1 0 tt κs)
 
+-- and those of a field beside a reader
+abbrev pub NextRow : Lfts 1 → RattleType
+NextRow κs = N.the-row (namedLft 1 0 tt κs)
+
+abbrev pub NextDecl : Lfts 1 → Declared
+NextDecl κs = N.the-type (namedLft 1 0 tt κs)
+
+abbrev pub NextLaws : (κs : Lfts 1) → LL.Laws (NextDecl κs)
+NextLaws κs = N′.the-laws (namedLft 1 0 tt κs)
+
 -- a lifetime as the locals of a body have it: MIR erases its name
 abbrev pub inBody : Lft → NamedLft
 inBody κ = record { mir = erased; lft = κ }
@@ -53,15 +69,25 @@ bytesVal s = sliceVal (s .ptr) (length (s .now))
 abbrev pub twoVals : RefT (List ℕ) → ℕ → List Val × (List Val × Unit {0})
 twoVals s n = (bytesVal s ∷ [], (vint w64 n ∷ [], tt))
 
--- what bytes own, what bytes and a number own, and what a reader owns
+-- and that of a field
+abbrev pub fieldVal : Field → Val
+fieldVal f = F′.the-field-laws .val (F.the-field .into f)
+
+-- what bytes own, what a number owns, what both own, what a field owns, and what a reader owns
 abbrev pub Bytes : Lft → RattleType
 Bytes κ = ShrSlice (named 0) κ u8
 
 abbrev pub OwnBytes : Lft → RefT (List ℕ) → Fml
 OwnBytes κ s = Bytes κ .own s (bytesVal s ∷ [])
 
+abbrev pub OwnNumber : ℕ → Fml
+OwnNumber n = owns (usize ∷ []) (n, tt) (vint w64 n ∷ [], tt)
+
 abbrev pub OwnTwo : Lft → RefT (List ℕ) → ℕ → Fml
 OwnTwo κ s n = owns (Bytes κ ∷ usize ∷ []) (s, (n, tt)) (twoVals s n)
+
+abbrev pub OwnField : Field → Fml
+OwnField f = F.the-row .own f (fieldVal f ∷ [])
 
 abbrev pub OwnReader : Lft → LineReader → Fml
 OwnReader κ d = Reader (κ, tt) .own d (T′.lowered d ∷ [])

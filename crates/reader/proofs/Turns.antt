@@ -1,24 +1,24 @@
 -- What a turn of each loop keeps: what is still to be done, from here, gives the whole. The columns of a field, the fields of a part,
 -- the lines of a text.
-use Prim.Native.Nat.{ℕ, _+_, _-_, _*_, _/_, _<_, _≤_}
+use Prim.Native.Nat.{ℕ, _+_, _-_, _*_, _<_, _≤_}
 use mathlib.Core.Path.{_≡_, refl, sym, ap, _∙_}
 use mathlib.Core.Logic.{_≢_}
-use mathlib.Core.Bool.{Bool, true, false, cond, _||_, or-true}
+use mathlib.Core.Bool.{Bool, true, false, cond, not, _||_, or-true}
 use mathlib.Core.List.{List, [], _∷_, append-nil}
 use native.Mathlib.Omega.{arith}
 use native.Mathlib.Numerals.{add-one}
 use borrow.Author.Tests.{lt-ltb, le-ltb, ne-eqb}
-use lib.Dec.{ltb}
+use lib.Dec.{T, ltb, eqb, eqb→eq, eqb-refl, T-not}
 use lib.ListN.{length, getD, take, drop, length-drop, drop-of-length-le}
 use lib.Seq.{drop-cons, drop-drop, getD-take, getD-drop, length-take-le}
 use Rattle.reader.specs.Columns.{fieldOf}
-use Rattle.reader.specs.Line.{written, fieldAt, fieldsOf}
+use Rattle.reader.specs.Line.{written, fieldAt, fieldsOf, nextAt}
 use Rattle.reader.specs.Text.{linesOf, lastOf, fieldsByLine, countAll, isLine, anyLine, fault2, fault3, linesFault}
 use Rattle.reader.specs.Scan.{blanksOf, digitsFrom, alone, afterBlanks, scanned}
 use Rattle.reader.specs.declared.Field.{Field}
 use Rattle.reader.specs.declared.Field.the-variants.{Number, Malformed}
 use Rattle.reader.proofs.Scan.{scan-field}
-use Rattle.reader.proofs.Line.{first-field, no-field, past-end, part-all, fields-within}
+use Rattle.reader.proofs.Line.{first-field, no-field, part-all, fields-within, field-inside, next-moved, stood, went}
 use Rattle.reader.proofs.Text.{firstLine, lines-first, beyond, split, fields-first, no-fields, not-whole, whole-line, after-line, last-after, last-written}
 
 -- ==== the columns of a field
@@ -110,15 +110,27 @@ module _ (bytes : List ℕ) (k : ℕ) where
   later : drop 6 (drop (6 * k) bytes) ≡ drop (6 * (k + 1)) bytes
   later = let e : 6 * k + 6 ≡ 6 * (k + 1) = omega arith in drop-drop 6 (6 * k) bytes ∙ ap (λ (j : ℕ). drop j bytes) e
 
-  module _ (inv : k + length (fieldsOf (drop (6 * k) bytes)) ≡ length (fieldsOf bytes)) (f : Field) (ef : f ≡ fieldAt bytes k) where
-    pub count-stop : f ≡ Malformed → k ≡ length (fieldsOf bytes)
-    count-stop e = let m = rw (no-field (drop (6 * k) bytes) (sym ef ∙ e)) at inv in omega arith
+  -- the reader stands still at no field, or goes on over one
+  pub stays : T (eqb (nextAt bytes k) k) → fieldAt bytes k ≡ Malformed
+  stays h = stood bytes k (eqb→eq (nextAt bytes k) k h)
 
-    pub count-turn : (n : ℕ) → f ≡ Number n → k + 1 + length (fieldsOf (drop (6 * (k + 1)) bytes)) ≡ length (fieldsOf bytes)
-    count-turn n e = let m = rw (first-field (drop (6 * k) bytes) n (sym ef ∙ e), later) at inv in omega arith
+  pub goes : T (not (eqb (nextAt bytes k) k)) → (n : ℕ) × (fieldAt bytes k ≡ Number n)
+  goes h = went bytes k (λ e. T-not (eqb (nextAt bytes k) k) h (rw e (eqb-refl k)))
 
-  pub count-end : k + length (fieldsOf (drop (6 * k) bytes)) ≡ length (fieldsOf bytes) → length bytes / 6 ≤ k → k ≡ length (fieldsOf bytes)
-  count-end inv h = let m = rw (no-field (drop (6 * k) bytes) (sym (past-end bytes k h))) at inv in omega arith
+  -- k fields are passed, and those still ahead are the rest
+  module _ (inv : k + length (fieldsOf (drop (6 * k) bytes)) ≡ length (fieldsOf bytes)) where
+    pub passed-within : 6 * k ≤ length bytes
+    passed-within = omega (arith, fields-within bytes)
+
+    pub count-stop : fieldAt bytes k ≡ Malformed → k ≡ length (fieldsOf bytes)
+    count-stop e = let m = rw (no-field (drop (6 * k) bytes) e) at inv in omega arith
+
+    module _ (n : ℕ) (e : fieldAt bytes k ≡ Number n) where
+      pub count-turn : nextAt bytes k + length (fieldsOf (drop (6 * nextAt bytes k) bytes)) ≡ length (fieldsOf bytes)
+      count-turn = let m = rw (first-field (drop (6 * k) bytes) n e, later) at inv in rw (next-moved bytes k n e) (omega arith)
+
+      pub count-less : length bytes - nextAt bytes k < length bytes - k
+      count-less = omega (arith, next-moved bytes k n e, field-inside bytes k (fieldAt bytes k) refl n e)
 
 -- ==== the lines of a text
 

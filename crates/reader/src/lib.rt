@@ -1,12 +1,12 @@
 // From bytes to fields and lines: what six columns are a field, the fields of a line, and whether a text's columns are at fault.
-// Every field is read through a `LineReader`. Callers use `field_at` and `rest`, whose parameters are plain: a function that has a
-// reader in its hands is proved step by step. Every public function answers any bytes. The definitions are in specs/Columns,
-// specs/Line and specs/Text.
+// Every field is read through a `LineReader`, which goes over a line field by field. `field_at` and `rest` have plain parameters: a
+// function that has a reader in its hands is proved step by step, and a caller of theirs is not. Every public function answers any
+// bytes. The definitions are in specs/Columns, specs/Line and specs/Text.
 ghost use mathlib.Core.Path.{_≡_};
 ghost use Prim.Native.Nat.{_+_, _*_, _≤_};
 ghost use lib.ListN.{length, take, drop};
 ghost use Rattle.reader.specs.Columns.{fieldOf};
-ghost use Rattle.reader.specs.Line.{fieldAt, fieldsOf, readerAt};
+ghost use Rattle.reader.specs.Line.{fieldAt, fieldsOf, readerAt, nextOf, stepAt};
 ghost use Rattle.reader.specs.Text.{columnsFault, linesFault};
 ghost use Rattle.reader.specs.Scan.{blanksOf, digitsFrom};
 
@@ -33,7 +33,19 @@ pub struct LineReader<'a> {
     pub at: usize,
 }
 
-// Thin functions: each takes the reader apart, and `field_in` and `part_from` do the work on the bytes and the number.
+// A field, and the reader moved on: to the field after it, and where it was if there is no field.
+pub struct Next<'a> {
+    pub field: Field,
+    pub reader: LineReader<'a>,
+}
+
+// The same with the reader's place alone.
+struct Step {
+    field: Field,
+    at: usize,
+}
+
+// Thin functions: each takes the reader apart, and `step_in` and `part_from` do the work on the bytes and the number.
 impl<'a> LineReader<'a> {
     // The reader of a line, at its first field.
     pub fn new(line: &'a [u8]) -> LineReader<'a>
@@ -52,11 +64,18 @@ impl<'a> LineReader<'a> {
         }
     }
 
-    // The next field.
-    pub fn next(self) -> Field
-        ensures { λ r. ⌜ r ≡ fieldAt (now (self .entry .line)) (self .entry .at) ⌝ }
+    // The next field, beside the reader moved on.
+    pub fn next(self) -> Next<'a>
+        ensures { λ r. ⌜ r ≡ nextOf (self .entry) ⌝ }
     {
-        field_in(self.line, self.at)
+        let step = step_in(self.line, self.at);
+        Next {
+            field: step.field,
+            reader: LineReader {
+                line: self.line,
+                at: step.at,
+            },
+        }
     }
 
     // What is left of the line from the next field on, as a part.
@@ -71,7 +90,7 @@ impl<'a> LineReader<'a> {
 pub fn field_at(part: &[u8], k: usize) -> Field
     ensures { λ r. ⌜ r ≡ fieldAt (now (part .entry)) k ⌝ }
 {
-    LineReader::new(part).moved(k).next()
+    LineReader::new(part).moved(k).next().field
 }
 
 // What is left of a part after its first k fields.
@@ -85,16 +104,14 @@ pub fn rest(part: &[u8], k: usize) -> &[u8]
 pub fn count(part: &[u8]) -> usize
     ensures { λ r. ⌜ r ≡ length (fieldsOf (now (part .entry))) ⌝ }
 {
-    let most = part.len() / COLUMNS;
-    let mut k = 0;
-    while k < most {
-        let f = field_at(part, k);
-        let Field::Number(_) = f else {
-            return k;
-        };
-        k += 1;
+    let mut reader = LineReader::new(part);
+    loop {
+        let next = reader.next();
+        if next.reader.at == reader.at {
+            return reader.at;
+        }
+        reader = next.reader;
     }
-    k
 }
 
 // The lowest of the faults 1, 2 and 3 that a text has, or 0.
@@ -138,6 +155,17 @@ fn lines_fault(text: &[u8]) -> u16
         return 3;
     }
     0
+}
+
+// The field in the k-th six columns of a line, and the number of the field after it: k again if there is no field.
+fn step_in(line: &[u8], k: usize) -> Step
+    ensures { λ r. ⌜ r ≡ stepAt (now (line .entry)) k ⌝ }
+{
+    let field = field_in(line, k);
+    let Field::Number(_) = field else {
+        return Step { field, at: k };
+    };
+    Step { field, at: k + 1 }
 }
 
 // The field in the k-th six columns of a line.

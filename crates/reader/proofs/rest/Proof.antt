@@ -36,7 +36,7 @@ use denote.Exit.{yes}
 use denote.Triple.Clauses.{ensured, lasts}
 use Rattle.reader.specs.Line.{readerAt}
 use Rattle.reader.specs.declared.LineReader.{LineReader}
-use Rattle.reader.proofs.Look.{Reader, Bytes, OwnBytes, bytesVal, twoVals, inBody}
+use Rattle.reader.proofs.Look.{Reader, Bytes, OwnBytes, OwnNumber, bytesVal, twoVals, inBody}
 use Rattle.reader.proofs.Made as made
 use Rattle.reader.proofs.Made.{New, Moved}
 use Rattle.reader.proofs.LineReader as T
@@ -75,10 +75,10 @@ module _ {M : Type 1} (𝓤 : URA M) (H : Heap 𝓤) (A : Atoms 𝓤) (W : Given
   Post = walkOf 𝓤 H A rest-of.ended stayed (rest-of.clauses 𝓤 H A mem run) .post (((κ, tt), (q, tt), tt, (s, (n, tt)), twoVals s n), tt)
 
   abbrev to-new : New 𝓤 H A mem run .Ghost
-  to-new = made.to-new 𝓤 H A W mem run κ q s n ok
+  to-new = made.to-new 𝓤 H A W mem run κ q s
 
   abbrev to-moved : LineReader → Val → Moved 𝓤 H A mem run .Ghost
-  to-moved = made.to-moved 𝓤 H A W mem run κ q s n ok
+  to-moved = made.to-moved 𝓤 H A W mem run κ q n ok
 
   -- the call of the reader's `rest`, at the reader r with the machine value u
   abbrev to-left : LineReader → Val → Left 𝓤 H A mem run .Ghost
@@ -106,17 +106,17 @@ module _ {M : Type 1} (𝓤 : URA M) (H : Heap 𝓤) (A : Atoms 𝓤) (W : Given
         qed W (raw (onEntry 𝓤 H A rest-of.signature (κ, tt) (q, tt) (s, (n, tt)) (twoVals s n)) ∷ []) ∵ enter ! C Λ code.function (bytesVal s ∷ vint w64 n ∷ []) _ $
         alloc1 ! (λ l₀. alloc1 ! (λ l₁. alloc1 ! (λ l₂. alloc1 ! (λ l₃. alloc1 ! (λ l₄. alloc0 ! $ params1 ! $
         pass1 ! (init ! 6 refl (shr-slice-lawful 𝓤 H A W (named 0) κ u8 .typed s _ p .0)) $ pass1 ! (init ! 4 refl (tt, record { fits = ok })) $ pass0 ! $
-        move ! (10 ∷ []) $ use1 W (raw (New 𝓤 H A mem run .pre to-new) ⊛ ‵ (OwnBytes κ s)) (made.goes-new 𝓤 H A W mem run κ q s n ok) $ split ! $
+        move ! (10 ∷ []) $ use1 W (raw (New 𝓤 H A mem run .pre to-new) ⊛ ‵ (OwnBytes κ s)) (made.goes-new 𝓤 H A W mem run κ q s (OwnNumber n)) $ split ! $
         calls-at ! fm (New 𝓤 H A mem run) known-new to-new (and-then ! (load ! (from ! (stop !)) (look ! 8 refl)) (no-more !)) (λ u₁.
         use1 W (later (some (λ (r : LineReader). ((‵ (flft κ q) ⊛ ‵ ftrue) ⊛ ‵ (Reader (κ, tt) .own r (u₁ ∷ []))) ⊛ raw (ensured 𝓤 H A new.ended (new.clauses 𝓤 H A mem run) (κ, tt) (s, tt) tt r)))) (id⊢ 𝓤 _) $ await ! tt $ pick ! (λ r₁.
-        split ! $ move ! (1 ∷ []) $ use1 W (raw (fact 𝓤 (r₁ ≡ readerAt s 0))) (made.new-said 𝓤 H A W mem run κ q s n ok r₁) $ heard ! (r₁ ≡ readerAt s 0) (λ e₁. split ! $ move ! (1 ∷ []) $
+        split ! $ move ! (1 ∷ []) $ use1 W (raw (fact 𝓤 (r₁ ≡ readerAt s 0))) (made.new-said 𝓤 H A W mem run κ q s r₁) $ heard ! (r₁ ≡ readerAt s 0) (λ e₁. split ! $ move ! (1 ∷ []) $
         -- [what the reader owns; the token; what the part owns; room for _4; …; room for _3; …; _2; …; _1; …; room for _0; …]
         peeks ! (Reader (κ, tt)) (Is (Reader (κ, tt))) (shows 𝓤 H A (Reader (κ, tt))) r₁ (u₁ ∷ []) (λ is₁.
         land ! (from ! (stop !)) (init ! 3 refl (LL.lawful (T.the-type (inBody κ)) (T′.the-laws (inBody κ)) 𝓤 H A W .typed r₁ _ is₁ .0)) $
-        use2 W (raw (Moved 𝓤 H A mem run .pre (to-moved r₁ u₁))) (made.goes-moved 𝓤 H A W mem run κ q s n ok r₁ u₁) $
+        use2 W (raw (Moved 𝓤 H A mem run .pre (to-moved r₁ u₁))) (made.goes-moved 𝓤 H A W mem run κ q n ok r₁ u₁) $
         calls-at ! fm (Moved 𝓤 H A mem run) known-moved (to-moved r₁ u₁) (and-then ! (load ! (from ! (stop !)) (look ! 2 refl)) (and-then ! (load ! (from ! (stop !)) (look ! 6 refl)) (no-more !))) (λ u₂.
         use1 W (later (some (λ (r : LineReader). ((‵ (flft κ q) ⊛ ‵ ftrue) ⊛ ‵ (Reader (κ, tt) .own r (u₂ ∷ []))) ⊛ raw (ensured 𝓤 H A moved.ended (moved.clauses 𝓤 H A mem run) (κ, tt) (r₁, (n, tt)) tt r)))) (id⊢ 𝓤 _) $ await ! tt $ pick ! (λ r₂.
-        split ! $ move ! (1 ∷ []) $ use1 W (raw (fact 𝓤 (r₂ ≡ readerAt (r₁ .line) n))) (made.moved-said 𝓤 H A W mem run κ q s n ok r₁ r₂) $ heard ! (r₂ ≡ readerAt (r₁ .line) n) (λ e₂. split ! $ move ! (1 ∷ []) $
+        split ! $ move ! (1 ∷ []) $ use1 W (raw (fact 𝓤 (r₂ ≡ readerAt (r₁ .line) n))) (made.moved-said 𝓤 H A W mem run κ q n ok r₁ r₂) $ heard ! (r₂ ≡ readerAt (r₁ .line) n) (λ e₂. split ! $ move ! (1 ∷ []) $
         -- [what the moved reader owns; the token; what the part owns; _4; …; room for _3; …; _2; …; _1; …; room for _0; …]
         peeks ! (Reader (κ, tt)) (Is (Reader (κ, tt))) (shows 𝓤 H A (Reader (κ, tt))) r₂ (u₂ ∷ []) (λ is₂.
         land ! (from ! (stop !)) (init ! 5 refl (LL.lawful (T.the-type (inBody κ)) (T′.the-laws (inBody κ)) 𝓤 H A W .typed r₂ _ is₂ .0)) $
