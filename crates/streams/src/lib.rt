@@ -2,8 +2,9 @@
 // of the input. A call that a signal interrupts is made again. Which bytes are read and written no contract can say: they are the
 // operating system's.
 ghost use Prim.Native.Nat.{_≤_};
+ghost use mathlib.Core.Path.{_≡_};
 ghost use lib.ListN.{length};
-ghost use Rattle.streams.specs.Reading.{Some, Within};
+ghost use Rattle.streams.specs.Reading.{Some, Within, IsAhead, nextOf};
 
 // How often a call that is interrupted is made.
 const TRIES: u32 = 1000000;
@@ -21,6 +22,27 @@ pub enum Input {
     Full,
     Failed,
 }
+
+// What was read into a room ahead of its use: the bytes from one place up to another.
+pub struct Ahead {
+    pub at: usize,
+    pub end: usize,
+}
+
+pub enum Byte {
+    Is(u8),
+    End,
+    Failed,
+}
+
+// The next byte of an input, and what is then ahead.
+pub struct NextByte {
+    pub byte: Byte,
+    pub ahead: Ahead,
+}
+
+// The room for bytes that are read ahead.
+pub const BLOCK: usize = 4096;
 
 // Reads until the end is told or the room is full; what was read stands at the start of the room.
 pub fn read_input(fd: i32, room: &mut [u8]) -> Input
@@ -67,6 +89,45 @@ pub fn read_some(fd: i32, room: &mut [u8]) -> Read
         tries -= 1;
     }
     Read::Failed
+}
+
+// The next byte: the first one ahead, and where there is none, of what one read gives.
+pub fn next_byte(fd: i32, room: &mut [u8; BLOCK], ahead: Ahead) -> NextByte
+    ensures { λ r. ⌜ (IsAhead ahead → r ≡ nextOf (now (room .entry)) ahead) ⌝ }
+    ensures { λ r. ⌜ (IsAhead ahead → now (room .exit) ≡ now (room .entry)) ⌝ }
+{
+    let at = ahead.at;
+    let end = ahead.end;
+    if end <= at {
+        return read_next(fd, room);
+    }
+    if BLOCK < end {
+        return read_next(fd, room);
+    }
+    NextByte {
+        byte: Byte::Is(room[at]),
+        ahead: Ahead { at: at + 1, end },
+    }
+}
+
+// The next byte of what one read gives.
+fn read_next(fd: i32, room: &mut [u8; BLOCK]) -> NextByte {
+    let none = Ahead { at: 0, end: 0 };
+    let read = read_some(fd, room);
+    match read {
+        Read::Bytes(k) => NextByte {
+            byte: Byte::Is(room[0]),
+            ahead: Ahead { at: 1, end: k },
+        },
+        Read::End => NextByte {
+            byte: Byte::End,
+            ahead: none,
+        },
+        Read::Failed => NextByte {
+            byte: Byte::Failed,
+            ahead: none,
+        },
+    }
 }
 
 // Writes all of the bytes; false where a write takes nothing or fails, and errno has the number.
