@@ -58,11 +58,13 @@ module _ (answer : Verdict) (r : Report) (er : r ≡ verdictReport answer) where
   not-told-line h x e = (rw (eq-eqb (r .verdict) 2 h) e) ∙ report-line
 
   pub told-line : r .verdict ≢ 2 → (e x₁ x₂ x₃ x₄ x₅ x₆ x₇ : List ℕ) → x₁ ≡ take 0 e ++ verdictWord → x₂ ≡ x₁ ++ next (r .verdict)
-      → x₃ ≡ x₂ ++ next (r .number) → x₄ ≡ x₃ ++ next (r .state) → x₅ ≡ x₄ ++ next (r .row) → x₆ ≡ x₅ ++ next (r .sum) → x₇ ≡ x₆ ++ (10 ∷ [])
+      → x₃ ≡ x₂ ++ next (r .number) → x₄ ≡ x₃ ++ next (r .state) → x₅ ≡ x₄ ++ next (r .row)
+      → x₆ ≡ x₅ ++ next (r .sum) → x₇ ≡ x₆ ++ (10 ∷ [])
       → x₇ ≡ verdictLine answer
   told-line h e x₁ x₂ x₃ x₄ x₅ x₆ x₇ e₁ e₂ e₃ e₄ e₅ e₆ e₇ =
       (rw (ne-eqb (r .verdict) 2 h)
-      (seven e verdictWord (next (r .verdict)) x₁ x₂ e₁ e₂ (next (r .number)) (next (r .state)) (next (r .row)) (next (r .sum)) (10 ∷ []) x₃ x₄ x₅ x₆ x₇ e₃ e₄ e₅ e₆ e₇))
+      (seven e verdictWord (next (r .verdict)) x₁ x₂ e₁ e₂ (next (r .number)) (next (r .state)) (next (r .row)) (next (r .sum))
+      (10 ∷ []) x₃ x₄ x₅ x₆ x₇ e₃ e₄ e₅ e₆ e₇))
       ∙ report-line
 
 -- ---- the end of a list
@@ -87,21 +89,26 @@ module _ (desk : Desk) (n : ℕ) (room : List ℕ) (r : AfterLoad) where
   all-bytes h e = e ∙ ap (loadOf desk) (sym (take-all n room h))
 
   -- what was read stands for every text that begins with it
-  loaded : r ≡ loadOf desk (take n room) → (text : List ℕ) → IsText n room text → r ≡ loadOf desk text
-  loaded e text i = e ∙ (ap (loadOf desk) (sym (i .1)) ∙ load-cut desk text)
+  loaded : length room ≡ 28673 → r ≡ loadOf desk (take n room) → (text : List ℕ) → IsText n room text → r ≡ loadOf desk text
+  loaded l e text i =
+      let at-room : take (length room) text ≡ take n room = i .1 in
+      let start : take 28673 text ≡ take n room = rw l at at-room in
+      e ∙ (ap (loadOf desk) (sym start) ∙ load-cut desk text)
 
-  pub load-desk : r ≡ loadOf desk (take n room) → (text : List ℕ) → IsText n room text → r .desk ≡ loadOf desk text .desk
-  load-desk e text i = ap (λ x. x .desk) (loaded e text i)
+  pub load-desk : length room ≡ 28673 → r ≡ loadOf desk (take n room)
+      → (text : List ℕ) → IsText n room text → r .desk ≡ loadOf desk text .desk
+  load-desk l e text i = ap (λ x. x .desk) (loaded l e text i)
 
-  pub load-line : r ≡ loadOf desk (take n room) → (word x : List ℕ) → x ≡ doneLine word (r .answer)
+  pub load-line : length room ≡ 28673 → r ≡ loadOf desk (take n room) → (word x : List ℕ) → x ≡ doneLine word (r .answer)
       → (text : List ℕ) → IsText n room text → x ≡ doneLine word (loadOf desk text .answer)
-  load-line e word x h text i = h ∙ ap (λ y. doneLine word (y .answer)) (loaded e text i)
+  load-line l e word x h text i = h ∙ ap (λ y. doneLine word (y .answer)) (loaded l e text i)
 
 module _ (desk : Desk) (x : List ℕ) where
   pub advance-desk : (n : ℕ) (r : AfterAdvance) → r ≡ advanceOf desk n → r .desk ≡ advanceOf desk n .desk
   advance-desk n r e = ap (λ y. y .desk) e
 
-  pub advance-line : (n : ℕ) (r : AfterAdvance) → r ≡ advanceOf desk n → x ≡ advanceLine (r .answer) → x ≡ advanceLine (advanceOf desk n .answer)
+  pub advance-line : (n : ℕ) (r : AfterAdvance) → r ≡ advanceOf desk n → x ≡ advanceLine (r .answer)
+      → x ≡ advanceLine (advanceOf desk n .answer)
   advance-line n r e h = h ∙ ap (λ y. advanceLine (y .answer)) e
 
   pub verdict-desk : (r : AfterVerdict) → r ≡ tellOf desk → r .desk ≡ tellOf desk .desk
@@ -113,5 +120,6 @@ module _ (desk : Desk) (x : List ℕ) where
   pub drop-desk : (r : AfterDrop) → r ≡ dropOf desk → r .desk ≡ dropOf desk .desk
   drop-desk r e = ap (λ y. y .desk) e
 
-  pub drop-line : (word : List ℕ) (r : AfterDrop) → r ≡ dropOf desk → x ≡ doneLine word (r .answer) → x ≡ doneLine word (dropOf desk .answer)
+  pub drop-line : (word : List ℕ) (r : AfterDrop) → r ≡ dropOf desk → x ≡ doneLine word (r .answer)
+      → x ≡ doneLine word (dropOf desk .answer)
   drop-line word r e h = h ∙ ap (λ y. doneLine word (y .answer)) e

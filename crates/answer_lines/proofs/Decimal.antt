@@ -51,7 +51,7 @@ few-by k n f h l =
 pub few : (k n : ℕ) → Fewest 10 1 n k → n < 18446744073709551616 → k ≤ 20
 few k n f h = let no = few-by k n f h in omega (arith, no)
 
-pub decimal-put : (k n : ℕ) (bytes p x : List ℕ) → Fewest 10 1 n k → n < 18446744073709551616 → take k bytes ≡ digits 10 k n → x ≡ p ++ take k bytes
-    → x ≡ p ++ decimalOf n
+pub decimal-put : (k n : ℕ) (bytes p x : List ℕ) → Fewest 10 1 n k → n < 18446744073709551616 → take k bytes ≡ digits 10 k n
+    → x ≡ p ++ take k bytes → x ≡ p ++ decimalOf n
 unfolding decimalOf
 decimal-put k n bytes p x f b e h = h ∙ ap (λ d. p ++ d) (e ∙ fewest k 20 n f (few k n f b))

@@ -35,7 +35,8 @@ module _ (at : ℕ) (bytes before : List ℕ) where
         ap (take (at + length bytes)) (sets-eq bytes before at fits)
         ∙ take-at (take at before ++ bytes) (drop (at + length bytes) before) (at + length bytes) start-length
 
-    module _ (i : ℕ) (l : List ℕ) (low : i ≤ length bytes) (done : length bytes ≤ i) (e : sets l (at + i) (drop i bytes) ≡ sets before at bytes) where
+    module _ (i : ℕ) (l : List ℕ) (low : i ≤ length bytes) (done : length bytes ≤ i)
+        (e : sets l (at + i) (drop i bytes) ≡ sets before at bytes) where
       pub put-end : at + i ≡ at + length bytes
       put-end = omega arith
 

@@ -12,6 +12,8 @@ use Rattle.desk.specs.declared.Done.the-variants as done
 use Rattle.desk.specs.declared.Advance.{Advance}
 use Rattle.desk.specs.declared.Advance.the-variants as advance
 use Rattle.desk.specs.declared.Verdict.{Verdict}
+use Rattle.desk.specs.declared.Desk.{Desk}
+use Rattle.desk.specs.Desk.{loadOf}
 use Rattle.checker.specs.OneCall.{verdictReport}
 use Rattle.call_lines.specs.Number.{decimalOf}
 use Rattle.answer_lines.specs.declared.Stop.{Stop}
@@ -19,9 +21,9 @@ use Rattle.answer_lines.specs.declared.Stop.the-variants as stop
 
 -- ---- what is loaded
 
--- a text of n bytes of which as many as a room of 28,673 has were read
+-- a text of n bytes of which as many as there is room for were read
 abbrev pub IsText : ℕ → List ℕ → List ℕ → Type 0
-IsText n room text = (length text ≡ n) × (take 28673 text ≡ take n room)
+IsText n room text = (length text ≡ n) × (take (length room) text ≡ take n room)
 
 -- ---- the words
 
@@ -58,6 +60,10 @@ abbrev pub doneLine : List ℕ → Done → List ℕ
 doneLine word done.Done = word ++ (32 ∷ 48 ∷ 10 ∷ [])
 doneLine word (done.TurnedDown k) = numbered turnedDownWords k
 
+-- the answer of a load
+abbrev pub loadLine : Desk → List ℕ → List ℕ
+loadLine desk text = doneLine loadWord (loadOf desk text .answer)
+
 abbrev pub advanceLine : Advance → List ℕ
 advanceLine (advance.Open k) = numbered openWord k
 advanceLine (advance.Accepted k) = numbered acceptedWord k
@@ -85,8 +91,12 @@ lineWord = 108 ∷ 105 ∷ 110 ∷ 101 ∷ 32 ∷ []
 -- ": no call", ": the text is not there in full", ": no line end after the text"
 abbrev pub stopWords : Stop → List ℕ
 stopWords stop.NoCall = 58 ∷ 32 ∷ 110 ∷ 111 ∷ 32 ∷ 99 ∷ 97 ∷ 108 ∷ 108 ∷ 10 ∷ []
-stopWords stop.TextMissing = 58 ∷ 32 ∷ 116 ∷ 104 ∷ 101 ∷ 32 ∷ 116 ∷ 101 ∷ 120 ∷ 116 ∷ 32 ∷ 105 ∷ 115 ∷ 32 ∷ 110 ∷ 111 ∷ 116 ∷ 32 ∷ 116 ∷ 104 ∷ 101 ∷ 114 ∷ 101 ∷ 32 ∷ 105 ∷ 110 ∷ 32 ∷ 102 ∷ 117 ∷ 108 ∷ 108 ∷ 10 ∷ []
-stopWords stop.NoLineEnd = 58 ∷ 32 ∷ 110 ∷ 111 ∷ 32 ∷ 108 ∷ 105 ∷ 110 ∷ 101 ∷ 32 ∷ 101 ∷ 110 ∷ 100 ∷ 32 ∷ 97 ∷ 102 ∷ 116 ∷ 101 ∷ 114 ∷ 32 ∷ 116 ∷ 104 ∷ 101 ∷ 32 ∷ 116 ∷ 101 ∷ 120 ∷ 116 ∷ 10 ∷ []
+stopWords stop.TextMissing =
+    58 ∷ 32 ∷ 116 ∷ 104 ∷ 101 ∷ 32 ∷ 116 ∷ 101 ∷ 120 ∷ 116 ∷ 32 ∷ 105 ∷ 115 ∷ 32 ∷ 110 ∷ 111 ∷ 116 ∷ 32 ∷
+    116 ∷ 104 ∷ 101 ∷ 114 ∷ 101 ∷ 32 ∷ 105 ∷ 110 ∷ 32 ∷ 102 ∷ 117 ∷ 108 ∷ 108 ∷ 10 ∷ []
+stopWords stop.NoLineEnd =
+    58 ∷ 32 ∷ 110 ∷ 111 ∷ 32 ∷ 108 ∷ 105 ∷ 110 ∷ 101 ∷ 32 ∷ 101 ∷ 110 ∷ 100 ∷ 32 ∷ 97 ∷ 102 ∷ 116 ∷ 101 ∷
+    114 ∷ 32 ∷ 116 ∷ 104 ∷ 101 ∷ 32 ∷ 116 ∷ 101 ∷ 120 ∷ 116 ∷ 10 ∷ []
 
 -- "a line that has the number of the call's line"
 abbrev pub stopLine : Stop → ℕ → List ℕ

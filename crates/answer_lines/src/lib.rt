@@ -13,7 +13,7 @@ ghost use lib.ListN.{length, take};
 ghost use Rattle.io.specs.Counts.{Counts};
 ghost use Rattle.desk.specs.Desk.{loadOf, advanceOf, tellOf, dropOf};
 ghost use Rattle.call_lines.specs.Number.{decimalOf};
-ghost use Rattle.answer_lines.specs.Answers.{IsText, doneLine, advanceLine, verdictLine, stopLine, loadWord, dropWord};
+ghost use Rattle.answer_lines.specs.Answers.{IsText, dropWord, doneLine, loadLine, advanceLine, verdictLine, stopLine};
 
 // The longest text that is not turned down for its length, and one byte: no answer depends on more.
 pub const ENOUGH: usize = 28673;
@@ -38,9 +38,10 @@ pub struct Answered {
 pub fn run_load(desk: Desk, room: &[u8; ENOUGH], n: u64, line: &mut [u8; ROOM]) -> Answered
     ensures { λ r. ⌜ Counts (r .length) (now (line .exit)) ⌝ }
     ensures { λ r. ⌜ ((text : List ℕ) → IsText n (now (room .entry)) text → r .desk ≡ loadOf desk text .desk) ⌝ }
-    ensures { λ r. ⌜ ((text : List ℕ) → IsText n (now (room .entry)) text → take (r .length) (now (line .exit)) ≡ doneLine loadWord (loadOf desk text .answer)) ⌝ }
+    ensures { λ r. ⌜ ((text : List ℕ) → IsText n (now (room .entry)) text → take (r .length) (now (line .exit)) ≡ loadLine desk text) ⌝ }
 {
-    let loaded = load_start(desk, room, n);
+    let bytes: &[u8] = room;
+    let loaded = load_start(desk, bytes, n);
     let answer = loaded.answer;
     let length = put_done(line, b"load", answer);
     let next = loaded.desk;
@@ -98,10 +99,9 @@ pub fn put_stop(line: &mut [u8; ROOM], why: Stop, n: u64) -> usize
 }
 
 // Loads the first n bytes, or all.
-fn load_start(desk: Desk, room: &[u8; ENOUGH], n: u64) -> AfterLoad
-    ensures { λ r. ⌜ r ≡ loadOf desk (take n (now (room .entry))) ⌝ }
+fn load_start(desk: Desk, bytes: &[u8], n: u64) -> AfterLoad
+    ensures { λ r. ⌜ r ≡ loadOf desk (take n (now (bytes .entry))) ⌝ }
 {
-    let bytes: &[u8] = room;
     if n < bytes.len() as u64 {
         let k = n as usize;
         desk.load(&bytes[0..k])

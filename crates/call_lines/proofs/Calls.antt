@@ -21,7 +21,8 @@ use Rattle.call_lines.proofs.Decimal.{decimal-number}
 -- ---- a number after a word
 
 module _ (word line : List ℕ) where
-  after-by : (z : Bool) → sameBytes (take (length word) line) word ≡ z → numberAfter word line ≡ cond z (numberOf (drop (length word) line)) number.None
+  after-by : (z : Bool) → sameBytes (take (length word) line) word ≡ z
+      → numberAfter word line ≡ cond z (numberOf (drop (length word) line)) number.None
   unfolding numberAfter
   after-by z e = rw e
 
@@ -72,7 +73,9 @@ module _ (line : List ℕ) (v : Bool) (ev : v ≡ sameBytes line verdictWord) wh
 
       module _ (nl : l ≡ number.None) (a : Number) (ea : a ≡ numberAfter advanceWord line) where
         last : advanceOr a call.NoCall ≡ callOf line
-        last = ap (λ x. advanceOr x call.NoCall) ea ∙ (ap (λ x. loadOr x (advanceOr (numberAfter advanceWord line) call.NoCall)) (sym nl) ∙ others)
+        last =
+            ap (λ x. advanceOr x call.NoCall) ea
+            ∙ (ap (λ x. loadOr x (advanceOr (numberAfter advanceWord line) call.NoCall)) (sym nl) ∙ others)
 
         pub says-advance : (n : ℕ) → a ≡ number.Is n → call.Advance n ≡ callOf line
         says-advance n e = ap (λ x. advanceOr x call.NoCall) (sym e) ∙ last
@@ -104,15 +107,22 @@ after word line n h = go _ refl
           whole = sym (ap (λ x. x ++ drop (length word) line) (sym w) ∙ take-append-drop (length word) line);
           number = is-number (drop (length word) line) n (sym (after-by word line true e) ∙ h);
         }
-    go false e = let q : number.None ≡ number.Is n = sym (after-by word line false e) ∙ h in let z : _≡_ {A = ℕ} 0 1 = cc in absurd (omega arith)
+    go false e =
+        let q : number.None ≡ number.Is n = sym (after-by word line false e) ∙ h in
+        let z : _≡_ {A = ℕ} 0 1 = cc in
+        absurd (omega arith)
 
 is-call-by : (line : List ℕ) (v d : Bool) (l a : Number) → sameBytes line verdictWord ≡ v → sameBytes line dropWord ≡ d
     → numberAfter loadWord line ≡ l → numberAfter advanceWord line ≡ a
     → (c : Call) → cond v call.Verdict (cond d call.Drop (loadOr l (advanceOr a call.NoCall))) ≡ c → c ≢ call.NoCall → IsCall line c
 is-call-by line true d l a ev ed el ea c e n = rw (same-bytes line verdictWord ev, ← e) is-verdict
 is-call-by line false true l a ev ed el ea c e n = rw (same-bytes line dropWord ed, ← e) is-drop
-is-call-by line false false (number.Is k) a ev ed el ea c e n = let f = after loadWord line k el in rw (f .whole, ← e) (is-load (f .number))
-is-call-by line false false number.None (number.Is k) ev ed el ea c e n = let f = after advanceWord line k ea in rw (f .whole, ← e) (is-advance (f .number))
+is-call-by line false false (number.Is k) a ev ed el ea c e n =
+    let f = after loadWord line k el in
+    rw (f .whole, ← e) (is-load (f .number))
+is-call-by line false false number.None (number.Is k) ev ed el ea c e n =
+    let f = after advanceWord line k ea in
+    rw (f .whole, ← e) (is-advance (f .number))
 is-call-by line false false number.None number.None ev ed el ea c e n = absurd (n (sym e))
 
 -- a line is a call exactly if it is found to be

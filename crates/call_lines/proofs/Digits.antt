@@ -108,7 +108,8 @@ module _ (digits : List ℕ) (n i : ℕ) (h : i < length digits) (w : Number) (e
   split : drop i digits ≡ getD digits i 0 ∷ drop (i + 1) digits
   split = rw (add-one, drop-cons digits i 0 h)
 
-  pub goes-on : (m : ℕ) → w ≡ number.Is m → numberFrom n (drop i digits) ≡ numberFrom 0 digits → numberFrom m (drop (i + 1) digits) ≡ numberFrom 0 digits
+  pub goes-on : (m : ℕ) → w ≡ number.Is m → numberFrom n (drop i digits) ≡ numberFrom 0 digits
+      → numberFrom m (drop (i + 1) digits) ≡ numberFrom 0 digits
   unfolding withDigit
   goes-on m em e =
       sym (ap (numberFrom n) split ∙ next-by _ _ n (getD digits i 0) m (drop (i + 1) digits) refl refl (sym ew ∙ em)) ∙ e
@@ -151,7 +152,8 @@ module _ (digits : List ℕ) where
         → numberFrom n (drop i digits) ≡ numberFrom 0 digits → number.None ≡ numberOf digits
     no-number n i h w ew em e = stops digits n i h w ew em e ∙ sym (number-within digits some few)
 
-    pub ends : (n i : ℕ) → length digits ≤ i → n < 18446744073709551616 → numberFrom n (drop i digits) ≡ numberFrom 0 digits → number.Is n ≡ numberOf digits
+    pub ends : (n i : ℕ) → length digits ≤ i → n < 18446744073709551616 → numberFrom n (drop i digits) ≡ numberFrom 0 digits
+        → number.Is n ≡ numberOf digits
     ends n i h f e = sym (number-within digits some few ∙ (sym e ∙ (ap (numberFrom n) (drop-of-length-le digits h) ∙ last n f)))
 
 -- ---- what is found

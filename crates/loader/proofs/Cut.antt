@@ -13,7 +13,8 @@ use Rattle.loader.specs.Load.{faultOf, refusedBy, loadedOf}
 use Rattle.loader.specs.declared.Loaded.{Loaded}
 
 -- what is one and the same for every text over the limit goes by the first 28,673 bytes
-pub by-start : {A : Type 0} (f : List ℕ → A) (a : A) → ((text : List ℕ) → 28672 < length text → f text ≡ a) → (text : List ℕ) → f (take 28673 text) ≡ f text
+pub by-start : {A : Type 0} (f : List ℕ → A) (a : A) → ((text : List ℕ) → 28672 < length text → f text ≡ a)
+    → (text : List ℕ) → f (take 28673 text) ≡ f text
 by-start {A} f a long text = go _ refl
   where
     go : (z : Bool) → ltb 28673 (length text) ≡ z → f (take 28673 text) ≡ f text

@@ -75,10 +75,11 @@ module _ (i : Input) (room after : List ℕ) (k : ℕ) (z : k ≡ 31) where
   full ei e = rw ei (taken (judgedOf room) after k z (full-report e))
 
   -- a full room is the start of the input
-  pub full-input : i ≡ input.Full → after ≡ reportOf (judgedOf (take 28673 room))
+  pub full-input : i ≡ input.Full → length room ≡ 28673 → after ≡ reportOf (judgedOf (take 28673 room))
       → (text : List ℕ) → IsInput i room text → take k after ≡ reportOf (judgedOf text)
-  full-input ei e text s =
-      let start : take 28673 text ≡ room = rw ei at s in
+  full-input ei l e text s =
+      let at-room : take (length room) text ≡ room = rw ei at s in
+      let start : take 28673 text ≡ room = rw l at at-room in
       taken (judgedOf room) after k z (full-report e)
       ∙ (ap (λ t. reportOf (judgedOf t)) (sym start) ∙ ap reportOf (judged-cut text))
 
@@ -87,5 +88,6 @@ unfolding outputOf
 failed i room ei = rw ei
 
 -- where a read failed no input is known
-pub failed-input : (i : Input) (room bytes : List ℕ) → i ≡ input.Failed → (text : List ℕ) → IsInput i room text → bytes ≡ reportOf (judgedOf text)
+pub failed-input : (i : Input) (room bytes : List ℕ) → i ≡ input.Failed → (text : List ℕ) → IsInput i room text
+    → bytes ≡ reportOf (judgedOf text)
 failed-input i room bytes ei text s = absurd (rw ei at s)

@@ -24,19 +24,19 @@ pub fn put_output(
     ensures { λ r. ⌜ take r (now (output .exit)) ≡ outputOf input (now (room .entry)) ⌝ }
     ensures { λ r. ⌜ ((text : List ℕ) → IsInput input (now (room .entry)) text → take r (now (output .exit)) ≡ reportOf (judgedOf text)) ⌝ }
 {
+    let bytes: &[u8] = room;
     match input {
-        Input::Ended(n) => put_start(room, n, output),
-        Input::Full => put_start(room, ENOUGH, output),
+        Input::Ended(n) => put_start(bytes, n, output),
+        Input::Full => put_start(bytes, ENOUGH, output),
         Input::Failed => 0,
     }
 }
 
-// Puts the report on the first n bytes.
-fn put_start(room: &[u8; ENOUGH], n: usize, output: &mut [u8; writer::REPORT_BYTES]) -> usize
+// Puts the report on the first n bytes, or all.
+fn put_start(bytes: &[u8], n: usize, output: &mut [u8; writer::REPORT_BYTES]) -> usize
     ensures { λ r. ⌜ r ≡ 31 ⌝ }
-    ensures { λ _. ⌜ now (output .exit) ≡ reportOf (judgedOf (take n (now (room .entry)))) ⌝ }
+    ensures { λ _. ⌜ now (output .exit) ≡ reportOf (judgedOf (take n (now (bytes .entry)))) ⌝ }
 {
-    let bytes: &[u8] = room;
     let report: &mut [u8] = output;
     if n < bytes.len() {
         checker::check_design(&bytes[0..n], report);

@@ -10,7 +10,9 @@ use Rattle.answer_lines.proofs.put.Statement.{statement}
 use Rattle.answer_lines.proofs.put.Tie as tie
 
 abbrev Inv-loop : tie.InvT-loop
-Inv-loop at bytes space₀ i₀ space i = (i ≤ length bytes) × (at + length bytes ≤ length space₀) × (length space ≡ length space₀) × (sets space (at + i) (drop i bytes) ≡ sets space₀ at bytes)
+Inv-loop at bytes space₀ i₀ space i =
+    (i ≤ length bytes) × (at + length bytes ≤ length space₀) × (length space ≡ length space₀)
+    × (sets space (at + i) (drop i bytes) ≡ sets space₀ at bytes)
 
 abbrev μ-loop : tie.MeasureT-loop
 μ-loop at bytes space₀ i₀ space i = length bytes - i

@@ -9,7 +9,9 @@ use Rattle.call_lines.proofs.number_of.Statement.{statement}
 use Rattle.call_lines.proofs.number_of.Tie as tie
 
 abbrev Inv-loop : tie.InvT-loop
-Inv-loop digits n₀ i₀ n i = (i ≤ length digits) × (length digits ≡ 0 → ⊥) × (length digits ≤ 20) × (n < 18446744073709551616) × (numberFrom n (drop i digits) ≡ numberFrom 0 digits)
+Inv-loop digits n₀ i₀ n i =
+    (i ≤ length digits) × (length digits ≡ 0 → ⊥) × (length digits ≤ 20)
+    × (n < 18446744073709551616) × (numberFrom n (drop i digits) ≡ numberFrom 0 digits)
 
 abbrev μ-loop : tie.MeasureT-loop
 μ-loop digits n₀ i₀ n i = length digits - i
