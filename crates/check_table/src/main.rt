@@ -1,13 +1,15 @@
 // The one-call check as a program: the text on standard input, its report on standard output. The report's first field is the verdict.
-// A text longer than the buffer is over the limit by what is read of it.
-
-// The longest text that is not turned down for its length, and one byte.
-const ENOUGH: usize = 28673;
+// Standard input is read until its end is told, or until more cannot change the report. Where it can't be read there is no report, and
+// where the report can't be written it may not be there in full: a line on standard error says so.
 
 fn main() {
-    let mut text = [0u8; ENOUGH];
-    let n = io::read_full(0, &mut text);
-    let mut report = [0u8; writer::REPORT_BYTES];
-    checker::check_design(&text[..n], &mut report);
-    io::write_all(1, &report);
+    let mut room = [0u8; table_input::ENOUGH];
+    let input = streams::read_input(libc::STDIN_FILENO, &mut room);
+    let mut output = [0u8; writer::REPORT_BYTES];
+    let n = table_input::put_output(&room, input, &mut output);
+    if n == 0 {
+        os::fail(b"check_table: standard input");
+    } else if !streams::write_all(libc::STDOUT_FILENO, &output[..n]) {
+        os::fail(b"check_table: standard output");
+    }
 }

@@ -1,3 +1,4 @@
 pub mod Opened
 pub mod Stages
 pub mod Judging
+pub mod Cut

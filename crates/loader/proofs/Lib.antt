@@ -6,3 +6,4 @@ pub mod Loading
 pub mod Lowest
 pub mod Admitted
 pub mod Passed
+pub mod Cut

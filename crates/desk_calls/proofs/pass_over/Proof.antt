@@ -1,13 +1,13 @@
--- The proof of `pass_over`: it is safe and ends, since each read takes at least a byte off what is left.
+-- `pass_over` is safe and ends, since each turn takes at least a byte off what is left.
 use borrow.Author.Needs.{needs}
 use Rattle.desk_calls.proofs.pass_over.Statement.{statement}
 use Rattle.desk_calls.proofs.pass_over.Tie as tie
 
 abbrev Inv-loop : tie.InvT-loop
-Inv-loop n left₀ left = Unit {0}
+Inv-loop space₀ n rest₀ left₀ space rest left = Unit {0}
 
 abbrev μ-loop : tie.MeasureT-loop
-μ-loop n left₀ left = left
+μ-loop space₀ n rest₀ left₀ space rest left = left
 
 pub pass-over-spec : {M : Type 1} → statement M
 pass-over-spec =
@@ -17,6 +17,11 @@ pass-over-spec =
     μ-loop
     (λ c. search needs)
     (λ c κs. search needs)
+    (λ c. search needs)
+    (λ c. search needs)
+    (λ c κs. search needs)
+    (λ c. search needs)
+    (λ c. search needs)
     (λ c. search needs)
     (λ c. search needs)
     (λ c. search needs)

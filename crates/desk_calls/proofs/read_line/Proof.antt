@@ -1,14 +1,14 @@
--- The proof of `read_line`: it is safe and ends; what it answers is up to the input.
+-- `read_line` is safe and ends; what it answers is up to the input.
 use borrow.Author.Needs.{needs}
 use Prim.Native.Nat.{_-_}
 use Rattle.desk_calls.proofs.read_line.Statement.{statement}
 use Rattle.desk_calls.proofs.read_line.Tie as tie
 
 abbrev Inv-loop : tie.InvT-loop
-Inv-loop bytes₀ n₀ bytes n = Unit {0}
+Inv-loop space₀ bytes₀ rest₀ n₀ space bytes rest n = Unit {0}
 
 abbrev μ-loop : tie.MeasureT-loop
-μ-loop bytes₀ n₀ bytes n = 29 - n
+μ-loop space₀ bytes₀ rest₀ n₀ space bytes rest n = 29 - n
 
 pub read-line-spec : {M : Type 1} → statement M
 read-line-spec =
@@ -18,6 +18,8 @@ read-line-spec =
     μ-loop
     (λ c. search needs)
     (λ c κs. search needs)
+    (λ c. search needs)
+    (λ c. search needs)
     (λ c. search needs)
     (λ c. search needs)
     (λ c κs. search needs)

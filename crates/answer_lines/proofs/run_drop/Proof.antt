@@ -1,0 +1,14 @@
+-- `run_drop` drops, and puts the answer.
+use borrow.Author.Needs.{needs}
+use Rattle.answer_lines.proofs.Answers as answers
+use Rattle.answer_lines.proofs.run_drop.Statement.{statement}
+use Rattle.answer_lines.proofs.run_drop.Tie as tie
+
+pub run-drop-spec : {M : Type 1} → statement M
+run-drop-spec =
+    tie.close
+    (tie.spec
+    (λ c κs. search needs)
+    (λ c. search needs)
+    (λ c κs. search needs)
+    (λ c. (search needs, (search answers.drop-desk, search answers.drop-line))))

@@ -1,0 +1,4 @@
+pub mod Compared
+pub mod Digits
+pub mod Decimal
+pub mod Calls

@@ -1,0 +1,35 @@
+-- `read_some` makes a call that is interrupted again, at most `TRIES` times; what it gives fits the room.
+use borrow.Author.Needs.{needs}
+use mathlib.Core.Path.{_≡_}
+use lib.ListN.{length}
+use Rattle.streams.proofs.read_some.Statement.{statement}
+use Rattle.streams.proofs.read_some.Tie as tie
+
+abbrev Inv-loop : tie.InvT-loop
+Inv-loop fd room₀ tries₀ room tries = length room ≡ length room₀
+
+abbrev μ-loop : tie.MeasureT-loop
+μ-loop fd room₀ tries₀ room tries = tries
+
+pub read-some-spec : {M : Type 1} → statement M
+read-some-spec =
+    tie.close
+    (tie.spec
+    Inv-loop
+    μ-loop
+    (λ c. search needs)
+    (λ c. search needs)
+    (λ c κs. search needs)
+    (λ c κs. search needs)
+    (λ c. search needs)
+    (λ c. search needs)
+    (λ c. search needs)
+    (λ c. search needs)
+    (λ c κs. search needs)
+    (λ c. search needs)
+    (λ c. search needs)
+    (λ c. search needs)
+    (λ c. search needs)
+    (λ c. search needs)
+    (λ c. search needs)
+    (λ c. search needs))
