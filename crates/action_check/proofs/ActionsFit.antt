@@ -1,5 +1,5 @@
 -- The test for fault 7 (specs/ActionsFit) says whether it is absent:
---   admits      where the test says yes, the rows keep what `Admitted` says of them (crate criteria, specs/Design);
+--   admits      where the test says yes, the rows keep what `Admitted` says of them (criteria/specs/Design);
 --   no-fault7   and where they keep that, fault 7 is not in the design;
 --   has-fault7  where the test says no, there are rows at fault: the fault itself is in the design;
 --   by-fault7, by-actions, rows-admitted   so the test says exactly whether it is in, whether it is not, and without it the rows keep it;

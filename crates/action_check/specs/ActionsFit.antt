@@ -1,5 +1,5 @@
--- Fault 7 as a test. What it tests is `Fault7` in the crate design, specs/Faults; that it does is in proofs/ActionsFit. The tests of
--- rows are those of the crate decision, specs/Admitted.
+-- Fault 7 as a test. What it tests is `Fault7` in design/specs/Faults; that it does is in proofs/ActionsFit. The tests of rows are
+-- those of decision/specs/Admitted.
 use mathlib.Core.Bool.{Bool, not, _&&_}
 use mathlib.Core.List.{List}
 use Prim.Native.Nat.{ℕ}

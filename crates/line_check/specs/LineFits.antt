@@ -1,5 +1,5 @@
 -- Fault 6 as a test, on a line's fields: whether they are the terms that the line's kind asks for, one after the other, and nothing
--- else. What it tests is `Terms` and `LineTerms` in the crate design, specs/Faults; that it does is in proofs/LineFits. How terms are
+-- else. What it tests is `Terms` and `LineTerms` in design/specs/Faults; that it does is in proofs/LineFits. How terms are
 -- checked on a line's bytes is in the crate term_check.
 use Prim.Native.Nat.{ℕ}
 use mathlib.Core.Bool.{Bool, true, false, cond, _&&_}

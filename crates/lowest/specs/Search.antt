@@ -1,5 +1,5 @@
 -- The search for the lowest failure at a state as the code makes it, over the tests of specs/Tests: criterion 2, then of each of the
--- criteria 3 to 9 its rows, of each its sum values. It is that of decision/specs/Examine (proofs/Lowest).
+-- criteria 3 to 9 its rows, of each its sum values. It is that of decision/specs/Examine (proofs/Decided).
 use mathlib.Core.Bool.{Bool, not}
 use mathlib.Core.List.{List}
 use Prim.Native.Nat.{ℕ, suc}

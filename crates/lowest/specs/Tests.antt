@@ -1,6 +1,6 @@
 -- The tests of criteria 2 to 9 as the code makes them from a desk's arrays: f the fields, s the starts of lines, c the counts; at
 -- the implementation's state v and the specification's state t, for row k and the sum value e. Where v holds a state of the
--- design and t its mapped state, they are those of decision/specs/Tests (proofs/Lowest).
+-- design and t its mapped state, they are those of decision/specs/Tests (proofs/Decided).
 use mathlib.Core.Bool.{Bool, not, _&&_}
 use mathlib.Core.List.{List}
 use Prim.Native.Nat.{ℕ, suc}

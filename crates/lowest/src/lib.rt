@@ -2,7 +2,7 @@
 // rows and sum values in 01's order. Every function answers any arrays.
 //
 // v is a state of the implementation and t its mapped state, as arrays of the crate steps. What each function computes is in
-// specs/Tests and specs/Search; that it is what the crate decision says of the design in the arrays is in proofs/Lowest.
+// specs/Tests and specs/Search; that it is what the crate decision says of the design in the arrays is in proofs/Decided.
 use layout::Shape;
 ghost use mathlib.Core.Path.{_≡_};
 ghost use Rattle.layout.specs.Sizes.{countsOf};
