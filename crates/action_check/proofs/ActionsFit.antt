@@ -2,7 +2,7 @@
 --   admits      where the test says yes, the rows keep what `Admitted` says of them (criteria/specs/Design);
 --   no-fault7   and where they keep that, fault 7 is not in the design;
 --   has-fault7  where the test says no, there are rows at fault: the fault itself is in the design;
---   by-fault7, by-actions, rows-admitted   so the test says exactly whether it is in, whether it is not, and without it the rows keep it;
+--   by-actions, rows-admitted   so the test says exactly whether it is absent, and without it the rows keep it;
 --   in-arrays   the test on a desk's arrays is that of the design that they hold.
 use mathlib.Core.Path.{_≡_, refl, sym, ap, _∙_}
 use mathlib.Core.Logic.{_≢_, _⊎_, inl, inr, ⊎-elim}
@@ -195,13 +195,6 @@ module _ (d : Design) where
       (and-fails _ _ e)
 
   -- ---- both
-
-  pub by-fault7 : Reflects (Fault7 d) (not (actionsFit d))
-  by-fault7 = go (actionsFit d) refl
-    where
-      go : (b : Bool) → actionsFit d ≡ b → Reflects (Fault7 d) (not b)
-      go true e = not-so (no-fault7 d (admits d e))
-      go false e = so (has-fault7 e)
 
   pub by-actions : Reflects (Fault7 d → ⊥) (actionsFit d)
   by-actions = go (actionsFit d) refl

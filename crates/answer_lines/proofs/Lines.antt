@@ -1,11 +1,11 @@
 -- Lines are put together from the left: the laws of `put`'s loop, and what its parts come to.
 use Prim.Native.Nat.{ℕ, suc, _+_, _-_, _<_, _≤_}
-use mathlib.Core.Path.{_≡_, refl, sym, ap, _∙_}
+use mathlib.Core.Path.{_≡_, sym, ap, _∙_}
 use mathlib.Core.List.{List, [], _∷_, _++_, append-assoc}
 use native.Mathlib.Numerals.{add-one}
 use native.Mathlib.Omega.{arith}
 use lib.ListN.{length, set, take, drop, getD, length-append, length-take, drop-of-length-le}
-use lib.Seq.{sets, sets-eq, length-sets, drop-cons, take-at, take-all}
+use lib.Seq.{sets, sets-eq, length-sets, drop-cons, take-at}
 
 -- ---- bytes put one after the other
 

@@ -1,12 +1,12 @@
 -- Which call a line is: what `call_of` answers at each return, and that it is the call of `IsCall` (`call-exactly`).
-use Prim.Native.Nat.{ℕ, _+_, _-_, _<_, _≤_}
+use Prim.Native.Nat.{ℕ, _+_, _-_, _<_}
 use mathlib.Core.Path.{_≡_, refl, sym, ap, _∙_}
 use mathlib.Core.Logic.{_≢_, _↔_}
-use mathlib.Core.Bool.{Bool, true, false, cond, false≢true}
-use mathlib.Core.List.{List, [], _∷_, _++_}
+use mathlib.Core.Bool.{Bool, true, false, cond}
+use mathlib.Core.List.{List, _++_}
 use native.Mathlib.Omega.{arith}
 use lib.ListN.{length, take, drop, length-take, length-drop, take-append-drop}
-use lib.Seq.{take-all, take-append-seam, drop-append-seam}
+use lib.Seq.{take-all}
 use Rattle.reader.specs.Columns.{sameBytes}
 use Rattle.call_lines.specs.Number.{IsNumber, numberOf, decimalOf}
 use Rattle.call_lines.specs.Calls.{loadWord, advanceWord, verdictWord, dropWord, IsCall, is-load, is-advance, is-verdict, is-drop, numberAfter, loadOr, advanceOr, callOf}
@@ -14,7 +14,7 @@ use Rattle.call_lines.specs.declared.Number.{Number}
 use Rattle.call_lines.specs.declared.Number.the-variants as number
 use Rattle.call_lines.specs.declared.Call.{Call}
 use Rattle.call_lines.specs.declared.Call.the-variants as call
-use Rattle.call_lines.proofs.Compared.{same-bytes, bytes-same, lengths-differ}
+use Rattle.call_lines.proofs.Compared.{same-bytes, lengths-differ}
 use Rattle.call_lines.proofs.Digits.{number-is, is-number}
 use Rattle.call_lines.proofs.Decimal.{decimal-number}
 

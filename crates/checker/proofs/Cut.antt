@@ -3,7 +3,6 @@ use Prim.Native.Nat.{ℕ, _<_}
 use mathlib.Core.Path.{_≡_}
 use mathlib.Core.List.{List}
 use lib.ListN.{length, take}
-use Rattle.loader.specs.Load.{faultOf}
 use Rattle.loader.proofs.Cut.{by-start, fault-long}
 use Rattle.checker.specs.OneCall.{refusedReport, judgedOf}
 

@@ -1,5 +1,5 @@
 -- Demand 1 holds of every call.
-use mathlib.Core.Path.{_≡_, refl, _∙_}
+use mathlib.Core.Path.{refl, _∙_}
 use Rattle.loader.proofs.Lowest.{free-exactly}
 use Rattle.claims.specs.Demand1.{Claim1}
 use Rattle.claims.proofs.Lists.{asks-nothing, answered-all, answered, written}

@@ -1,8 +1,7 @@
 -- Demand 2 holds of every check, however it is divided among calls.
 use mathlib.Core.Path.{_≡_, ap, _∙_}
-use mathlib.Core.List.{List, _++_}
+use mathlib.Core.List.{_++_}
 use lib.ListN.{drop}
-use Prim.Native.Nat.{ℕ}
 use Rattle.writer.specs.Report as bytes
 use Rattle.decision.specs.Verdict.{verdictOf}
 use Rattle.decision.proofs.Demand2.{demand2}

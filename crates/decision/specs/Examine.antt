@@ -1,5 +1,5 @@
 -- The examination of one state: which rows and sum values are tried for which criterion, in 01's order, and what is found there.
--- The walk over the states and the verdict are in specs/Verdict; faster ways to the same in specs/Quick and specs/OnePass.
+-- The walk over the states and the verdict are in specs/Verdict; a faster way to the same in specs/Quick.
 use mathlib.Core.Bool.{Bool, false, not}
 use mathlib.Core.List.{List, [], _∷_}
 use Prim.Native.Nat.{ℕ, suc}

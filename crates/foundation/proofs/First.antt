@@ -102,31 +102,12 @@ module _ {A : Type 0} (f : ℕ → Outcome A) where
       go pass h = so (first-pass n i h)
       go (fail x) h = not-so (λ p. pass≢fail (sym (all-pass n i p) ∙ h))
 
-  -- where a pass at i means a pass at all later ones, only i has to be examined
-  pub first-same : (n i : ℕ) → (f i ≡ pass → AllPass f n (suc i)) → firstIn f (suc n) i ≡ f i
-  first-same n i h = go (f i) refl
-    where
-      go : (o : Outcome A) → f i ≡ o → firstIn f (suc n) i ≡ o
-      go pass e = first-goes n i e ∙ all-pass n (suc i) (h e)
-      go (fail x) e = first-stops n i x e
-
 -- ---- examinations that come to the same
 
 pub first-alike : {A : Type 0} (f g : ℕ → Outcome A) (n i : ℕ) → ((j : ℕ) → i ≤ j → j < i + n → f j ≡ g j) → firstIn f n i ≡ firstIn g n i
 unfolding firstIn
 first-alike f g zero i h = refl
 first-alike f g (suc n) i h = rw (h i (omega arith) (omega arith), first-alike f g n (suc i) (λ j l u. h j (omega arith) (omega arith)))
-
--- a test that says the same for all numbers fails first at number 0: one look does for n
-pub test-same : {A : Type 0} (t : ℕ → Bool) (name : ℕ → A) (n : ℕ) → 0 < n → ((j : ℕ) → j < n → t j ≡ t 0)
-    → firstIn (λ e. failIf (t e) (name e)) n 0 ≡ firstIn (λ e. failIf (t e) (name e)) 1 0
-test-same t name zero l h = absurd (omega arith)
-test-same t name (suc n) l h = whole n h ∙ sym (whole 0 (λ j u. h j (omega arith)))
-  where
-    whole : (m : ℕ) → ((j : ℕ) → j < suc m → t j ≡ t 0) → firstIn (λ e. failIf (t e) (name e)) (suc m) 0 ≡ failIf (t 0) (name 0)
-    whole m k =
-        first-same (λ e. failIf (t e) (name e)) m 0
-        (λ e j l u. ap (λ b. failIf b (name j)) (k j (omega arith) ∙ failIf-pass (t 0) (name 0) e))
 
 -- ---- the test whether all say yes
 

@@ -1,11 +1,11 @@
 -- Every number below the product of the sizes is that of exactly one list of values below the sizes, and the other way round.
 use mathlib.Core.Path.{_≡_, refl, sym, _∙_, ap}
 use mathlib.Core.List.{List, [], _∷_}
-use Prim.Native.Nat.{ℕ, zero, suc, _+_, _*_, _/_, _%_, _<_}
+use Prim.Native.Nat.{ℕ, zero, suc, _*_, _/_, _%_, _<_}
 use native.Mathlib.Omega.{arith}
 use native.Mathlib.Nat.{div-add-mod', mod-lt, div-lt-iff-lt-mul, mul-zero, mul-comm, not-suc-le-zero, mod-eq-of-lt, div-one, div-div-eq-div-mul}
 use lib.Arith.{digits-lt, digits-div, digits-mod, mod-mul}
-use Rattle.foundation.specs.Radix.{Below, product, numberOf, valuesOf, RadixLaw, numberFrom, splitOf}
+use Rattle.foundation.specs.Radix.{Below, product, numberOf, valuesOf, RadixLaw, splitOf}
 
 pub number-below : (zs vs : List ℕ) → Below zs vs → numberOf zs vs < product zs
 unfolding numberOf
@@ -43,21 +43,7 @@ number-of-values (z ∷ zs) n l =
 pub radix-law : (zs : List ℕ) → RadixLaw zs
 radix-law zs = record { number-below = number-below zs; values-below = values-below zs; values-of-number = values-of-number zs; number-of-values = number-of-values zs }
 
--- so the number says which values they are
-pub same-number : (zs vs ws : List ℕ) → Below zs vs → Below zs ws → numberOf zs vs ≡ numberOf zs ws → vs ≡ ws
-same-number zs vs ws b c h = sym (values-of-number zs vs b) ∙ ap (valuesOf zs) h ∙ values-of-number zs ws c
-
--- ---- two forms that code takes
-
-pub number-from : (n : ℕ) (zs vs : List ℕ) → Below zs vs → numberFrom n zs vs ≡ n * product zs + numberOf zs vs
-unfolding numberFrom numberOf
-number-from n [] [] b = omega arith
-number-from n [] (v ∷ vs) b = absurd b
-number-from n (z ∷ zs) [] b = absurd b
-number-from n (z ∷ zs) (v ∷ vs) b = number-from (n * z + v) zs vs (b .1) ∙ omega arith
-
-pub one-pass : (zs vs : List ℕ) → Below zs vs → numberFrom 0 zs vs ≡ numberOf zs vs
-one-pass zs vs b = number-from 0 zs vs b ∙ omega arith
+-- ---- the form that code takes
 
 both-positive : (z p : ℕ) → 0 < z * p → (0 < z) × (0 < p)
 both-positive z p l = (positive 0 p z (rw (mul-comm z p) at l), positive 0 z p l)

@@ -30,9 +30,6 @@ is-not (not-so n) m = refl
 pub exactly : {P : Type 0} {b : Bool} → Reflects P b → (b ≡ true) ↔ P
 exactly r = (says-yes r, is-so r)
 
-pub exactly-not : {P : Type 0} {b : Bool} → Reflects P b → (b ≡ false) ↔ (P → ⊥)
-exactly-not r = (says-no r, is-not r)
-
 -- two tests of one thing say the same
 pub same-test : {P : Type 0} {a b : Bool} → Reflects P a → Reflects P b → a ≡ b
 same-test (so p) r = sym (is-so r p)

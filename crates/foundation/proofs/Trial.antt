@@ -9,7 +9,7 @@ use lib.ListN.{getD}
 use Rattle.foundation.specs.First.{Outcome, pass, fail, failIf, firstIn, passes, allIn}
 use Rattle.foundation.specs.Lowest.{Lower, Lowest, Settled, none, lowest}
 use Rattle.foundation.specs.Trial.{Place, place, placeTurn, Trial, FailsIn, firstPlace, inCriterion, firstOf}
-use Rattle.foundation.proofs.First.{failIf-pass, failIf-fail, passes-failIf, first-pass, first-fail, first-alike, passes-all, all-alike, FirstAt}
+use Rattle.foundation.proofs.First.{failIf-pass, failIf-fail, passes-failIf, first-pass, first-fail, passes-all, all-alike, FirstAt}
 use Rattle.foundation.proofs.Lowest.{Turns, passes-exactly, fails-exactly}
 
 -- ---- rows and sum values
@@ -59,14 +59,6 @@ pub place-passes : {A : Type 0} (rows : ℕ) (sums : ℕ → ℕ) (test : ℕ �
 place-passes rows sums test name =
     passes-all (λ k. firstIn (λ e. failIf (test k e) (name k e)) (sums k) 0) rows 0
     ∙ all-alike _ _ rows 0 (λ k. passes-all (λ e. failIf (test k e) (name k e)) (sums k) 0 ∙ all-alike _ _ (sums k) 0 (λ e. passes-failIf (test k e) (name k e)))
-
--- a row whose tests do not depend on the sum value is looked at once
-pub place-same : {A : Type 0} (rows : ℕ) (sums : ℕ → ℕ) (test : ℕ → ℕ → Bool) (name : ℕ → ℕ → A) (looks : ℕ → ℕ)
-    → ((k : ℕ) → k < rows → firstIn (λ e. failIf (test k e) (name k e)) (sums k) 0 ≡ firstIn (λ e. failIf (test k e) (name k e)) (looks k) 0)
-    → firstPlace rows sums test name ≡ firstPlace rows looks test name
-place-same rows sums test name looks h =
-    first-alike (λ k. firstIn (λ e. failIf (test k e) (name k e)) (sums k) 0) (λ k. firstIn (λ e. failIf (test k e) (name k e)) (looks k) 0) rows 0
-    (λ j l u. h j (omega arith))
 
 -- ---- criteria, rows and sum values
 

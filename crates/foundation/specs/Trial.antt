@@ -1,5 +1,5 @@
 -- What is tried at one state: criteria, of each its rows, of each its sum values; where it fails; and the search in that order.
--- The search in one pass over the rows is in specs/OnePass. Laws: proofs/Trial.
+-- Laws: proofs/Trial.
 use mathlib.Core.Path.{_≡_}
 use mathlib.Core.Bool.{Bool, true}
 use mathlib.Core.List.{List, [], _∷_}

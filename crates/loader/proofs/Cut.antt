@@ -1,5 +1,5 @@
 -- Of a text no more than the first 28,673 bytes matter: one that is longer has fault 1 whatever follows (`fault-cut`, `loaded-cut`).
-use Prim.Native.Nat.{ℕ, _<_, _≤_, min}
+use Prim.Native.Nat.{ℕ, _<_}
 use mathlib.Core.Path.{_≡_, refl, sym, ap, _∙_}
 use mathlib.Core.Bool.{Bool, true, false}
 use mathlib.Core.List.{List}
@@ -10,7 +10,6 @@ use lib.ListN.{length, take, length-take}
 use lib.Seq.{take-all}
 use Rattle.reader.specs.Text.{columnsFault}
 use Rattle.loader.specs.Load.{faultOf, refusedBy, loadedOf}
-use Rattle.loader.specs.declared.Loaded.{Loaded}
 
 -- what is one and the same for every text over the limit goes by the first 28,673 bytes
 pub by-start : {A : Type 0} (f : List ℕ → A) (a : A) → ((text : List ℕ) → 28672 < length text → f text ≡ a)

@@ -76,11 +76,6 @@ unfolding looksOf
 all-looks g true n h = all-once g n (h refl)
 all-looks g false n h = refl
 
-looks-few : (free : Bool) (n : ℕ) → looksOf free n ≤ n
-unfolding looksOf
-looks-few true n = omega arith
-looks-few false n = omega arith
-
 -- each of the rows in n lines, by their numbers
 each-all : (G : Row → Bool) (says : List ℕ → Row) (l : ℕ → List ℕ) (n b : ℕ) → allIn (λ i. G (says (l (b + i)))) n 0 ≡ eachB G (eachLine says l n b)
 unfolding allIn eachLine

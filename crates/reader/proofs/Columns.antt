@@ -96,10 +96,6 @@ field-is {columns} {n} f = rw (f .written) (read-back n (f .small))
 pub exactly : (columns : List ℕ) (n : ℕ) → (fieldOf columns ≡ Number n) ↔ IsField columns n
 exactly columns n = (is-field columns n, field-is)
 
--- six columns are read as at most one number
-pub one-number : {columns : List ℕ} {m n : ℕ} → IsField columns m → IsField columns n → m ≡ n
-one-number {m = m} {n = n} f g = let p = field-is f in let q = field-is g in cc
-
 -- ---- a field's length, and that no column ends a line
 
 pub six : {columns : List ℕ} {n : ℕ} → IsField columns n → length columns ≡ 6

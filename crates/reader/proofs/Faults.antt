@@ -165,8 +165,5 @@ columns-free text e = free-by (columns-lowest text) e
 
 -- ---- the bounds where 3 is absent
 
-pub most-in-line : (text fields : List ℕ) → (Fault3 text → ⊥) → List·Memᴰ fields (fieldsByLine text) → length fields ≤ 256
-most-in-line text fields none m = let h : 256 < length fields → ⊥ = λ l. none (long-line m l) in omega arith
-
 pub most-in-all : (text : List ℕ) → (Fault3 text → ⊥) → countAll (fieldsByLine text) ≤ 4096
 most-in-all text none = let h : 4096 < countAll (fieldsByLine text) → ⊥ = λ l. none (many l) in omega arith

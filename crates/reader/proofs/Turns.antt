@@ -104,9 +104,6 @@ module _ (part : List ℕ) (long : 6 ≤ length part) where
 -- ==== the fields of a part
 
 module _ (bytes : List ℕ) (k : ℕ) where
-  field-k : fieldAt (drop (6 * k) bytes) 0 ≡ fieldAt bytes k
-  field-k = refl
-
   later : drop 6 (drop (6 * k) bytes) ≡ drop (6 * (k + 1)) bytes
   later = let e : 6 * k + 6 ≡ 6 * (k + 1) = omega arith in drop-drop 6 (6 * k) bytes ∙ ap (λ (j : ℕ). drop j bytes) e
 

@@ -13,7 +13,7 @@ use Rattle.terms.specs.Tree.{Value, Formula, okV, okF}
 use Rattle.terms.specs.Read.{Reader, leaf, readV, readF}
 use Rattle.terms.specs.Depth.{depthV, depthF}
 use Rattle.terms.specs.Print.{printV, printF}
-use Rattle.terms.proofs.Printing.{Printed, read-print-v, read-print-f, print-read-v, print-read-f, read-more-v, read-more-f}
+use Rattle.terms.proofs.Printing.{Printed, read-print-v, read-print-f, read-more-v, read-more-f}
 use Rattle.reader.specs.Line.{fieldsOf}
 use Rattle.reader.proofs.Line.{rest-fields}
 use Rattle.term_check.specs.Checked.{checkedV, checkedF}
@@ -69,12 +69,3 @@ module _ (n : ℕ) (row : Bool) (d : ℕ) (part : List ℕ) where
         let good = good-of f f-ok (fieldsOf part) refl e in
         begins f f-ok printF depthF d part k good (took-of f f-ok (fieldsOf part) refl e)
         (read-print-f n row d (fieldsOf part) good) (read-more-f n row d (fieldsOf part) good)
-
-  module _ (m : List ℕ) where
-    pub passes-v : (t : Value) → okV t n row ≡ true → depthV t ≤ d → fieldsOf part ≡ printV t ++ m
-        → checkedV n row (readV d (fieldsOf part)) ≡ Next (length (printV t))
-    passes-v t good h e = rw (e, print-read-v n row t d good h m, good)
-
-    pub passes-f : (t : Formula) → okF t n row ≡ true → depthF t ≤ d → fieldsOf part ≡ printF t ++ m
-        → checkedF n row (readF d (fieldsOf part)) ≡ Next (length (printF t))
-    passes-f t good h e = rw (e, print-read-f n row t d good h m, good)

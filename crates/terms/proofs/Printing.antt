@@ -7,7 +7,7 @@
 -- one law for "two terms follow" and one for "three"; the last two follow from them.
 use mathlib.Core.Path.{_≡_, refl, sym, ap, _∙_}
 use mathlib.Core.Bool.{Bool, true, false, false≢true}
-use mathlib.Core.List.{List, [], _∷_, _++_, append-assoc, append-nil}
+use mathlib.Core.List.{List, [], _∷_, _++_, append-assoc}
 use Prim.Native.Nat.{ℕ, zero, suc, _+_, _≤_}
 use native.Mathlib.Omega.{arith}
 use native.Mathlib.Numerals.{one-add}
@@ -307,9 +307,3 @@ module _ (n : ℕ) (row : Bool) (d : ℕ) (l : List ℕ) where
 
   pub read-more-f : okF ((readF d l) .tree) n row ≡ true → (m : List ℕ) → readF d (l ++ m) ≡ readF d l
   read-more-f h m = on-f h d (omega arith) m
-
-  pub read-deeper-v : okV ((readV d l) .tree) n row ≡ true → (e : ℕ) → d ≤ e → readV e l ≡ readV d l
-  read-deeper-v h e de = ap (readV e) (sym (append-nil l)) ∙ on-v h e de []
-
-  pub read-deeper-f : okF ((readF d l) .tree) n row ≡ true → (e : ℕ) → d ≤ e → readF e l ≡ readF d l
-  read-deeper-f h e de = ap (readF e) (sym (append-nil l)) ∙ on-f h e de []
