@@ -1,4 +1,4 @@
--- The number that digits say: the laws of the loop that reads it, and that `numberOf` finds the number of `IsNumber` (`number-exactly`).
+-- The number that digits say: the laws of the loop that reads it, and that `numberOf` finds the number of `IsNumber` (`number-is`, `is-number`).
 use Prim.Native.Nat.{ℕ, _+_, _-_, _*_, _<_, _≤_}
 use mathlib.Core.Path.{_≡_, refl, sym, ap, _∙_}
 use mathlib.Core.Logic.{_≢_}

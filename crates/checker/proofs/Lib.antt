@@ -1,3 +1,4 @@
+pub mod Examined
 pub mod Opened
 pub mod Stages
 pub mod Judging

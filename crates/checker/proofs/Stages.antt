@@ -33,7 +33,8 @@ use Rattle.desk.specs.declared.Desk.{Desk}
 use Rattle.desk.specs.declared.AfterAdvance.{AfterAdvance}
 use Rattle.desk.specs.Answers.{countSaid, Decided}
 use Rattle.desk.specs.Answers as answers
-use Rattle.checker.specs.Count.{examined, stopOf, decidedBy, dueOf, Due}
+use Rattle.checker.specs.Count.{stopOf, decidedBy, dueOf, Due}
+use Rattle.checker.proofs.Examined.{examined}
 use Rattle.desk.specs.Desk.{placed, ahead, failStart, afterPass, afterWalk, walkOn, examineNext, advanceOpen, advanceBy, advanceOf}
 use Rattle.checker.proofs.Opened.{Ready, start-is, total-is, initial-is, walk-is}
 

@@ -1,23 +1,16 @@
 -- How many states a check examines, and what an advance answers (01, "The desk"), from the verdict on the design.
-use Prim.Native.Nat.{ℕ, suc, _+_, _-_, _≤_, _<_, min}
+use Prim.Native.Nat.{ℕ, suc, _+_, _-_, _≤_, _<_}
 use mathlib.Core.Path.{_≡_}
 use mathlib.Core.Bool.{cond}
 use lib.Dec.{eqb, ltb}
-use Rattle.foundation.specs.Walk.{walk}
 use Rattle.terms.specs.Tree.{pick}
 use Rattle.criteria.specs.Design.{Design, states}
 use Rattle.criteria.specs.Verdict.{Verdict, accepted, failed}
-use Rattle.decision.specs.Tests.{holds1}
-use Rattle.decision.specs.Examine.{examine}
 use Rattle.desk.specs.declared.Phase.{Phase}
 use Rattle.desk.specs.declared.Phase.the-variants as phase
 use Rattle.desk.specs.Answers.{Decided}
 use Rattle.desk.specs.declared.Advance.{Advance}
 use Rattle.desk.specs.declared.Advance.the-variants as advance
-
--- a check walked over m states: "how many states it examined, the failing one included; 0 if criterion 1 failed"
-unfoldable pub examined : Design → ℕ → ℕ
-examined d m = pick (holds1 d) (walk (examine d) (min m (states d)) 0 .count) 0
 
 -- "The check is decided when a criterion fails or the last state is done": how many are examined till then
 abbrev pub stopOf : Design → Verdict → ℕ

@@ -19,9 +19,12 @@ use Rattle.loader.specs.Load.{faultOf}
 abbrev pub refusedReport : ℕ → Report
 refusedReport k = report 2 k 0 0 0
 
--- and of the verdict on a design
+-- and of the verdict on a design: its report's numbers, as they are written
+abbrev pub asWritten : criteria.Report → Report
+asWritten r = report (r .verdict) (r .criterion) (r .state) (r .row) (r .sum)
+
 abbrev pub designReport : criteria.Verdict → Report
-designReport v = let r = criteria.reportOf v in report (r .verdict) (r .criterion) (r .state) (r .row) (r .sum)
+designReport v = asWritten (criteria.reportOf v)
 
 -- the report on a text
 unfoldable pub judgedOf : List ℕ → Report

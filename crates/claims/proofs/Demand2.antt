@@ -9,13 +9,13 @@ use Rattle.design.specs.Lines.{designText}
 use Rattle.loader.specs.Load.{faultOf}
 use Rattle.loader.proofs.Lowest.{free-exactly}
 use Rattle.loader.proofs.Passed.{admitted}
-use Rattle.claims.specs.Demand2.{Claim2Holds}
+use Rattle.claims.specs.Demand2.{Claim2}
 use Rattle.claims.proofs.Counted.{counted}
 use Rattle.claims.proofs.Lists.{answered, written}
 use Rattle.claims.proofs.OneCall.{long-answer, long-buffer, judged-free}
 use Rattle.claims.proofs.Reached.{reached, ends-decided, tells-verdict, due-at}
 
-pub claim2 : Claim2Holds
+pub claim2 : Claim2
 claim2 text t =
     let free : faultOf text ≡ 0 = free-exactly text .1 t in
     record {

@@ -1,5 +1,5 @@
 -- A list of calls taken apart from its latest call on: the desk that a call got, and what an advance answers in a text's check call by
--- call (`first-due`, `next-due`).
+-- call (`load-done`, `next-due`).
 use Prim.Native.Nat.{ℕ}
 use mathlib.Core.Path.{_≡_, refl, sym, ap, _∙_, subst}
 use mathlib.Core.Logic.{_≢_}

@@ -3,6 +3,7 @@ use Prim.Native.Nat.{ℕ}
 use mathlib.Core.Path.{_≡_, refl, ap, _∙_}
 use mathlib.Core.Logic.{_≢_}
 use mathlib.Core.List.{List, _++_}
+use native.Mathlib.Omega.{arith}
 use lib.ListN.{drop}
 use Rattle.writer.specs.Report as bytes
 use Rattle.design.specs.Faults.{DesignText}
@@ -13,6 +14,8 @@ use Rattle.desk.specs.declared.Phase.the-variants as phase
 use Rattle.desk.specs.declared.Done.the-variants as done
 use Rattle.desk.specs.declared.Desk.{Desk}
 use Rattle.desk.specs.declared.AfterLoad.{AfterLoad}
+use Rattle.desk.specs.Answers.{Decided}
+use Rattle.desk.specs.Answers as answers
 use Rattle.desk.specs.Desk.{emptyDesk, notLoaded, notAdvanced, loadOf, advanceOf, tellBy, tellOf, dropBy, dropOf}
 use Rattle.checker.proofs.Judging.{loaded-free, loaded-fault}
 use Rattle.claims.specs.Contracts.{Loads}
@@ -23,6 +26,14 @@ use Rattle.claims.proofs.OneCall.{long-answer, long-buffer, judged-faul
 
 -- ---- calls turned down
 
+not-empty : {p : Phase} → Decided p → p ≡ phase.Empty → ⊥
+not-empty answers.accepted e = let z : _≡_ {A = ℕ} 0 1 = cc in omega arith
+not-empty (answers.failed f) e = let z : _≡_ {A = ℕ} 0 1 = cc in omega arith
+
+not-open : {p : Phase} → Decided p → p ≡ phase.Open → ⊥
+not-open answers.accepted e = let z : _≡_ {A = ℕ} 0 1 = cc in omega arith
+not-open (answers.failed f) e = let z : _≡_ {A = ℕ} 0 1 = cc in omega arith
+
 module _ (d : Desk) where
   by-phase-load : (text : List ℕ) (p : Phase) → d .phase ≡ p → p ≢ phase.Empty → loadOf d text ≡ notLoaded 12 d
   by-phase-load text phase.Empty e o = absurd (o refl)
@@ -30,11 +41,11 @@ module _ (d : Desk) where
   by-phase-load text phase.Accepted e o = load-at d text e
   by-phase-load text (phase.Failed f) e o = load-at d text e
 
-  by-phase-advance : (n : ℕ) (p : Phase) → d .phase ≡ p → p ≢ phase.Empty → p ≢ phase.Open → advanceOf d n ≡ notAdvanced 14 d
-  by-phase-advance n phase.Empty e o q = absurd (o refl)
-  by-phase-advance n phase.Open e o q = absurd (q refl)
-  by-phase-advance n phase.Accepted e o q = advance-at d n e
-  by-phase-advance n (phase.Failed f) e o q = advance-at d n e
+  by-phase-advance : (n : ℕ) (p : Phase) → d .phase ≡ p → Decided p → advanceOf d n ≡ notAdvanced 14 d
+  by-phase-advance n phase.Empty e o = absurd (not-empty o refl)
+  by-phase-advance n phase.Open e o = absurd (not-open o refl)
+  by-phase-advance n phase.Accepted e o = advance-at d n e
+  by-phase-advance n (phase.Failed f) e o = advance-at d n e
 
   tell-at : {p : Phase} → d .phase ≡ p → tellOf d ≡ tellBy p d
   unfolding tellOf
@@ -51,7 +62,7 @@ module _ (d : Desk) where
     drop-empty = λ p e. p .0 ∙ drop-at e;
     load-held = λ p e. loaded-as p ∙ by-phase-load _ (d .phase) refl e;
     verdict-open = λ p e. p .0 ∙ tell-at e;
-    advance-decided = λ n p e o. p .0 ∙ by-phase-advance n (d .phase) refl e o;
+    advance-decided = λ n p e. p .0 ∙ by-phase-advance n (d .phase) refl e;
     advance-none = λ p e. p .0 ∙ advance-at d 0 e ∙ by-none d 0 refl;
   }
 

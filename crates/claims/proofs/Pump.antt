@@ -1,29 +1,27 @@
 -- The pump table of 01 and its nine variants as texts: each is a design text, and the desk and the one-call check come to what 01 says
 -- (`pump-reports`), from the criteria (the crate pump has the designs); and 01's own lines (`given-lines`). The two that are advanced by 5
 -- are in PumpByFive.
-use Prim.Native.Nat.{ℕ, suc, _≤_}
+use Prim.Native.Nat.{suc}
 use mathlib.Core.Path.{_≡_, refl, sym, ap, _∙_, subst}
 use mathlib.Core.List.{List, [], _∷_, _++_}
-use lib.ListN.{length, drop}
+use lib.ListN.{drop}
 use Rattle.foundation.specs.First.{allIn}
 use Rattle.foundation.specs.Nth.{EachIs, first, later}
 use Rattle.foundation.proofs.Nth.{nth-nil, nth-cons}
 use Rattle.reader.specs.Columns.{columnOf, columnsOf, digitOf, shownAfter, sameBytes, fieldOf}
 use Rattle.reader.specs.Line.{written, fieldsFrom, fieldsOf}
 use Rattle.reader.specs.Text.{linesOf, lastOf, countAll, textOf, isLine, anyLine, fault2, fault3, linesFault, columnsFault, fieldsByLine}
-use Rattle.writer.specs.declared.Report.{Report}
 use Rattle.writer.specs.Report as bytes
 use Rattle.terms.specs.Tree.{evalV, okV}
 use Rattle.terms.specs.Depth.{depthV}
 use Rattle.terms.specs.Mark.{valueMark, formulaMark}
 use Rattle.terms.specs.Read.{readV}
 use Rattle.terms.specs.Print.{printV, printF}
-use Rattle.criteria.specs.Verdict as criteria
 use Rattle.criteria.specs.Verdict.{Demand2}
 use Rattle.decision.specs.Verdict.{verdictOf}
 use Rattle.decision.proofs.Demand2.{demand2, one-verdict}
-use Rattle.pump.specs.Table.{given, Case, cases}
-use Rattle.pump.proofs.Reports.{Right, ten-reports}
+use Rattle.pump.specs.Table.{given, Case, cases, Right}
+use Rattle.pump.proofs.Reports.{ten-reports}
 use Rattle.design.specs.Line.{valuesIn}
 use Rattle.design.specs.Lines.{ofKind, designOf, designText}
 use Rattle.design.specs.Tests.{climbs, eachLineIs, layoutFits, boundsFit}
@@ -33,16 +31,12 @@ use Rattle.line_check.specs.LineFits.{termsFit, lineFits}
 use Rattle.action_check.specs.ActionsFit.{actionsFit}
 use Rattle.loader.specs.Load.{faultOf, tableFault}
 use Rattle.loader.proofs.Lowest.{free-exactly}
-use Rattle.checker.specs.OneCall.{designReport, judgedOf}
-use Rattle.claims.specs.Contracts.{Checks}
+use Rattle.checker.specs.OneCall.{asWritten, designReport, judgedOf}
+use Rattle.claims.specs.Pump.{textFor, Reports}
 use Rattle.claims.specs.Demand2.{Comes}
 use Rattle.claims.proofs.Demand2.{claim2}
 use Rattle.claims.proofs.Lists.{answered, written as written-as}
 use Rattle.claims.proofs.OneCall.{long-answer, long-buffer, judged-free}
-
--- the table as a text
-abbrev pub textFor : Case → List ℕ
-textFor c = textOf (printLines (c .table))
 
 abbrev Loaded : List Case → Type 0
 Loaded [] = Unit {0}
@@ -53,20 +47,6 @@ unfolding cases columnOf columnsOf digitOf shownAfter sameBytes fieldOf written 
 loaded = ((refl, refl), ((refl, refl), ((refl, refl), ((refl, refl), ((refl, refl), ((refl, refl), ((refl, refl), ((refl, refl), ((refl, refl), ((refl, refl), tt))))))))))
 
 -- ---- what is reported
-
--- the report's numbers, as they are written
-abbrev pub asWritten : criteria.Report → Report
-asWritten r = record { verdict = r .verdict; number = r .criterion; state = r .state; row = r .row; sum = r .sum }
-
-pub record Reports (c : Case) : Type 0 where
-  pub is-text : DesignText (textFor c)
-  -- the desk, by the verdict on the table
-  pub says-table : designText (textFor c) ≡ c .table
-  pub comes : Comes (textFor c) (verdictOf (c .table))
-  -- the one-call check, by the report of 01
-  pub answers : {report after : List ℕ} {r : ℕ} → Checks (textFor c) report r after → 31 ≤ length report → r ≡ c .says .verdict
-  pub reports : {report after : List ℕ} {r : ℕ} → Checks (textFor c) report r after → 31 ≤ length report
-      → after ≡ bytes.reportOf (asWritten (c .says)) ++ drop 31 report
 
 module _ (c : Case) (free : faultOf (textFor c) ≡ 0) (same : designOf (fieldsByLine (textFor c)) ≡ c .table) (right : Right c) where
   is-text : DesignText (textFor c)

@@ -23,7 +23,8 @@ use Rattle.claims.specs.Calls.{Called, load, advance, Walked}
 use Rattle.claims.specs.Calls as calls
 use Rattle.claims.specs.Contracts.{Calls}
 use Rattle.claims.proofs.Divided.{Advanced, last-advance, Loaded, only-load, load-done, next-due}
-use Rattle.claims.proofs.Pump.{textFor, Reports, pump-reports}
+use Rattle.claims.specs.Pump.{textFor, Reports}
+use Rattle.claims.proofs.Pump.{pump-reports}
 
 abbrev as-given : Case
 as-given = case given 0 0 0 0 0

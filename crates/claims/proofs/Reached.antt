@@ -29,7 +29,7 @@ use Rattle.desk.specs.Answers as answers
 use Rattle.criteria.specs.Verdict as criteria
 use Rattle.checker.specs.Said.{saidVerdict}
 use Rattle.checker.specs.OneCall.{designReport}
-use Rattle.checker.specs.Count.{examined}
+use Rattle.checker.proofs.Examined.{examined}
 use Rattle.desk.specs.Desk.{opened, loadEmpty, loadOf, advanceOf, tellOf}
 use Rattle.design.specs.Lines.{designText}
 use Rattle.checker.specs.Count.{Due}

@@ -25,7 +25,7 @@ pub data NoLoad : Called → Type 0 where
   told : {v : Verdict} → NoLoad (verdict v)
   dropped : {a : Done} → NoLoad (drop a)
 
--- the text "of the last load .. that returned 0"
+-- the text "of the last load .. that returned 0": the answer `Done`, since none that is turned down has the number 0
 pub data LastLoad : List Called → List ℕ → Type 0 where
   here : {text : List ℕ} {calls : List Called} → LastLoad (load text done.Done ∷ calls) text
   before : {call : Called} {calls : List Called} {text : List ℕ} → NoLoad call → LastLoad calls text → LastLoad (call ∷ calls) text

@@ -1,6 +1,6 @@
 -- Calls of the functions, by the functions' own contracts: `Pre` is what a function asks of its arguments, `Post` what it ensures of its
--- arguments, its result and its arguments at exit. So nothing can stand in for the functions. What is lent is a `RefT`, and `now` are
--- its bytes.
+-- arguments, its result and its arguments at exit. So nothing can stand in for the functions. What is lent is a `RefT`, `now` are its
+-- bytes, and `κs` are the lifetimes for which it is lent.
 use Prim.Native.Nat.{ℕ}
 use mathlib.Core.List.{List, [], _∷_}
 use denote.Ref.{RefT, now}
@@ -56,7 +56,7 @@ pub data Calls : List Called → Desk → Type 0 where
 
 -- ---- nothing is asked, and every call has an answer
 
--- "No entry point has" a condition: whatever the arguments are
+-- no entry point has a condition, whatever its arguments are
 pub record AsksNothing : Type 0 where
   pub of-empty : empty-reads.Pre tt tt
   pub of-load : (κs : Lfts 1) (desk : Desk) (text : RefT (List ℕ)) → load-reads.Pre κs (desk, (text, tt))

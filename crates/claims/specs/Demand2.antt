@@ -40,11 +40,12 @@ pub record Comes (text : List ℕ) (v : Verdict) : Type 0 where
   pub reports : {report after : List ℕ} {r : ℕ} → Checks text report r after → 31 ≤ length report
       → after ≡ bytes.reportOf (designReport v) ++ drop 31 report
 
--- a design text has the verdict of its design, and every check of it comes to that one
-pub record Claim2 (text : List ℕ) : Type 0 where
+-- the verdict that demand 2 asks for, to which every check comes
+pub record Checked (text : List ℕ) : Type 0 where
   pub verdict : Verdict
   pub is : Demand2 (designText text) verdict
   pub comes : Comes text verdict
 
-abbrev pub Claim2Holds : Type 0
-Claim2Holds = (text : List ℕ) → DesignText text → Claim2 text
+-- every design text has it
+abbrev pub Claim2 : Type 0
+Claim2 = (text : List ℕ) → DesignText text → Checked text

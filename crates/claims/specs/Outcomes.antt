@@ -18,7 +18,7 @@ use Rattle.desk.specs.declared.AfterAdvance.{AfterAdvance}
 use Rattle.desk.specs.declared.AfterVerdict.{AfterVerdict}
 use Rattle.desk.specs.declared.AfterDrop.{AfterDrop}
 use Rattle.desk.specs.Desk.{HoldsText, notLoaded, notAdvanced}
-use Rattle.desk.specs.Answers.{doneNumber}
+use Rattle.desk.specs.Answers.{Decided, doneNumber}
 use Rattle.checker.specs.OneCall.{refusedReport}
 use Rattle.claims.specs.Calls.{Called, AcceptedIn}
 use Rattle.claims.specs.Contracts.{Loads, Advances, Tells, Drops, Checks, Calls}
@@ -55,7 +55,7 @@ pub record Refusals (desk : Desk) : Type 0 where
   -- 13. "Verdict while open."
   pub verdict-open : {r : AfterVerdict} → Tells desk r → desk .phase ≡ phase.Open → r ≡ record { answer = verdict.TurnedDown 13; desk = desk }
   -- 14. "Advance when decided."
-  pub advance-decided : (n : ℕ) {r : AfterAdvance} → Advances desk n r → desk .phase ≢ phase.Empty → desk .phase ≢ phase.Open → r ≡ notAdvanced 14 desk
+  pub advance-decided : (n : ℕ) {r : AfterAdvance} → Advances desk n r → Decided (desk .phase) → r ≡ notAdvanced 14 desk
   -- "before the input's": 8. "Advance by 0 states." is given on an open desk
   pub advance-none : {r : AfterAdvance} → Advances desk 0 r → desk .phase ≡ phase.Open → r ≡ notAdvanced 8 desk
 

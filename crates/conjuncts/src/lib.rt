@@ -26,7 +26,7 @@ pub struct Guarded {
 const AND: u16 = 15;
 
 // No formula has more conjuncts in front, each being one deeper.
-const MOST: u16 = 32;
+const MOST: u16 = limits::MAX_DEPTH as u16;
 
 // How many conjuncts in front of the condition at a place do not read the sum value.
 pub fn front(desk: &limits::Fields, at: usize) -> u16

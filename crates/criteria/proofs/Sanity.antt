@@ -1,8 +1,9 @@
--- Bisimilarity tells states apart, a witness for each clause of its definition: an implementation that can do nothing where the
--- specification can do something (`stuck-differs`: the replies to the specification's steps), one whose action carries another number
--- (`data-differs`: the answers to visible steps), and one that can do the same but for an internal step to where it can do nothing
--- (`trap-differs`: the internal steps).
-use mathlib.Core.Path.{_≡_, refl, sym}
+-- Bisimilarity tells states apart, with a witness for each part of its definition: an implementation that can do nothing where the
+-- specification can do something (`stuck-differs`: there is a reply), one whose action carries another number (`data-differs`: there is
+-- an answer with the same label), one with an internal step to where it can do nothing (`trap-differs`: internal steps lead to related
+-- states), one whose action may lead there (`fall-differs`: so do a step and its answer), and one that goes on where the specification's
+-- action may lead to where that can do nothing (`end-differs`: so do a step and its reply).
+use mathlib.Core.Path.{_≡_, refl, sym, _∙_, subst}
 use mathlib.Core.Bool.{true, true≢false}
 use mathlib.Core.List.{List, [], _∷_}
 use Prim.Native.Nat.{ℕ}
@@ -12,7 +13,7 @@ use Rattle.foundation.proofs.Nth.{nth-nil, nth-cons}
 use Rattle.terms.specs.Tree.{Formula, const, num, par, compare, evalV, evalF}
 use Rattle.terms.specs.declared.Compare.the-variants.{Equal}
 use Rattle.criteria.specs.Design.{Design, Row, Process, State}
-use Rattle.criteria.specs.Step.{Label, Step, Internal, Chain, none, more, dataNumber}
+use Rattle.criteria.specs.Step.{Label, Step, Chain, none, more, dataNumber, nextState}
 use Rattle.criteria.specs.Bisimilar.{Bisimilar}
 
 -- action 1 with the number n, at any time
@@ -50,63 +51,86 @@ data-differs b =
     let answer = b .is-bisimulation .visible one one one (label 5) (b .relates) (record { step = steps 5; nonzero = λ h. omega arith }) .step in
     seven (answer .at) (answer .row) (answer .is-row) one (answer .sum) (answer .number)
 
--- ---- an internal step into a stuck state
+-- ---- into a stuck state
 
--- where the parameter is 0: action 1 with the number 7, which stays there, and an internal step to 1
+-- where the parameter is 0: action 1 with the number 7, which stays there
 abbrev at-0 : Formula
 at-0 = compare Equal (par 0) (num 0)
 
-abbrev trap-rows : List Row
-trap-rows =
-    record { action = 1; span = 1; condition = at-0; carries = num 7; next = num 0 ∷ [] }
-    ∷ record { action = 0; span = 1; condition = at-0; carries = num 0; next = num 1 ∷ [] }
-    ∷ []
+abbrev stays : Row
+stays = record { action = 1; span = 1; condition = at-0; carries = num 7; next = num 0 ∷ [] }
 
-abbrev trap : Design
-trap = record {
-  impl = record { parameters = record { size = 2; initial = 0 } ∷ []; rows = trap-rows };
-  spec = one-state (always 7 ∷ []);
-  invariant = const true;
-  mapping = num 0 ∷ [];
-  measure = num 0;
-}
+-- and a row that leads to 1, where nothing is enabled: an internal one, or the same action again
+abbrev falls : ℕ → ℕ → Row
+falls a n = record { action = a; span = 1; condition = at-0; carries = num n; next = num 1 ∷ [] }
+
+abbrev two-states : ℕ → ℕ → Process
+two-states a n = record { parameters = record { size = 2; initial = 0 } ∷ []; rows = stays ∷ falls a n ∷ [] }
+
+abbrev both : Process → Process → Design
+both impl spec = record { impl = impl; spec = spec; invariant = const true; mapping = num 0 ∷ []; measure = num 0 }
 
 abbrev stuck : State
 stuck = 1 ∷ []
 
-falls : Internal (trap .impl) one stuck
+falling : (a n : ℕ) → Step (two-states a n) (record { action = a; number = n }) one stuck
 unfolding evalF
-falls = record {
-  label = record { action = 0; number = 0 };
-  step = record {
-    at = 2;
-    row = record { action = 0; span = 1; condition = at-0; carries = num 0; next = num 1 ∷ [] };
-    sum = 0;
-    is-row = later first;
-    enabled = record { in-span = omega arith; condition = refl };
-    action = refl;
-    number = refl;
-    goes = refl;
-  };
-  zero = refl;
-}
+falling a n = record { at = 2; row = falls a n; sum = 0; is-row = later first; enabled = record { in-span = omega arith; condition = refl }; action = refl; number = refl; goes = refl }
 
--- nothing is enabled there
-none-enabled : EachIs trap-rows (λ r. (e : ℕ) → evalF (r .condition) stuck e ≡ true → ⊥)
-unfolding evalF
-none-enabled =
-    nth-cons (λ r. (e : ℕ) → evalF (r .condition) stuck e ≡ true → ⊥) (λ e h. true≢false (sym h))
-    (nth-cons (λ r. (e : ℕ) → evalF (r .condition) stuck e ≡ true → ⊥) (λ e h. true≢false (sym h)) (λ k x at. absurd (nth-nil at)))
+module _ (a n : ℕ) where
+  none-enabled : EachIs (two-states a n .rows) (λ r. (e : ℕ) → evalF (r .condition) stuck e ≡ true → ⊥)
+  unfolding evalF
+  none-enabled =
+      nth-cons (λ r. (e : ℕ) → evalF (r .condition) stuck e ≡ true → ⊥) (λ e h. true≢false (sym h))
+      (nth-cons (λ r. (e : ℕ) → evalF (r .condition) stuck e ≡ true → ⊥) (λ e h. true≢false (sym h)) (λ k x at. absurd (nth-nil at)))
 
-no-step : {l : Label} {s : State} → Step (trap .impl) l stuck s → ⊥
-no-step x = none-enabled (x .at) (x .row) (x .is-row) (x .sum) (x .enabled .condition)
+  no-step : {l : Label} {s : State} → Step (two-states a n) l stuck s → ⊥
+  no-step x = none-enabled (x .at) (x .row) (x .is-row) (x .sum) (x .enabled .condition)
 
-no-reply : {l : Label} {s u : State} {n : ℕ} → Chain trap s n u → s ≡ stuck → {s′ : State} → Step (trap .impl) l u s′ → ⊥
-no-reply none e x = no-step (rw e at x)
-no-reply (more i c) e x = no-step (rw e at (i .step))
+  -- beside a specification that does action 1 with the number 7 at any time
+  abbrev trap : Design
+  trap = both (two-states a n) (one-state (always 7 ∷ []))
 
-pub trap-differs : Bisimilar trap one one → ⊥
+  no-reply : {l : Label} {s u : State} {k : ℕ} → Chain trap s k u → s ≡ stuck → {s′ : State} → Step (two-states a n) l u s′ → ⊥
+  no-reply none e x = no-step (rw e at x)
+  no-reply (more i c) e x = no-step (rw e at (i .step))
+
+  -- a stuck state is no such specification's state
+  stuck-apart : (b : Bisimilar trap one one) → b .relation stuck one → ⊥
+  stuck-apart b related = let reply = b .is-bisimulation .back stuck one one (label 7) related (steps 7) in no-reply (reply .chain) refl (reply .step)
+
+-- an internal step leads there
+pub trap-differs : Bisimilar (trap 0 0) one one → ⊥
 trap-differs b =
-    let related = b .is-bisimulation .internal one one stuck (b .relates) falls in
-    let reply = b .is-bisimulation .back stuck one one (label 7) related (steps 7) in
-    no-reply (reply .chain) refl (reply .step)
+    stuck-apart 0 0 b
+    (b .is-bisimulation .internal one one stuck (b .relates) (record { label = record { action = 0; number = 0 }; step = falling 0 0; zero = refl }))
+
+-- the action leads there: its answer leads elsewhere
+only-one : {l : Label} {t : State} → Step (one-state (always 7 ∷ [])) l one t → t ≡ one
+unfolding evalV
+only-one {t = t} x = goes-one (x .at) (x .row) (x .is-row) (x .sum) t (x .goes)
+  where
+    goes-one : EachIs (always 7 ∷ []) (λ r. (e : ℕ) (u : State) → nextState r one e ≡ u → u ≡ one)
+    goes-one = nth-cons (λ r. (e : ℕ) (u : State) → nextState r one e ≡ u → u ≡ one) (λ e u h. sym h) (λ k y at. absurd (nth-nil at))
+
+pub fall-differs : Bisimilar (trap 1 7) one one → ⊥
+fall-differs b =
+    let answer = b .is-bisimulation .visible one one stuck (label 7) (b .relates) (record { step = falling 1 7; nonzero = λ h. omega arith }) in
+    stuck-apart 1 7 b (subst (λ t. b .relation stuck t) (only-one (answer .step)) (answer .related))
+
+-- the specification's action leads there: the implementation goes on
+abbrev ends : Design
+ends = both (one-state (always 7 ∷ [])) (two-states 1 7)
+
+pub end-differs : Bisimilar ends one one → ⊥
+end-differs b =
+    let reply = b .is-bisimulation .back one one stuck (label 7) (b .relates) (falling 1 7) in
+    let there = subst (λ s. b .relation s stuck) (only-one (subst (λ s. Step (one-state (always 7 ∷ [])) (label 7) s (reply .to)) (stays-one (reply .chain) refl) (reply .step))) (reply .related) in
+    no-step 1 7 (b .is-bisimulation .visible one stuck one (label 7) there (record { step = steps 7; nonzero = λ h. omega arith }) .step)
+  where
+    visible-only : EachIs (always 7 ∷ []) (λ r. r .action ≡ 0 → ⊥)
+    visible-only = nth-cons (λ r. r .action ≡ 0 → ⊥) (λ h. omega arith) (λ k y at. absurd (nth-nil at))
+
+    stays-one : {s u : State} {k : ℕ} → Chain ends s k u → s ≡ one → u ≡ one
+    stays-one none e = e
+    stays-one (more i c) e = absurd (visible-only (i .step .at) (i .step .row) (i .step .is-row) (i .step .action ∙ i .zero))

@@ -7,6 +7,7 @@ use mathlib.Core.Logic.{_≢_}
 use mathlib.Core.Bool.{true}
 use mathlib.Core.List.{List, map}
 use Prim.Native.Nat.{ℕ, _≤_, _<_}
+use Rattle.limits.specs.Limits.{maxSpan, maxStates}
 use Rattle.foundation.specs.Radix.{Below, product, numberOf}
 use Rattle.foundation.specs.Nth.{Nth, EachIs}
 use Rattle.terms.specs.Tree.{Value, Formula, num, evalV, evalF}
@@ -96,7 +97,7 @@ SizesFit p = EachIs (p .parameters) (λ q. (q .size < 65536) × (q .initial < q 
 
 -- "Sizes and spans are at least 1, spans at most 256"
 abbrev pub SpansFit : Process → Type 0
-SpansFit p = EachIs (p .rows) (λ r. (1 ≤ r .span) × (r .span ≤ 256))
+SpansFit p = EachIs (p .rows) (λ r. (1 ≤ r .span) × (r .span ≤ maxSpan))
 
 -- ---- and of its rows: fault 7
 
@@ -113,7 +114,7 @@ pub record Admitted (d : Design) : Type 0 where
   pub impl-spans : SpansFit (d .impl)
   pub spec-spans : SpansFit (d .spec)
   -- "the product of the kind 1 sizes is at most 65,536"
-  pub few-states : states d ≤ 65536
+  pub few-states : states d ≤ maxStates
   pub impl-one-row : OneRowEach (d .impl)
   pub spec-one-row : OneRowEach (d .spec)
   -- "action 0 in a kind 4 line"

@@ -126,24 +126,21 @@ pub data Fault7 (d : Design) : Type 0 where
 
 -- ---- the faults of a text, and the lowest
 
-abbrev pub linesIn : List ℕ → List (List ℕ)
-linesIn text = fieldsByLine text
-
 -- fault number k is in the text
 pub data Fault (text : List ℕ) : ℕ → Type 0 where
   first : Fault1 text → Fault text 1
   second : Fault2 text → Fault text 2
   third : Fault3 text → Fault text 3
-  fourth : Fault4 (linesIn text) → Fault text 4
-  fifth : Fault5 (linesIn text) → Fault text 5
-  sixth : Fault6 (linesIn text) → Fault text 6
-  seventh : Fault7 (designOf (linesIn text)) → Fault text 7
+  fourth : Fault4 (fieldsByLine text) → Fault text 4
+  fifth : Fault5 (fieldsByLine text) → Fault text 5
+  sixth : Fault6 (fieldsByLine text) → Fault text 6
+  seventh : Fault7 (designOf (fieldsByLine text)) → Fault text 7
 
 -- "The lowest of 1 to 7 whose fault is anywhere in the text is given"
 pub record LowestFault (text : List ℕ) (k : ℕ) : Type 0 where
   pub is : Fault text k
   pub none-lower : (j : ℕ) → j < k → Fault text j → ⊥
 
--- a design text has none of them; its design is `designOf (linesIn text)`
+-- a design text has none of them; its design is `designText text`
 abbrev pub DesignText : List ℕ → Type 0
 DesignText text = (k : ℕ) → Fault text k → ⊥

@@ -4,16 +4,17 @@
 use Prim.Native.Nat.{ℕ, zero, suc}
 use mathlib.Core.List.{List, [], _∷_}
 use lib.ListN.{getD, drop}
+use Rattle.limits.specs.Limits.{maxDepth}
 use Rattle.terms.specs.Tree.{Value, Formula}
 use Rattle.terms.specs.Read.{Read, readV, readF}
 use Rattle.criteria.specs.Design.{Parameter, Row}
 
 -- "the deepest term allowed has depth 32"
 abbrev pub valueIn : List ℕ → Read Value
-valueIn fields = readV 32 fields
+valueIn fields = readV maxDepth fields
 
 abbrev pub formulaIn : List ℕ → Read Formula
-formulaIn fields = readF 32 fields
+formulaIn fields = readF maxDepth fields
 
 -- n values one after the other
 unfoldable pub valuesIn : ℕ → List ℕ → List Value

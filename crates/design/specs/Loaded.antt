@@ -5,6 +5,7 @@ use Prim.Native.Nat.{ℕ, zero, suc, _+_, _-_}
 use mathlib.Core.List.{List, [], _∷_, _++_}
 use lib.ListN.{length, getD, take, drop, replicate}
 use lib.Seq.{sets}
+use Rattle.limits.specs.Limits.{maxFields, lineStarts}
 use Rattle.criteria.specs.Design.{Design}
 use Rattle.design.specs.Line.{parameterOf, rowOf, invariantOf, mappingOf, measureOf}
 use Rattle.design.specs.declared.Counts.{Counts}
@@ -38,10 +39,10 @@ startsFrom at [] = at ∷ []
 startsFrom at (line ∷ lines) = at ∷ startsFrom (at + length line) lines
 
 unfoldable pub fieldsHeld : List (List ℕ) → List ℕ
-fieldsHeld lines = sets (replicate 4096 0) 0 (joined lines)
+fieldsHeld lines = sets (replicate maxFields 0) 0 (joined lines)
 
 unfoldable pub startsHeld : List (List ℕ) → List ℕ
-startsHeld lines = sets (replicate 84 0) 0 (startsFrom 0 lines)
+startsHeld lines = sets (replicate lineStarts 0) 0 (startsFrom 0 lines)
 
 -- ---- the design
 

@@ -5,6 +5,7 @@ use mathlib.Core.Path.{_≡_}
 use mathlib.Core.Bool.{Bool, true, false}
 use mathlib.Core.List.{List, [], _∷_, _++_, map}
 use lib.ListN.{length}
+use Rattle.limits.specs.Limits.{maxDepth}
 use Rattle.terms.specs.Tree.{Value, Formula, okV, okF}
 use Rattle.terms.specs.Depth.{depthV, depthF}
 use Rattle.terms.specs.Print.{printV, printF}
@@ -39,11 +40,11 @@ printLines d =
 
 pub record ValueFits (n : ℕ) (row : Bool) (v : Value) : Type 0 where
   pub well-formed : okV v n row ≡ true
-  pub shallow : depthV v ≤ 32
+  pub shallow : depthV v ≤ maxDepth
 
 pub record FormulaFits (n : ℕ) (row : Bool) (f : Formula) : Type 0 where
   pub well-formed : okF f n row ≡ true
-  pub shallow : depthF f ≤ 32
+  pub shallow : depthF f ≤ maxDepth
 
 pub data ValuesFit (n : ℕ) (row : Bool) : List Value → Type 0 where
   none : ValuesFit n row []

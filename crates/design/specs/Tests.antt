@@ -5,6 +5,7 @@ use mathlib.Core.Bool.{Bool, true, _&&_, _||_}
 use mathlib.Core.List.{List, [], _∷_, map}
 use lib.Dec.{eqb, ltb, leb}
 use lib.ListN.{length, getD}
+use Rattle.limits.specs.Limits.{maxSpan, maxStates}
 use Rattle.foundation.specs.First.{allIn}
 use Rattle.foundation.specs.Radix.{product}
 use Rattle.foundation.specs.Reflects.{_⇒_}
@@ -48,10 +49,10 @@ layoutFits lines = climbs 1 lines && (countsFit lines && eachLineIs lengthFits l
 
 -- by kind, and the two fields after it: size and initial value, or action and span
 abbrev pub numbersFitBy : ℕ → ℕ → ℕ → Bool
-numbersFitBy kind a b = (isParameter kind ⇒ leb 1 a && ltb b a) && (isRow kind ⇒ leb 1 b && leb b 256)
+numbersFitBy kind a b = (isParameter kind ⇒ leb 1 a && ltb b a) && (isRow kind ⇒ leb 1 b && leb b maxSpan)
 
 abbrev pub numbersFit : List ℕ → Bool
 numbersFit line = numbersFitBy (kindOf line) (sizeOf line) (getD line 2 0)
 
 unfoldable pub boundsFit : List (List ℕ) → Bool
-boundsFit lines = eachLineIs numbersFit lines && leb (product (map sizeOf (ofKind 1 lines))) 65536
+boundsFit lines = eachLineIs numbersFit lines && leb (product (map sizeOf (ofKind 1 lines))) maxStates

@@ -19,7 +19,7 @@ use Rattle.desk.specs.declared.AfterAdvance.{AfterAdvance}
 use Rattle.desk.specs.declared.AfterVerdict.{AfterVerdict}
 use Rattle.desk.specs.declared.AfterDrop.{AfterDrop}
 use Rattle.desk.specs.Said.{walkedBy}
-use Rattle.desk.specs.Answers.{doneNumber, refusalNumber, countSaid, verdictNumbers, loadNumber, advanceNumber, countOpen, countBy, advanceCount, numbersTold, dropNumber}
+use Rattle.desk.specs.Answers.{doneNumber, refusalNumber, countSaid, verdictNumbers, loadNumber, advanceNumber, countOpen, countBy, advanceCount, verdictNumbersBy, dropNumber}
 use Rattle.desk.specs.Desk.{loadEmpty, loadBy, loadOf, afterPass, afterWalk, walkOn, failStart, ahead, examineNext, advanceOpen, advanceBy, advanceOf, tellBy, tellOf, dropBy, dropOf}
 
 -- ---- load
@@ -143,13 +143,13 @@ advance-count d n r e = ap (λ (x : AfterAdvance). countSaid (x .answer)) e ∙ 
 
 -- ---- verdict
 
-told-by : (p : Phase) (d : Desk) → verdictNumbers (tellBy p d .answer) ≡ numbersTold p
+told-by : (p : Phase) (d : Desk) → verdictNumbers (tellBy p d .answer) ≡ verdictNumbersBy p
 told-by phase.Empty d = refl
 told-by phase.Open d = refl
 told-by phase.Accepted d = refl
 told-by (phase.Failed f) d = refl
 
-pub verdict-numbers : (d : Desk) (r : AfterVerdict) → r ≡ tellOf d → verdictNumbers (r .answer) ≡ numbersTold (d .phase)
+pub verdict-numbers : (d : Desk) (r : AfterVerdict) → r ≡ tellOf d → verdictNumbers (r .answer) ≡ verdictNumbersBy (d .phase)
 unfolding tellOf
 verdict-numbers d r e = ap (λ (x : AfterVerdict). verdictNumbers (x .answer)) e ∙ told-by (d .phase) d
 

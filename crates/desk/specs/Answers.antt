@@ -70,11 +70,11 @@ advanceNumber phase.Accepted n = 14
 advanceNumber (phase.Failed f) n = 14
 
 -- 11; 13. "Verdict while open."
-abbrev pub numbersTold : Phase → Report
-numbersTold phase.Empty = report 11 0 0 0 0
-numbersTold phase.Open = report 13 0 0 0 0
-numbersTold phase.Accepted = report 0 0 0 0 0
-numbersTold (phase.Failed f) = report 1 (f .criterion) (f .state) (f .row) (f .sum)
+abbrev pub verdictNumbersBy : Phase → Report
+verdictNumbersBy phase.Empty = report 11 0 0 0 0
+verdictNumbersBy phase.Open = report 13 0 0 0 0
+verdictNumbersBy phase.Accepted = report 0 0 0 0 0
+verdictNumbersBy (phase.Failed f) = report 1 (f .criterion) (f .state) (f .row) (f .sum)
 
 abbrev pub dropNumber : Phase → ℕ
 dropNumber phase.Empty = 11

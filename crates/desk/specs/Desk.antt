@@ -7,6 +7,7 @@ use mathlib.Core.Bool.{Bool, true, false, cond}
 use mathlib.Core.List.{List}
 use lib.Dec.{eqb, leb}
 use lib.ListN.{replicate}
+use Rattle.limits.specs.Limits.{maxFields, lineStarts}
 use Rattle.reader.specs.Text.{fieldsByLine}
 use Rattle.design.specs.Lines.{countsOf}
 use Rattle.design.specs.Loaded.{fieldsHeld, startsHeld}
@@ -34,8 +35,8 @@ use Rattle.desk.specs.declared.AfterDrop.{AfterDrop}
 -- "A new desk is empty."
 abbrev pub emptyDesk : Desk
 emptyDesk = record {
-  fields = replicate 4096 0;
-  starts = replicate 84 0;
+  fields = replicate maxFields 0;
+  starts = replicate lineStarts 0;
   counts = record { kind1 = 0; kind2 = 0; kind3 = 0; kind4 = 0 };
   plan = replicate 256 0;
   next = 0;

@@ -9,7 +9,7 @@ use writer::Report;
 ghost use mathlib.Core.Path.{_≡_};
 ghost use Prim.Native.Nat.{_+_, _<_};
 ghost use Rattle.loader.specs.Load.{loadedOf};
-ghost use Rattle.desk.specs.Answers.{doneNumber, refusalNumber, countSaid, verdictNumbers, loadNumber, advanceNumber, advanceCount, numbersTold, dropNumber};
+ghost use Rattle.desk.specs.Answers.{doneNumber, refusalNumber, countSaid, verdictNumbers, loadNumber, advanceNumber, advanceCount, verdictNumbersBy, dropNumber};
 ghost use Rattle.writer.specs.Report.{report};
 ghost use Rattle.desk.specs.Limits.{deskLimits};
 ghost use Rattle.desk.specs.Desk.{emptyDesk, notLoaded, loadEmpty, loadOf, notAdvanced, failStart, examineNext, walkOn, advanceOpen, advanceOf, tellOf, dropOf, placed, ahead};
@@ -90,7 +90,7 @@ pub struct AfterDrop {
 
 impl Desk {
     // The limits of a text: its bytes, the fields of a line and in all, the depth of a term, the parameters and rows of a process,
-    // the sum values of a row, the states. That they are those of the faults is what `limits` promises.
+    // the sum values of a row, the states. That they are those of the faults is what `Desk::limits` promises.
     pub const MAX_BYTES: usize = limits::MAX_BYTES;
 
     pub const MAX_LINE_FIELDS: usize = limits::MAX_LINE_FIELDS;
@@ -174,7 +174,7 @@ impl Desk {
     // Tells the report's numbers; the desk stays as it is.
     pub fn verdict(self) -> AfterVerdict
         ensures { λ r. ⌜ r ≡ tellOf self ⌝ }
-        ensures { λ r. ⌜ verdictNumbers (r .answer) ≡ numbersTold (self .phase) ⌝ }
+        ensures { λ r. ⌜ verdictNumbers (r .answer) ≡ verdictNumbersBy (self .phase) ⌝ }
     {
         let phase = self.phase;
         match phase {

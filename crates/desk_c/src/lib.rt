@@ -23,7 +23,8 @@ pub extern "C" fn desk_load(text: &[u8]) -> u32
     }
 }
 
-// Loads a text and advances by n while the desk is open: how many advances that takes.
+// Loads a text and advances by n while the desk is open: how many advances that takes, the one that ends it included, so 1 where the text is
+// turned down or n is 0.
 #[no_mangle]
 pub extern "C" fn desk_advances(text: &[u8], n: u64) -> u64
     ensures { λ r. ⌜ r ≡ advancesTill 65536 (loadOf emptyDesk (now (text .entry)) .desk) n ⌝ }

@@ -43,7 +43,7 @@ number-of-values (z ∷ zs) n l =
 pub radix-law : (zs : List ℕ) → RadixLaw zs
 radix-law zs = record { number-below = number-below zs; values-below = values-below zs; values-of-number = values-of-number zs; number-of-values = number-of-values zs }
 
--- ---- the form that code takes
+-- ---- the values, from the last on
 
 both-positive : (z p : ℕ) → 0 < z * p → (0 < z) × (0 < p)
 both-positive z p l = (positive 0 p z (rw (mul-comm z p) at l), positive 0 z p l)

@@ -32,3 +32,13 @@ maxSpan = 256
 -- "The product of the kind 1 sizes is at most 65,536."
 abbrev pub maxStates : ℕ
 maxStates = 65536
+
+-- ---- what follows
+
+-- the lines of a text: parameters and rows of two processes, and kinds 5 to 7
+abbrev pub maxLines : ℕ
+maxLines = 83
+
+-- the starts of lines that are kept: one for each, and the end of the last
+abbrev pub lineStarts : ℕ
+lineStarts = 84

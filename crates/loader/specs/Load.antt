@@ -7,6 +7,7 @@ use mathlib.Core.Bool.{Bool, cond}
 use mathlib.Core.List.{List}
 use lib.Dec.{eqb}
 use lib.ListN.{length, replicate}
+use Rattle.limits.specs.Limits.{maxFields, maxLines, lineStarts}
 use Rattle.reader.specs.Text.{fieldsByLine, columnsFault}
 use Rattle.design.specs.Lines.{kindOf, countOf, countsOf, designOf}
 use Rattle.design.specs.Loaded.{fieldsHeld, startsHeld}
@@ -36,8 +37,8 @@ faultOf text = cond (eqb (columnsFault text) 0) (tableFault (fieldsByLine text))
 abbrev pub refusedBy : ℕ → Loaded
 refusedBy k = record {
   fault = k;
-  fields = replicate 4096 0;
-  starts = replicate 84 0;
+  fields = replicate maxFields 0;
+  starts = replicate lineStarts 0;
   counts = record { kind1 = 0; kind2 = 0; kind3 = 0; kind4 = 0 };
 }
 
@@ -54,5 +55,5 @@ pub record Holds (text fields starts : List ℕ) (n : ℕ) (c : Counts) : Type 0
   pub fields-held : fields ≡ fieldsHeld (fieldsByLine text)
   pub starts-held : starts ≡ startsHeld (fieldsByLine text)
   pub lines-all : n ≡ length (fieldsByLine text)
-  pub few : n ≤ 83
+  pub few : n ≤ maxLines
   pub counts-all : c ≡ countsOf (fieldsByLine text)

@@ -231,7 +231,7 @@ fn copy_fields(part: &[u8], fields: &mut limits::Fields, to: usize) -> usize
 }
 
 // A field's number into the array, at a place.
-fn store(fields: &mut [u16; 4096], at: usize, field: Field)
+fn store(fields: &mut limits::Fields, at: usize, field: Field)
     requires { ⌜ at < 4096 ⌝ }
     ensures { λ _. ⌜ now (fields .exit) ≡ stored (now (fields .entry)) at field ⌝ }
 {

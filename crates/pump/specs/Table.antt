@@ -1,11 +1,13 @@
--- The pump table of 01 and its nine variants, as designs, with the report of each (01, "The pump table", the reports marked P).
+-- The pump table of 01 and its nine variants, as designs, with the report of each (01, "The pump table", the reports marked P), and what it
+-- means that the report is right.
+use mathlib.Core.Path.{_≡_}
 use mathlib.Core.Bool.{true, false}
 use mathlib.Core.List.{List, [], _∷_, _++_}
 use Prim.Native.Nat.{ℕ}
 use Rattle.terms.specs.Tree.{Value, Formula, num, par, sumValue, choice, const, compare}
 use Rattle.terms.specs.declared.Compare.the-variants.{Equal}
-use Rattle.criteria.specs.Design.{Design, Row, Parameter}
-use Rattle.criteria.specs.Verdict.{Report}
+use Rattle.criteria.specs.Design.{Design, Row, Parameter, Admitted}
+use Rattle.criteria.specs.Verdict.{Verdict, Report, reportOf, Demand2}
 
 abbrev pub is : ℕ → Formula
 is n = compare Equal (par 0) (num n)
@@ -77,3 +79,11 @@ cases =
     -- second specification size 3
     ∷ case (design 3 3 (done (par 1)) (is 2) (par 1) (const true) (par 1) busy) 1 2 3 0 0
     ∷ []
+
+-- "The ten reports marked P are proved from the criteria themselves, gathered in a table that a single result covers.": the design
+-- is one that a text may say, and this is the report of the verdict that demand 2 asks for
+pub record Right (c : Case) : Type 0 where
+  pub admitted : Admitted (c .table)
+  pub verdict : Verdict
+  pub right : Demand2 (c .table) verdict
+  pub reported : reportOf verdict ≡ c .says

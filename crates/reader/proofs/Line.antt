@@ -1,6 +1,6 @@
 -- Laws of a line's fields (specs/Line). The first field, and those after it (`first-field`, `no-field`); a reader goes on over a field
 -- and over nothing else (`went`, `stood`); a part that starts after the k-th field has the later fields (`rest-fields`); bytes that are
--- written fields have just these (`fields-written`), and what has its fields as a whole is their writing (`whole-written`).
+-- written fields have just these (`fields-written`).
 use Prim.Native.Nat.{ℕ, zero, suc, _+_, _-_, _*_, _/_, _^_, _<_, _≤_}
 use mathlib.Core.Path.{_≡_, refl, sym, ap, _∙_}
 use mathlib.Core.Logic.{_≢_}
