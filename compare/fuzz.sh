@@ -15,7 +15,8 @@ ${CC:-cc} -std=c11 -O2 -Wall -Wextra compare/fuzz.c target/staticlib/libchecker.
     -lpthread -ldl -lm -o "$work/fuzz"
 echo "fuzz: seed $seed; again with: compare/fuzz.sh $count $seed"
 # Tables of many states take the reference long; compare/run.sh has them.
-"$work/fuzz" "$count" "$seed" "$work/calls" "$work/due" $(ls compare/tables/*.txt | grep -Ev '/(t5_size|s_[0-9])')
+mapfile -t tables < <(printf '%s\n' compare/tables/*.txt | grep -Ev '/(t5_size|s_[0-9])')
+"$work/fuzz" "$count" "$seed" "$work/calls" "$work/due" "${tables[@]}"
 target/bin/desk_calls < "$work/calls" > "$work/answers"
 cmp "$work/due" "$work/answers" || { diff "$work/due" "$work/answers" | head -n 4 || true; exit 1; }
 echo "fuzz: $(wc -l < "$work/due") desk calls: no difference"

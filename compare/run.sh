@@ -23,7 +23,7 @@ while IFS=$'\t' read -r name report; do
     fi
     count=$((count + 1))
 done < compare/reports.tsv
-tables=$(ls compare/tables | wc -l)
+tables=$(find compare/tables -type f | wc -l)
 [ "$count" = "$tables" ] || { echo "compare: $tables tables, but $count reports"; exit 1; }
 
 # A line for each list of calls: table, bytes, n, how many advances, how many states are examined, and the report.

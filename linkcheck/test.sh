@@ -134,7 +134,8 @@ grep -q 'new\\u000aline \\"\\\\\\ufffd.txt' "$work/out" || fail "JSON: $(cat "$w
 
 mkdir "$work/damaged"
 ${CC:-cc} -std=c11 -Wall -Wextra -O2 linkcheck/test/damage.c -o "$work/damage"
-"$work/damage" "$work/damaged" "$count" "$seed" $(ls $tables/*.txt | grep -Ev '/(t[1-7]|s_[0-9])')
+mapfile -t whole < <(printf '%s\n' $tables/*.txt | grep -Ev '/(t[1-7]|s_[0-9])')
+"$work/damage" "$work/damaged" "$count" "$seed" "${whole[@]}"
 "$linkcheck" "$work/damaged" > "$work/plain" || true
 # Each text turned down has its fault found: the words come from another reading than the number.
 for found in "$work/words" "$work/plain"; do
