@@ -8,6 +8,7 @@ use mathlib.Core.Bool.{Bool, true, false}
 use mathlib.Core.List.{List, [], _∷_, _++_, map, List·Memᴰ}
 use lib.ListN.{length, getD, drop}
 use Rattle.limits.specs.Limits.{maxDepth, maxParameters, maxRows, maxSpan, maxStates}
+use Rattle.foundation.specs.Lowest.{First}
 use Rattle.foundation.specs.Radix.{product}
 use Rattle.terms.specs.Tree.{Value, Formula, num, okV, okF}
 use Rattle.terms.specs.Depth.{depthV, depthF}
@@ -136,10 +137,12 @@ pub data Fault (text : List ℕ) : ℕ → Type 0 where
   sixth : Fault6 (fieldsByLine text) → Fault text 6
   seventh : Fault7 (designOf (fieldsByLine text)) → Fault text 7
 
--- "The lowest of 1 to 7 whose fault is anywhere in the text is given"
-pub record LowestFault (text : List ℕ) (k : ℕ) : Type 0 where
-  pub is : Fault text k
-  pub none-lower : (j : ℕ) → j < k → Fault text j → ⊥
+-- "The lowest of 1 to 7 whose fault is anywhere in the text is given": the first in this order
+abbrev pub faultOrder : List ℕ
+faultOrder = 1 ∷ 2 ∷ 3 ∷ 4 ∷ 5 ∷ 6 ∷ 7 ∷ []
+
+abbrev pub LowestFault : List ℕ → ℕ → Type 0
+LowestFault text k = First (Fault text) faultOrder k
 
 -- a design text has none of them; its design is `designText text`
 abbrev pub DesignText : List ℕ → Type 0

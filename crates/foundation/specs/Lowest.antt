@@ -1,4 +1,4 @@
--- An order of turns, what it means that a failure is the lowest, and that an outcome says which one it is. Things are compared by
+-- An order of turns, what it means that a failure is the lowest, and that an outcome says which one it is; and the first in a list. Things are compared by
 -- their turns, lists of numbers in which the first difference decides. Laws: proofs/Lowest.
 use mathlib.Core.Path.{_≡_}
 use mathlib.Core.Logic.{_⊎_}
@@ -29,3 +29,10 @@ pub record Lowest {A : Type 0} (turn : A → List ℕ) (Fails : A → Type 0) (x
 pub data Settled {A : Type 0} (turn : A → List ℕ) (Fails : A → Type 0) : Outcome A → Type 0 where
   none : ((x : A) → Fails x → ⊥) → Settled turn Fails pass
   lowest : {x : A} → Lowest turn Fails x → Settled turn Fails (fail x)
+
+-- ---- in an order that is given
+
+-- the first number of a list that is so: it is, and those before it are not
+pub data First (P : ℕ → Type 0) : List ℕ → ℕ → Type 0 where
+  here : {k : ℕ} {ks : List ℕ} → P k → First P (k ∷ ks) k
+  past : {j k : ℕ} {ks : List ℕ} → (P j → ⊥) → First P ks k → First P (j ∷ ks) k
