@@ -1,5 +1,5 @@
 -- Laws of specs/Columns: what is written is read back as the same number (`read-back`), what is read was written so (`is-field`), so
--- six columns are the field of one number at most (`one-number`). No column is a byte 10.
+-- a number is found exactly where the columns are its field (`exactly`). No column is a byte 10.
 use Prim.Native.Nat.{ℕ, _+_, _-_, _*_, _/_, _%_, _<_}
 use mathlib.Core.Path.{_≡_, refl, sym}
 use mathlib.Core.Logic.{_≢_, _↔_}

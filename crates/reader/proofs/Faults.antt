@@ -1,5 +1,5 @@
 -- `columnsFault` computes the lowest of the faults 1, 2 and 3 of a text (`columns-lowest`), each of which is what specs/Text says
--- (`fault-2`, `fault-3`); where 3 is absent, a text's fields are at most 256 a line and 4,096 in all (`most-in-line`, `most-in-all`).
+-- (`fault-2`, `fault-3`); where 3 is absent, a text's fields are at most 4,096 in all (`most-in-all`).
 use Prim.Native.Nat.{ℕ, _*_, _<_, _≤_}
 use mathlib.Core.Path.{_≡_, refl, sym, ap, _∙_}
 use mathlib.Core.Logic.{_≢_, _↔_, _⊎_, inl, inr}
