@@ -34,8 +34,8 @@ columns d s =
     ∷ ofImpl (holds9 d s)
     ∷ []
 
-abbrev pub column : Design → State → ℕ → Column
-column d s c = getD (columns d s) c nothing
+abbrev pub column : List Column → ℕ → Column
+column cs c = getD cs c nothing
 
 -- the numbers of its rows are below this (rows count from 1, and row 0 has no sum value)
 abbrev pub rowsIn : Design → Column → ℕ
@@ -58,13 +58,16 @@ failsIn d (once holds) k e = not holds
 failsIn d (ofImpl holds) k e = not (holds (rowAt (d .impl .rows) k) e)
 failsIn d (ofSpec holds) k e = not (holds (rowAt (d .spec .rows) k) e)
 
-abbrev pub trial : Design → State → Trial
-trial d s = record {
-  criteria = 10;
-  rows = λ c. rowsIn d (column d s c);
-  sums = λ c k. sumsIn d (column d s c) k;
-  test = λ c k e. failsIn d (column d s c) k e;
+abbrev pub trialOf : Design → List Column → Trial
+trialOf d cs = record {
+  criteria = length cs;
+  rows = λ c. rowsIn d (column cs c);
+  sums = λ c k. sumsIn d (column cs c) k;
+  test = λ c k e. failsIn d (column cs c) k e;
 }
+
+abbrev pub trial : Design → State → Trial
+trial d s = trialOf d (columns d s)
 
 -- the lowest place that fails at a state
 abbrev pub firstFailing : Design → State → Outcome Place

@@ -1,14 +1,18 @@
 -- A desk's arrays: the fields of all lines one after the other, and where each line starts among them, with the end of the last;
 -- 0 in the rest. How lines are held (`fieldsHeld`, `startsHeld`), which lines arrays hold (`heldLines`), and which design
--- (`designIn`). Lines are counted from 0. That what is held is what was given, and the design that of the lines, is in proofs/Loaded.
+-- (`designAt`, by the places of its lines; `designIn`, by their counts). Lines are counted from 0. That what is held is what was given, and the design that of the lines, is in proofs/Loaded.
 use Prim.Native.Nat.{ℕ, zero, suc, _+_, _-_}
 use mathlib.Core.List.{List, [], _∷_, _++_}
 use lib.ListN.{length, getD, take, drop, replicate}
 use lib.Seq.{sets}
 use Rattle.limits.specs.Limits.{maxFields, lineStarts}
 use Rattle.criteria.specs.Design.{Design}
+use Rattle.criteria.specs.Design as design
 use Rattle.design.specs.Line.{parameterOf, rowOf, invariantOf, mappingOf, measureOf}
 use Rattle.design.specs.declared.Counts.{Counts}
+use Rattle.design.specs.declared.Section.{Section}
+use Rattle.design.specs.declared.Process.{Process}
+use Rattle.design.specs.declared.Shape.{Shape}
 
 -- the fields from the start of line i on
 abbrev pub lineFrom : List ℕ → List ℕ → ℕ → List ℕ
@@ -46,29 +50,46 @@ startsHeld lines = sets (replicate lineStarts 0) 0 (startsFrom 0 lines)
 
 -- ---- the design
 
--- the first line of kind 3, of kind 4, of kind 5
-abbrev pub implRowsAt : Counts → ℕ
-implRowsAt c = c .kind1 + c .kind2
+-- what the lines of a section say
+abbrev pub eachIn : {A : Type 0} → (List ℕ → A) → List ℕ → List ℕ → Section → List A
+eachIn says fields starts c = eachLine says (lineFrom fields starts) (c .count) (c .first)
 
-abbrev pub specRowsAt : Counts → ℕ
-specRowsAt c = implRowsAt c + c .kind3
+-- the process whose lines stand there
+abbrev pub processIn : List ℕ → List ℕ → Process → design.Process
+processIn fields starts p = record {
+  parameters = eachIn parameterOf fields starts (p .parameters);
+  rows = eachIn (rowOf (p .parameters .count)) fields starts (p .rows);
+}
 
-abbrev pub invariantAt : Counts → ℕ
-invariantAt c = specRowsAt c + c .kind4
+-- the design
+abbrev pub designAt : List ℕ → List ℕ → Shape → Design
+designAt fields starts h = record {
+  impl = processIn fields starts (h .implementation);
+  spec = processIn fields starts (h .specification);
+  invariant = invariantOf (lineFrom fields starts (h .invariant));
+  mapping = mappingOf (h .specification .parameters .count) (lineFrom fields starts (h .mapping));
+  measure = measureOf (lineFrom fields starts (h .measure));
+}
+
+-- where the lines stand that are counted, kind after kind
+abbrev pub sections : Counts → Shape
+sections c =
+    let rows : ℕ = c .kind1 + c .kind2 in
+    let others : ℕ = rows + c .kind3 in
+    let invariant : ℕ = others + c .kind4 in
+    record {
+      implementation = record {
+        parameters = record { first = 0; count = c .kind1 };
+        rows = record { first = rows; count = c .kind3 };
+      };
+      specification = record {
+        parameters = record { first = c .kind1; count = c .kind2 };
+        rows = record { first = others; count = c .kind4 };
+      };
+      invariant = invariant;
+      mapping = invariant + 1;
+      measure = invariant + 2;
+    }
 
 abbrev pub designIn : List ℕ → List ℕ → Counts → Design
-designIn fields starts c =
-    let line = lineFrom fields starts in
-    record {
-      impl = record {
-        parameters = eachLine parameterOf line (c .kind1) 0;
-        rows = eachLine (rowOf (c .kind1)) line (c .kind3) (implRowsAt c);
-      };
-      spec = record {
-        parameters = eachLine parameterOf line (c .kind2) (c .kind1);
-        rows = eachLine (rowOf (c .kind2)) line (c .kind4) (specRowsAt c);
-      };
-      invariant = invariantOf (line (invariantAt c));
-      mapping = mappingOf (c .kind2) (line (invariantAt c + 1));
-      measure = measureOf (line (invariantAt c + 2));
-    }
+designIn fields starts c = designAt fields starts (sections c)

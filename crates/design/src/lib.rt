@@ -8,3 +8,24 @@ pub struct Counts {
     pub kind3: usize,
     pub kind4: usize,
 }
+
+// Lines one after the other: the first by its number, and how many there are.
+pub struct Section {
+    pub first: u8,
+    pub count: u8,
+}
+
+// A process among the lines: its parameters and its rows.
+pub struct Process {
+    pub parameters: Section,
+    pub rows: Section,
+}
+
+// Where the lines of a design stand: those of the implementation and of the specification, and the three after them.
+pub struct Shape {
+    pub implementation: Process,
+    pub specification: Process,
+    pub invariant: u8,
+    pub mapping: u8,
+    pub measure: u8,
+}

@@ -1,23 +1,25 @@
 -- Laws of specs/Sizes: what fitting counts say, and the turns of the loops that multiply sizes and count up the initial state's number.
 -- A number that is cut off stays cut off whatever it is multiplied by, and by 0 it is 0 in either case: so cutting off at every turn
 -- is cutting off at the end.
-use mathlib.Core.Path.{_≡_, sym, _∙_, ap}
-use mathlib.Core.Bool.{Bool, true, false, _&&_}
+use mathlib.Core.Path.{_≡_, refl, sym, _∙_, ap}
+use mathlib.Core.Bool.{Bool, true, false, not, _&&_}
 use mathlib.Core.List.{List, [], _∷_}
 use Prim.Native.Nat.{ℕ, zero, suc, _+_, _-_, _*_, _≤_, _<_, min}
 use native.Mathlib.Numerals.{add-one}
 use native.Mathlib.Nat.{mul-zero, mul-assoc, le-mul-of-pos-right}
 use native.Mathlib.Decide.{decLt}
 use native.Mathlib.Omega.{arith}
-use borrow.Author.Tests.{leb-true}
+use borrow.Author.Tests.{leb-true, not-true, not-false}
 use lib.Dec.{leb}
 use lib.ListN.{getD}
 use Rattle.foundation.specs.Radix.{product, numberOf, numberFrom}
+use Rattle.terms.specs.Tree.{pick}
 use Rattle.terms.proofs.And.{and-left, and-right}
 use Rattle.criteria.specs.Design.{Parameter}
-use Rattle.design.specs.Loaded.{lineFrom, eachLine}
+use Rattle.design.specs.Loaded.{lineFrom, eachLine, sections}
 use Rattle.design.specs.declared.Counts.{Counts}
-use Rattle.layout.specs.Sizes.{countsFit, Fit, shapeOf, countsOf, parametersFrom, sizesOf, initialsOf, productUpTo, stateCountIn, numberUpTo, initialNumberIn}
+use Rattle.design.specs.declared.Shape.{Shape}
+use Rattle.layout.specs.Sizes.{countsFit, Fit, sectionsOf, shapeOf, FitsIn, Fits, parametersFrom, sizesOf, initialsOf, productUpTo, stateCountIn, numberUpTo, initialNumberIn}
 
 pub fit : (c : Counts) (b : Bool) → b ≡ countsFit c → b ≡ true → Fit c
 fit c b said so =
@@ -35,25 +37,38 @@ fit c b said so =
       kind4 = leb-true (c .kind4) 32 (and-right k3 k4 q);
     }
 
-pub shape-fits : (c : Counts) (b : Bool) (k1 k2 k3 k4 : ℕ) → b ≡ countsFit c → b ≡ true → k1 ≡ min (c .kind1) 255 → k2 ≡ min (c .kind2) 255
-    → k3 ≡ min (c .kind3) 255 → k4 ≡ min (c .kind4) 255 → record { kind1 = k1; kind2 = k2; kind3 = k3; kind4 = k4 } ≡ shapeOf c
-unfolding shapeOf
-shape-fits c b k1 k2 k3 k4 said so e1 e2 e3 e4 =
-    let q : Fit c = fit c b said so in
-    let p1 : k1 ≡ c .kind1 = omega arith in
-    let p2 : k2 ≡ c .kind2 = omega arith in
-    let p3 : k3 ≡ c .kind3 = omega arith in
-    let p4 : k4 ≡ c .kind4 = omega arith in
-    rw (← said, so, p1, p2, p3, p4)
+-- the shape
+pub four-fit : (c : Counts) (b : Bool) → b ≡ countsFit c → not b ≡ false → c .kind1 + c .kind2 + c .kind3 + c .kind4 ≤ 80
+four-fit c b said so = let q : Fit c = fit c b said (not-false b so) in omega (arith, q .kind1, q .kind2, q .kind3, q .kind4)
 
-pub shape-unfit : (c : Counts) (b : Bool) → b ≡ countsFit c → b ≡ false → record { kind1 = 0; kind2 = 0; kind3 = 0; kind4 = 0 } ≡ shapeOf c
-unfolding shapeOf
-shape-unfit c b said no-fit = rw (← said, no-fit)
+pub shape-fit : (c : Counts) (b : Bool) (r : Shape) → b ≡ countsFit c → not b ≡ false → r ≡ sectionsOf (c .kind1) (c .kind2) (c .kind3) (c .kind4) → r ≡ shapeOf c
+unfolding sectionsOf shapeOf
+shape-fit c b r said so er = er ∙ rw (← said, not-false b so)
 
--- where the counts fit, nothing is lost
-pub counts-kept : (c : Counts) → countsFit c ≡ true → countsOf (shapeOf c) ≡ c
+pub shape-unfit : (c : Counts) (b : Bool) (r : Shape) → b ≡ countsFit c → not b ≡ true → r ≡ sectionsOf 0 0 0 0 → r ≡ shapeOf c
 unfolding shapeOf
-counts-kept c h = rw h
+shape-unfit c b r said no-fit er = er ∙ rw (← said, not-true b no-fit)
+
+-- it is that of the counts where they fit, and fits in either case
+pub sections-kept : (c : Counts) → countsFit c ≡ true → shapeOf c ≡ sections c
+unfolding shapeOf
+sections-kept c h = rw h
+
+pub shape-fits : (c : Counts) → Fits (shapeOf c)
+unfolding shapeOf sectionsOf
+shape-fits c = go (countsFit c) refl
+  where
+    go : (b : Bool) → countsFit c ≡ b → Fits (pick b (sections c) (sectionsOf 0 0 0 0))
+    go true e =
+        let q : Fit c = fit c true (sym e) refl in
+        record {
+          implementation = record { parameters = q .kind1; rows = q .kind3 };
+          specification = record { parameters = q .kind2; rows = q .kind4 };
+        }
+    go false e = record {
+      implementation = record { parameters = omega arith; rows = omega arith };
+      specification = record { parameters = omega arith; rows = omega arith };
+    }
 
 -- what n - i lines from line b + i on say, one line at a time
 pub each-on : {A : Type 0} (says : List ℕ → A) (line : ℕ → List ℕ) (b n i : ℕ) → i < n

@@ -9,9 +9,10 @@ use Rattle.foundation.specs.Radix.{product, numberOf}
 use Rattle.terms.specs.Tree.{pick}
 use Rattle.criteria.specs.Design.{Parameter, sizes, initialState, states, stateNumber}
 use Rattle.design.specs.Line.{parameterOf}
-use Rattle.design.specs.Loaded.{lineFrom, eachLine, designIn}
+use Rattle.design.specs.Loaded.{lineFrom, eachLine, sections, designIn}
 use Rattle.design.specs.declared.Counts.{Counts}
-use Rattle.layout.specs.declared.Shape.{Shape}
+use Rattle.design.specs.declared.Process.{Process}
+use Rattle.design.specs.declared.Shape.{Shape}
 
 -- "1 to 8" lines of kinds 1 and 2, "0 to 32" of kinds 3 and 4: there are no more
 abbrev pub countsFit : Counts → Bool
@@ -24,14 +25,22 @@ pub record Fit (c : Counts) : Type 0 where
   pub kind3 : c .kind3 ≤ 32
   pub kind4 : c .kind4 ≤ 32
 
--- the counts as bytes, and back
-unfoldable pub shapeOf : Counts → Shape
-shapeOf c =
-    pick (countsFit c) (record { kind1 = c .kind1; kind2 = c .kind2; kind3 = c .kind3; kind4 = c .kind4 })
-    (record { kind1 = 0; kind2 = 0; kind3 = 0; kind4 = 0 })
+-- the places of n and m parameters, k and l rows, and the three lines after them
+unfoldable pub sectionsOf : ℕ → ℕ → ℕ → ℕ → Shape
+sectionsOf n m k l = sections (record { kind1 = n; kind2 = m; kind3 = k; kind4 = l })
 
-abbrev pub countsOf : Shape → Counts
-countsOf h = record { kind1 = h .kind1; kind2 = h .kind2; kind3 = h .kind3; kind4 = h .kind4 }
+-- of lines that are counted, where the counts fit, and else of none
+unfoldable pub shapeOf : Counts → Shape
+shapeOf c = pick (countsFit c) (sections c) (sectionsOf 0 0 0 0)
+
+-- no more parameters than a state has values, and no more rows than there may be
+pub record FitsIn (p : Process) : Type 0 where
+  pub parameters : p .parameters .count ≤ 8
+  pub rows : p .rows .count ≤ 32
+
+pub record Fits (h : Shape) : Type 0 where
+  pub implementation : FitsIn (h .implementation)
+  pub specification : FitsIn (h .specification)
 
 -- what the lines from line i on say of n parameters
 abbrev pub parametersFrom : List ℕ → List ℕ → ℕ → ℕ → List Parameter

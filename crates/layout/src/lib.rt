@@ -2,11 +2,14 @@
 // initial values of parameters, how many states there are, and the number of the initial state. Every function answers any arrays
 // and any counts. Which design the arrays hold is in the crate design.
 use design::Counts;
+use design::Process;
+use design::Section;
+use design::Shape;
 ghost use mathlib.Core.Path.{_≡_};
-ghost use Prim.Native.Nat.{_+_, _*_, min};
+ghost use Prim.Native.Nat.{_+_, _*_, _≤_, min};
 ghost use lib.ListN.{getD, drop};
 ghost use Rattle.design.specs.Loaded.{lineFrom};
-ghost use Rattle.layout.specs.Sizes.{countsFit, shapeOf, productUpTo, stateCountIn, numberUpTo, initialNumberIn};
+ghost use Rattle.layout.specs.Sizes.{countsFit, sectionsOf, shapeOf, productUpTo, stateCountIn, numberUpTo, initialNumberIn};
 
 // One more than the most states that a design may have: a count that says "too many".
 pub const TOO_MANY: u32 = limits::MAX_STATES as u32 + 1;
@@ -23,40 +26,48 @@ pub fn counts_fit(counts: Counts) -> bool
             & ((counts.kind3 <= limits::MAX_ROWS) & (counts.kind4 <= limits::MAX_ROWS)))
 }
 
-// How many lines of kinds 1 to 4 there are, a byte for each: sums of these never wrap.
-pub struct Shape {
-    pub kind1: u8,
-    pub kind2: u8,
-    pub kind3: u8,
-    pub kind4: u8,
-}
-
-// The number as a byte, 255 standing for all that are too large.
-fn byte(x: usize) -> u8
-    ensures { λ r. ⌜ r ≡ min x 255 ⌝ }
+// Where the lines stand: of n and m parameters, k and l rows, and the three lines after them.
+fn sections(n: u8, m: u8, k: u8, l: u8) -> Shape
+    requires { ⌜ n + m + k + l ≤ 80 ⌝ }
+    ensures { λ r. ⌜ r ≡ sectionsOf n m k l ⌝ }
 {
-    if x < 255 { x as u8 } else { 255 }
+    let rows = n + m;
+    let others = rows + k;
+    let invariant = others + l;
+    Shape {
+        implementation: Process {
+            parameters: Section { first: 0, count: n },
+            rows: Section {
+                first: rows,
+                count: k,
+            },
+        },
+        specification: Process {
+            parameters: Section { first: n, count: m },
+            rows: Section {
+                first: others,
+                count: l,
+            },
+        },
+        invariant: invariant,
+        mapping: invariant + 1,
+        measure: invariant + 2,
+    }
 }
 
-// The counts as bytes where they fit, and else none.
+// The shape of a design with these counts where they fit, and else that of no lines.
 pub fn shape_of(counts: Counts) -> Shape
     ensures { λ r. ⌜ r ≡ shapeOf counts ⌝ }
 {
-    if counts_fit(counts) {
-        Shape {
-            kind1: byte(counts.kind1),
-            kind2: byte(counts.kind2),
-            kind3: byte(counts.kind3),
-            kind4: byte(counts.kind4),
-        }
-    } else {
-        Shape {
-            kind1: 0,
-            kind2: 0,
-            kind3: 0,
-            kind4: 0,
-        }
+    if !counts_fit(counts) {
+        return sections(0, 0, 0, 0);
     }
+    sections(
+        counts.kind1 as u8,
+        counts.kind2 as u8,
+        counts.kind3 as u8,
+        counts.kind4 as u8,
+    )
 }
 
 // Where line i starts among the fields, and 0 past the last line.

@@ -22,11 +22,12 @@ use Rattle.eval.specs.Answer.{answerV, answerF}
 use Rattle.eval.specs.declared.Valued.{Valued}
 use Rattle.eval.specs.declared.Held.{Held}
 use Rattle.design.specs.Line.{parameterOf, rowOf, valuesIn}
-use Rattle.design.specs.Loaded.{lineFrom, eachLine, implRowsAt, specRowsAt, invariantAt}
-use Rattle.design.specs.declared.Counts.{Counts}
+use Rattle.design.specs.Loaded.{lineFrom, eachLine, processIn}
+use Rattle.design.specs.declared.Process.{Process}
+use Rattle.design.specs.declared.Shape.{Shape}
 use Rattle.layout.specs.Sizes.{parametersFrom, sizesOf, initialsOf}
-use Rattle.layout.proofs.Sizes.{each-on, each-turn, each-none}
-use Rattle.steps.specs.Arrays.{padded, front, valuesAt, stepOf, noStep, rowsFrom, rowStep, rowSpan, rowWith, stateIn, initialIn, belowIn, sameIn, invariantIn, insideIn, mappedIn, measureIn, implLine, specLine, implStep, specStep, implSpan, specSpan, implRow, specRow}
+use Rattle.layout.proofs.Sizes.{each-on, each-none}
+use Rattle.steps.specs.Arrays.{padded, front, valuesAt, stepOf, noStep, lineOf, rowStep, rowSpan, rowWith, stateIn, initialIn, belowIn, sameIn, invariantIn, insideIn, mappedIn, measureIn}
 use Rattle.steps.specs.declared.Step.{Step}
 
 -- ---- the values of terms, one after the other
@@ -74,33 +75,33 @@ set-first l i [] j x h = refl
 set-first l i (a ∷ vs) j x h =
     set-first (set l i a) (suc i) vs j x (omega arith) ∙ ap (λ m. sets m (suc i) vs) (set-comm l i j a x (omega arith))
 
-module _ (f s : List ℕ) (n k : ℕ) where
+module _ (f s : List ℕ) (b n k : ℕ) where
   unfoldable pub lastValues : ℕ → List ℕ
-  lastValues i = sets (replicate 8 0) i (splitOf (sizesOf (parametersFrom f s (n - i) i)) k .values)
+  lastValues i = sets (replicate 8 0) i (splitOf (sizesOf (parametersFrom f s (n - i) (b + i))) k .values)
 
   unfoldable pub leftOver : ℕ → ℕ
-  leftOver i = splitOf (sizesOf (parametersFrom f s (n - i) i)) k .left
+  leftOver i = splitOf (sizesOf (parametersFrom f s (n - i) (b + i))) k .left
 
   pub state-start-values : (i : ℕ) → i ≡ n → replicate 8 0 ≡ lastValues i
   unfolding lastValues splitOf
   state-start-values i h =
-      ap (λ ps. sets (replicate 8 0) i (splitOf (sizesOf ps) k .values)) (sym (each-none parameterOf (lineFrom f s) i n i (omega arith)))
+      ap (λ ps. sets (replicate 8 0) i (splitOf (sizesOf ps) k .values)) (sym (each-none parameterOf (lineFrom f s) (b + i) n i (omega arith)))
 
   pub state-start-left : (i : ℕ) → i ≡ n → k ≡ leftOver i
   unfolding leftOver splitOf
-  state-start-left i h = ap (λ ps. splitOf (sizesOf ps) k .left) (sym (each-none parameterOf (lineFrom f s) i n i (omega arith)))
+  state-start-left i h = ap (λ ps. splitOf (sizesOf ps) k .left) (sym (each-none parameterOf (lineFrom f s) (b + i) n i (omega arith)))
 
-  state-turn : (w : List ℕ) (m i j z x y : ℕ) → j ≡ i - 1 → 0 < i → i ≤ n → z ≡ getD (lineFrom f s j) 1 0 → x ≡ m % z → y ≡ m / z
+  state-turn : (w : List ℕ) (m i j z x y : ℕ) → j ≡ i - 1 → 0 < i → i ≤ n → z ≡ getD (lineFrom f s (b + j)) 1 0 → x ≡ m % z → y ≡ m / z
       → w ≡ lastValues i → m ≡ leftOver i → (set w j x ≡ lastValues j) × (y ≡ leftOver j)
   unfolding lastValues leftOver splitOf
   state-turn w m i j z x y ej p l ez ex ey ew em =
       let u : j + 1 ≡ i = omega arith in
       let v : i ≡ suc j = omega arith in
-      let one : parametersFrom f s (n - j) j ≡ parameterOf (lineFrom f s j) ∷ parametersFrom f s (n - i) i =
-      each-turn parameterOf (lineFrom f s) n j (omega arith) ∙ ap (λ (q : ℕ). parameterOf (lineFrom f s j) ∷ parametersFrom f s (n - q) q) u in
-      let vs : List ℕ = splitOf (sizesOf (parametersFrom f s (n - i) i)) k .values in
-      let ex′ : x ≡ leftOver i % getD (lineFrom f s j) 1 0 = rw (ex, ez, em) in
-      let ey′ : y ≡ leftOver i / getD (lineFrom f s j) 1 0 = rw (ey, ez, em) in (
+      let one : parametersFrom f s (n - j) (b + j) ≡ parameterOf (lineFrom f s (b + j)) ∷ parametersFrom f s (n - i) (b + i) =
+      each-on parameterOf (lineFrom f s) b n j (omega arith) ∙ ap (λ (q : ℕ). parameterOf (lineFrom f s (b + j)) ∷ parametersFrom f s (n - q) (b + q)) u in
+      let vs : List ℕ = splitOf (sizesOf (parametersFrom f s (n - i) (b + i))) k .values in
+      let ex′ : x ≡ leftOver i % getD (lineFrom f s (b + j)) 1 0 = rw (ex, ez, em) in
+      let ey′ : y ≡ leftOver i / getD (lineFrom f s (b + j)) 1 0 = rw (ey, ez, em) in (
         ap (λ o. set o j x) ew
             ∙ set-first (replicate 8 0) i vs j x (omega arith)
             ∙ (λ h. sets (set (replicate 8 0) j (ex′ h)) (v h) vs)
@@ -108,37 +109,50 @@ module _ (f s : List ℕ) (n k : ℕ) where
         ey′ ∙ ap (λ ps. splitOf (sizesOf ps) k .left) (sym one),
       )
 
-  pub state-turn-values : (w : List ℕ) (m i z x : ℕ) → 0 < i → i ≤ n → x ≡ m % z → z ≡ getD (lineFrom f s (i - 1)) 1 0
+  pub state-turn-values : (w : List ℕ) (m i z x : ℕ) → 0 < i → i ≤ n → x ≡ m % z → z ≡ getD (lineFrom f s (b + (i - 1))) 1 0
       → w ≡ lastValues i → m ≡ leftOver i → set w (i - 1) x ≡ lastValues (i - 1)
   state-turn-values w m i z x p l ex ez ew em = state-turn w m i (i - 1) z x (m / z) refl p l ez ex refl ew em .0
 
-  pub state-turn-left : (w : List ℕ) (m i z y : ℕ) → 0 < i → i ≤ n → y ≡ m / z → z ≡ getD (lineFrom f s (i - 1)) 1 0
+  pub state-turn-left : (w : List ℕ) (m i z y : ℕ) → 0 < i → i ≤ n → y ≡ m / z → z ≡ getD (lineFrom f s (b + (i - 1))) 1 0
       → w ≡ lastValues i → m ≡ leftOver i → y ≡ leftOver (i - 1)
   state-turn-left w m i z y p l ey ez ew em = state-turn w m i (i - 1) z (m % z) y refl p l ez refl ey ew em .1
 
-pub state-end : (f s : List ℕ) (n k : ℕ) (w : List ℕ) (i : ℕ) → i ≤ 0 → w ≡ lastValues f s (min n 8) k i → w ≡ stateIn f s n k
+pub state-end : (f s : List ℕ) (p : Process) (k : ℕ) (w : List ℕ) (i : ℕ) → i ≤ 0
+    → w ≡ lastValues f s (p .parameters .first) (min (p .parameters .count) 8) k i → w ≡ stateIn f s p k
 unfolding lastValues stateIn padded
-state-end f s n k w i l ew = let z : i ≡ 0 = omega arith in let m : min n 8 - 0 ≡ min n 8 = omega arith in ew ∙ rw (z, m)
+state-end f s p k w i l ew =
+    let b : ℕ = p .parameters .first in
+    let n : ℕ = min (p .parameters .count) 8 in
+    let z : i ≡ 0 = omega arith in
+    let m : n - 0 ≡ n = omega arith in
+    let o : b + 0 ≡ b = omega arith in
+    ew ∙ rw (z, m, o)
 
 -- ---- initial values
 
-module _ (f s : List ℕ) (b n : ℕ) where
+module _ (f s : List ℕ) (p : Process) where
+  abbrev b : ℕ
+  b = p .parameters .first
+
+  abbrev n : ℕ
+  n = p .parameters .count
+
   unfoldable pub initialLeft : List ℕ → ℕ → List ℕ
   initialLeft w i = sets w i (initialsOf (parametersFrom f s (n - i) (b + i)))
 
-  pub initial-start : initialLeft (replicate 8 0) 0 ≡ initialIn f s b n
+  pub initial-start : initialLeft (replicate 8 0) 0 ≡ initialIn f s p
   unfolding initialLeft initialIn padded
   initial-start = let k : n - 0 ≡ n = omega arith in let m : b + 0 ≡ b = omega arith in rw (k, m)
 
-  pub initial-turn : (w : List ℕ) (i m x : ℕ) → m ≡ min n 8 → i < m → x ≡ getD (lineFrom f s (b + i)) 2 0 → initialLeft w i ≡ initialIn f s b n
-      → initialLeft (set w i x) (i + 1) ≡ initialIn f s b n
+  pub initial-turn : (w : List ℕ) (i m x : ℕ) → m ≡ min n 8 → i < m → x ≡ getD (lineFrom f s (b + i)) 2 0 → initialLeft w i ≡ initialIn f s p
+      → initialLeft (set w i x) (i + 1) ≡ initialIn f s p
   unfolding initialLeft
   initial-turn w i m x em l ex inv = go ∙ inv
     where
       go : initialLeft (set w i x) (i + 1) ≡ initialLeft w i
       go = rw (each-on parameterOf (lineFrom f s) b n i (omega arith), ← ex, add-one i)
 
-  pub initial-end : (w : List ℕ) (i m : ℕ) → m ≡ min n 8 → m ≤ i → length w ≡ 8 → initialLeft w i ≡ initialIn f s b n → w ≡ initialIn f s b n
+  pub initial-end : (w : List ℕ) (i m : ℕ) → m ≡ min n 8 → m ≤ i → length w ≡ 8 → initialLeft w i ≡ initialIn f s p → w ≡ initialIn f s p
   unfolding initialLeft
   initial-end w i m em l long inv = go (decLt 8 n) ∙ inv
     where
@@ -148,35 +162,40 @@ module _ (f s : List ℕ) (b n : ℕ) where
 
 -- ---- values below their sizes, and the same values
 
-module _ (f s v : List ℕ) (b n i : ℕ) where
-  unfoldable pub belowLeft : Bool
-  belowLeft = belowB (sizesOf (parametersFrom f s (n - i) (b + i))) (front (n - i) i v)
+module _ (f s v : List ℕ) (p : Process) where
+  abbrev from : ℕ
+  from = p .parameters .first
 
-  belows : (z : ℕ) → i < n → z ≡ getD (lineFrom f s (b + i)) 1 0
-      → belowLeft ≡ belowB (z ∷ sizesOf (parametersFrom f s (n - (i + 1)) (b + (i + 1)))) (getD v i 0 ∷ front (n - (i + 1)) (i + 1) v)
+  abbrev some : ℕ
+  some = p .parameters .count
+
+  unfoldable pub belowLeft : ℕ → Bool
+  belowLeft i = belowB (sizesOf (parametersFrom f s (some - i) (from + i))) (front (some - i) i v)
+
+  belows : (i z : ℕ) → i < some → z ≡ getD (lineFrom f s (from + i)) 1 0
+      → belowLeft i ≡ belowB (z ∷ sizesOf (parametersFrom f s (some - (i + 1)) (from + (i + 1)))) (getD v i 0 ∷ front (some - (i + 1)) (i + 1) v)
   unfolding belowLeft front
-  belows z l ez =
-      let k : n - i ≡ suc (n - (i + 1)) = omega arith in
-      rw (each-on parameterOf (lineFrom f s) b n i l, ez, add-one i, k, add-one i)
+  belows i z l ez =
+      let k : some - i ≡ suc (some - (i + 1)) = omega arith in
+      rw (each-on parameterOf (lineFrom f s) from some i l, ez, add-one i, k, add-one i)
 
-  pub below-fails : (z x : ℕ) → i < n → z ≡ getD (lineFrom f s (b + i)) 1 0 → x ≡ getD v i 0 → z ≤ x → belowLeft ≡ belowIn f s b n v → false ≡ belowIn f s b n v
-  below-fails z x l ez ex h inv = sym (belows z l ez ∙ rw (← ex, le-ltb x z h)) ∙ inv
+  pub below-start : belowLeft 0 ≡ belowIn f s p v
+  unfolding belowLeft belowIn
+  below-start = let k : some - 0 ≡ some = omega arith in let m : from + 0 ≡ from = omega arith in rw (k, m)
 
-pub below-start : (f s v : List ℕ) (b n : ℕ) → belowLeft f s v b n 0 ≡ belowIn f s b n v
-unfolding belowLeft belowIn
-below-start f s v b n = let k : n - 0 ≡ n = omega arith in let m : b + 0 ≡ b = omega arith in rw (k, m)
+  pub below-fails : (i z x : ℕ) → belowLeft i ≡ belowIn f s p v → i < some → z ≤ x → x ≡ getD v i 0 → z ≡ getD (lineFrom f s (from + i)) 1 0 → false ≡ belowIn f s p v
+  below-fails i z x inv l h ex ez = sym (belows i z l ez ∙ rw (← ex, le-ltb x z h)) ∙ inv
 
-pub below-turn : (f s v : List ℕ) (b n i z x : ℕ) → i < n → z ≡ getD (lineFrom f s (b + i)) 1 0 → x ≡ getD v i 0 → x < z → belowLeft f s v b n i ≡ belowIn f s b n v
-    → belowLeft f s v b n (i + 1) ≡ belowIn f s b n v
-unfolding belowLeft
-below-turn f s v b n i z x l ez ex h inv = sym (belows f s v b n i z l ez ∙ rw (← ex, lt-ltb x z h)) ∙ inv
+  pub below-turn : (i z x : ℕ) → i < some → z ≡ getD (lineFrom f s (from + i)) 1 0 → x ≡ getD v i 0 → x < z → belowLeft i ≡ belowIn f s p v → belowLeft (i + 1) ≡ belowIn f s p v
+  unfolding belowLeft
+  below-turn i z x l ez ex h inv = sym (belows i z l ez ∙ rw (← ex, lt-ltb x z h)) ∙ inv
 
-pub below-end : (f s v : List ℕ) (b n i : ℕ) → n ≤ i → belowLeft f s v b n i ≡ belowIn f s b n v → true ≡ belowIn f s b n v
-unfolding belowLeft front
-below-end f s v b n i l inv = go ∙ inv
-  where
-    go : true ≡ belowLeft f s v b n i
-    go = let k : n - i ≡ 0 = omega arith in rw (each-none parameterOf (lineFrom f s) (b + i) n i l, k)
+  pub below-end : (i : ℕ) → some ≤ i → belowLeft i ≡ belowIn f s p v → true ≡ belowIn f s p v
+  unfolding belowLeft front
+  below-end i l inv = go ∙ inv
+    where
+      go : true ≡ belowLeft i
+      go = let k : some - i ≡ 0 = omega arith in rw (each-none parameterOf (lineFrom f s) (from + i) some i l, k)
 
 module _ (v w : List ℕ) (n i : ℕ) where
   unfoldable pub sameLeft : Bool
@@ -225,131 +244,112 @@ each-get says line zero i j x l = absurd (omega arith)
 each-get says line (suc n) i zero x l = let e : i + 0 ≡ i = omega arith in rw e
 each-get says line (suc n) i (suc j) x l = let e : suc i + j ≡ i + suc j = omega arith in each-get says line n (suc i) j x (omega arith) ∙ rw e
 
-module _ (f s : List ℕ) (i n m : ℕ) where
-  pub row-there : (k : ℕ) → (k ≡ 0 → ⊥) → k ≤ n → rowAt (rowsFrom f s i n m) k ≡ rowOf m (lineFrom f s (i + k - 1))
-  row-there zero p l = absurd (p refl)
-  row-there (suc k) p l = let e : i + k ≡ i + suc k - 1 = omega arith in each-get (rowOf m) (lineFrom f s) n i k noRow (omega arith) ∙ rw e
+module _ (f s : List ℕ) (p : Process) where
+  abbrev rows : List Row
+  rows = processIn f s p .rows
 
-  pub row-past : (k : ℕ) → n < k → rowAt (rowsFrom f s i n m) k ≡ noRow
+  pub row-there : (k : ℕ) → (k ≡ 0 → ⊥) → k ≤ p .rows .count → rowAt rows k ≡ rowOf (p .parameters .count) (lineFrom f s (p .rows .first + k - 1))
+  row-there zero h l = absurd (h refl)
+  row-there (suc k) h l =
+      let e : p .rows .first + k ≡ p .rows .first + suc k - 1 = omega arith in
+      each-get (rowOf (p .parameters .count)) (lineFrom f s) (p .rows .count) (p .rows .first) k noRow (omega arith) ∙ rw e
+
+  pub row-past : (k : ℕ) → p .rows .count < k → rowAt rows k ≡ noRow
   row-past zero l = absurd (omega arith)
-  row-past (suc k) l = List·getD-eq-default (rowsFrom f s i n m) noRow (rw (each-length (rowOf m) (lineFrom f s) n i) (omega arith))
+  row-past (suc k) l =
+      List·getD-eq-default rows noRow (rw (each-length (rowOf (p .parameters .count)) (lineFrom f s) (p .rows .count) (p .rows .first)) (omega arith))
 
 no-step : (v : List ℕ) (e : ℕ) → noStep ≡ stepOf noRow v e
 unfolding stepOf padded evalV
 no-step v e = refl
 
-module _ (f s v : List ℕ) (i n m k e : ℕ) where
-  pub step-none : (r : Step) → k ≡ 0 → r ≡ noStep → r ≡ rowStep f s i n m k v e
-  unfolding rowStep
-  step-none r z er = er ∙ rw z (no-step v e)
+pub line-is : (s : List ℕ) (p : Process) (i k r : ℕ) → i ≡ p .rows .first + k - 1 → r ≡ getD s i 0 → r ≡ lineOf s p k
+unfolding lineOf
+line-is s p i k r ei er = er ∙ rw ei
 
-  pub step-past : (r : Step) → n < k → r ≡ noStep → r ≡ rowStep f s i n m k v e
+module _ (f s v : List ℕ) (p : Process) (k e : ℕ) (r : Step) where
+  pub step-none : k ≡ 0 → r ≡ noStep → r ≡ rowStep f s p k v e
   unfolding rowStep
-  step-past r l er = er ∙ rw (row-past f s i n m k l) (no-step v e)
+  step-none z er = er ∙ rw z (no-step v e)
 
-  pub step-there : (r : Step) (line : ℕ) → (k ≡ 0 → ⊥) → k ≤ n → line ≡ getD s (i + k - 1) 0 → r ≡ stepOf (rowOf m (drop line f)) v e → r ≡ rowStep f s i n m k v e
+  pub step-past : p .rows .count < k → r ≡ noStep → r ≡ rowStep f s p k v e
   unfolding rowStep
-  step-there r line p l el er = er ∙ rw (row-there f s i n m k p l, el)
+  step-past l er = er ∙ rw (row-past f s p k l) (no-step v e)
 
-module _ (f s : List ℕ) (i n k : ℕ) where
-  pub span-none : k ≡ 0 → 0 ≡ rowSpan f s i n k
+  pub step-there : (line : ℕ) → (k ≡ 0 → ⊥) → k ≤ p .rows .count → line ≡ lineOf s p k → r ≡ stepOf (rowOf (p .parameters .count) (drop line f)) v e → r ≡ rowStep f s p k v e
+  unfolding rowStep lineOf
+  step-there line h l el er = er ∙ rw (row-there f s p k h l, el)
+
+module _ (f s : List ℕ) (p : Process) (k : ℕ) where
+  pub span-none : k ≡ 0 → 0 ≡ rowSpan f s p k
   unfolding rowSpan
   span-none z = rw z
 
-  pub span-past : n < k → 0 ≡ rowSpan f s i n k
+  pub span-past : p .rows .count < k → 0 ≡ rowSpan f s p k
   unfolding rowSpan
-  span-past l = ap (λ (r : Row). r .span) (sym (row-past f s i n 0 k l))
+  span-past l = ap (λ (r : Row). r .span) (sym (row-past f s p k l))
 
-  pub span-there : (r line : ℕ) → (k ≡ 0 → ⊥) → k ≤ n → line ≡ getD s (i + k - 1) 0 → r ≡ getD (drop line f) 2 0 → r ≡ rowSpan f s i n k
-  unfolding rowSpan
-  span-there r line p l el er = er ∙ ap (λ (x : ℕ). getD (drop x f) 2 0) el ∙ ap (λ (q : Row). q .span) (sym (row-there f s i n 0 k p l))
+  pub span-there : (r line : ℕ) → (k ≡ 0 → ⊥) → k ≤ p .rows .count → line ≡ lineOf s p k → r ≡ getD (drop line f) 2 0 → r ≡ rowSpan f s p k
+  unfolding rowSpan lineOf
+  span-there r line h l el er = er ∙ ap (λ (x : ℕ). getD (drop x f) 2 0) el ∙ ap (λ (q : Row). q .span) (sym (row-there f s p k h l))
 
 -- the search for the row of an action
-module _ (f s : List ℕ) (b n a i : ℕ) where
-  unfoldable pub withLeft : ℕ
-  withLeft = rowFrom (eachLine (rowOf 0) (lineFrom f s) (n - i) (b + i)) a (i + 1)
+module _ (f s : List ℕ) (p : Process) (a : ℕ) where
+  abbrev says : List ℕ → Row
+  says = rowOf (p .parameters .count)
 
-  withs : (x : ℕ) (line : ℕ) → i < n → line ≡ getD s (b + i) 0 → x ≡ getD (drop line f) 1 0
-      → withLeft ≡ pick (eqb x a) (i + 1) (rowFrom (eachLine (rowOf 0) (lineFrom f s) (n - (i + 1)) (b + (i + 1))) a (i + 1 + 1))
+  abbrev top : ℕ
+  top = p .rows .first
+
+  abbrev many : ℕ
+  many = p .rows .count
+
+  unfoldable pub withLeft : ℕ → ℕ
+  withLeft i = rowFrom (eachLine says (lineFrom f s) (many - i) (top + i)) a (i + 1)
+
+  withs : (i x : ℕ) (line : ℕ) → i < many → line ≡ getD s (top + i) 0 → x ≡ getD (drop line f) 1 0
+      → withLeft i ≡ pick (eqb x a) (i + 1) (rowFrom (eachLine says (lineFrom f s) (many - (i + 1)) (top + (i + 1))) a (i + 1 + 1))
   unfolding withLeft rowFrom
-  withs x line l el ex = rw (each-on (rowOf 0) (lineFrom f s) b n i l, ex, el, add-one (i + 1))
+  withs i x line l el ex = rw (each-on says (lineFrom f s) top many i l, ex, el, add-one (i + 1))
 
-  pub with-found : (x line : ℕ) → i < n → line ≡ getD s (b + i) 0 → x ≡ getD (drop line f) 1 0 → x ≡ a → withLeft ≡ rowWith f s b n a → i + 1 ≡ rowWith f s b n a
-  with-found x line l el ex h inv = sym (withs x line l el ex ∙ rw (eq-eqb x a h)) ∙ inv
+  pub with-start : withLeft 0 ≡ rowWith f s p a
+  unfolding withLeft rowWith
+  with-start = let e : many - 0 ≡ many = omega arith in let k : top + 0 ≡ top = omega arith in rw (e, k)
 
-pub with-start : (f s : List ℕ) (b n a : ℕ) → withLeft f s b n a 0 ≡ rowWith f s b n a
-unfolding withLeft rowWith
-with-start f s b n a = let e : n - 0 ≡ n = omega arith in let k : b + 0 ≡ b = omega arith in rw (e, k)
+  pub with-found : (i x line : ℕ) → i < many → line ≡ getD s (top + i) 0 → x ≡ getD (drop line f) 1 0 → x ≡ a → withLeft i ≡ rowWith f s p a → i + 1 ≡ rowWith f s p a
+  with-found i x line l el ex h inv = sym (withs i x line l el ex ∙ rw (eq-eqb x a h)) ∙ inv
 
-pub with-turn : (f s : List ℕ) (b n a i x line : ℕ) → i < n → line ≡ getD s (b + i) 0 → x ≡ getD (drop line f) 1 0 → (x ≡ a → ⊥)
-    → withLeft f s b n a i ≡ rowWith f s b n a → withLeft f s b n a (i + 1) ≡ rowWith f s b n a
-unfolding withLeft
-with-turn f s b n a i x line l el ex h inv = sym (withs f s b n a i x line l el ex ∙ rw (ne-eqb x a h)) ∙ inv
+  pub with-turn : (i x line : ℕ) → i < many → line ≡ getD s (top + i) 0 → x ≡ getD (drop line f) 1 0 → (x ≡ a → ⊥) → withLeft i ≡ rowWith f s p a → withLeft (i + 1) ≡ rowWith f s p a
+  unfolding withLeft
+  with-turn i x line l el ex h inv = sym (withs i x line l el ex ∙ rw (ne-eqb x a h)) ∙ inv
 
-pub with-end : (f s : List ℕ) (b n a i : ℕ) → n ≤ i → withLeft f s b n a i ≡ rowWith f s b n a → 0 ≡ rowWith f s b n a
-unfolding withLeft rowFrom
-with-end f s b n a i l inv = go ∙ inv
-  where
-    go : 0 ≡ withLeft f s b n a i
-    go = rw (each-none (rowOf 0) (lineFrom f s) (b + i) n i l)
+  pub with-end : (i : ℕ) → many ≤ i → withLeft i ≡ rowWith f s p a → 0 ≡ rowWith f s p a
+  unfolding withLeft rowFrom
+  with-end i l inv = go ∙ inv
+    where
+      go : 0 ≡ withLeft i
+      go = rw (each-none says (lineFrom f s) (top + i) many i l)
 
 -- ---- invariant, mapping, measure
 
-module _ (f s v : List ℕ) (c : Counts) (i line : ℕ) (there : i ≡ invariantAt c) where
-  pub invariant-is : (b : Bool) → line ≡ getD s i 0 → b ≡ evalF (readF 32 (drop (line + 1) f) .tree) v 0 → b ≡ invariantIn f s c v
+module _ (f s v : List ℕ) (h : Shape) (line : ℕ) where
+  pub invariant-is : (b : Bool) → line ≡ getD s (h .invariant) 0 → b ≡ evalF (readF 32 (drop (line + 1) f) .tree) v 0 → b ≡ invariantIn f s h v
   unfolding invariantIn
-  invariant-is b el eb = rw (← there, ← el, place f line 1 refl, eb)
+  invariant-is b el eb = rw (← el, place f line 1 refl, eb)
 
-  pub mapped-is : (w : List ℕ) → line ≡ getD s (i + 1) 0 → w ≡ padded (valuesAt f (line + 1) (c .kind2) v 0) → w ≡ mappedIn f s c v
+  pub mapped-is : (w : List ℕ) → line ≡ getD s (h .mapping) 0 → w ≡ padded (valuesAt f (line + 1) (h .specification .parameters .count) v 0) → w ≡ mappedIn f s h v
   unfolding mappedIn valuesAt
-  mapped-is w el ew = rw (← there, ← el, place f line 1 refl, ew)
+  mapped-is w el ew = rw (← el, place f line 1 refl, ew)
 
-  pub measure-is : (x : Valued) → line ≡ getD s (i + 2) 0 → x ≡ answerV (line + 1) v 0 (readV 32 (drop (line + 1) f)) → x .value ≡ measureIn f s c v
+  pub measure-is : (x : Valued) → line ≡ getD s (h .measure) 0 → x ≡ answerV (line + 1) v 0 (readV 32 (drop (line + 1) f)) → x .value ≡ measureIn f s h v
   unfolding measureIn
-  measure-is x el ex = rw (← there, ← el, place f line 1 refl, ex)
+  measure-is x el ex = rw (← el, place f line 1 refl, ex)
 
-module _ (f s v : List ℕ) (c : Counts) (b : Bool) (said : b ≡ belowIn f s 0 (c .kind1) v) where
-  pub inside-so : (r : Bool) → b ≡ true → r ≡ invariantIn f s c v → r ≡ insideIn f s c v
+module _ (f s v : List ℕ) (h : Shape) (b : Bool) (said : b ≡ belowIn f s (h .implementation) v) where
+  pub inside-so : (r : Bool) → b ≡ true → r ≡ invariantIn f s h v → r ≡ insideIn f s h v
   unfolding insideIn
-  inside-so r h er = rw (← said, h) er
+  inside-so r y er = rw (← said, y) er
 
-  pub inside-not : b ≡ false → false ≡ insideIn f s c v
+  pub inside-not : b ≡ false → false ≡ insideIn f s h v
   unfolding insideIn
-  inside-not h = rw (← said, h)
-
--- ---- the two processes
-
-module _ (f s v : List ℕ) (c : Counts) (i k e : ℕ) where
-  pub impl-step-is : (r : Step) → i ≡ implRowsAt c → r ≡ rowStep f s i (c .kind3) (c .kind1) k v e → r ≡ implStep f s c k v e
-  unfolding implStep
-  impl-step-is r ei er = er ∙ rw ei
-
-  pub spec-step-is : (r : Step) → i ≡ specRowsAt c → r ≡ rowStep f s i (c .kind4) (c .kind2) k v e → r ≡ specStep f s c k v e
-  unfolding specStep
-  spec-step-is r ei er = er ∙ rw ei
-
-module _ (f s : List ℕ) (c : Counts) (i k r : ℕ) where
-  pub impl-span-is : i ≡ implRowsAt c → r ≡ rowSpan f s i (c .kind3) k → r ≡ implSpan f s c k
-  unfolding implSpan
-  impl-span-is ei er = er ∙ rw ei
-
-  pub spec-span-is : i ≡ specRowsAt c → r ≡ rowSpan f s i (c .kind4) k → r ≡ specSpan f s c k
-  unfolding specSpan
-  spec-span-is ei er = er ∙ rw ei
-
-  pub impl-row-is : i ≡ implRowsAt c → r ≡ rowWith f s i (c .kind3) k → r ≡ implRow f s c k
-  unfolding implRow
-  impl-row-is ei er = er ∙ rw ei
-
-  pub spec-row-is : i ≡ specRowsAt c → r ≡ rowWith f s i (c .kind4) k → r ≡ specRow f s c k
-  unfolding specRow
-  spec-row-is ei er = er ∙ rw ei
-
-module _ (s : List ℕ) (c : Counts) (i j k r : ℕ) where
-  pub impl-line-is : i ≡ implRowsAt c → j ≡ i + k - 1 → r ≡ getD s j 0 → r ≡ implLine s c k
-  unfolding implLine
-  impl-line-is ei ej er = er ∙ rw (ej, ei)
-
-  pub spec-line-is : i ≡ specRowsAt c → j ≡ i + k - 1 → r ≡ getD s j 0 → r ≡ specLine s c k
-  unfolding specLine
-  spec-line-is ei ej er = er ∙ rw (ej, ei)
+  inside-not y = rw (← said, y)

@@ -1,50 +1,28 @@
 -- What the arrays of specs/Arrays hold: the states, steps, invariant, mapping and measure of the design. An array of eight values
--- holds a state x if it is `padded x`: a term has the same value at both, since past its end a state's values count as 0.
+-- holds a state x if it is `padded x`: past its end a state's values count as 0, so every term has one value at both.
 use mathlib.Core.Path.{_≡_, refl, sym, _∙_, ap}
+use mathlib.Core.Logic.{_⊎_, inl, inr}
+use mathlib.Core.Bool.{Bool}
 use mathlib.Core.List.{List, [], _∷_, _++_}
 use Prim.Native.Nat.{ℕ, zero, suc, _+_, _-_, _%_, _≤_, _<_, min}
-use native.Mathlib.Decide.{decLt}
+use native.Mathlib.Decide.{decLt, decLe}
 use native.Mathlib.Omega.{arith}
 use lib.ListN.{length, getD, drop, replicate, length-map, getD-replicate, List·getD-append, List·getD-eq-default}
 use lib.Seq.{sets-eq, getD-append-add, getD-drop}
-use Rattle.foundation.specs.Nth.{EachIs}
 use Rattle.foundation.specs.Radix.{product, belowB, sameB, valuesOf}
-use Rattle.foundation.proofs.Nth.{nth-nil, nth-cons}
 use Rattle.foundation.proofs.Radix.{from-the-last}
-use Rattle.terms.specs.Tree.{Value, Formula, num, par, sumValue, choice, noValue, const, compare, negation, join, noFormula, evalV, evalF}
-use Rattle.terms.specs.Tree as tree
-use Rattle.criteria.specs.Design.{Row, values, sizes, initialState, mapped, measureAt}
+use Rattle.criteria.specs.Design.{Row, sizes, initialState, mapped}
 use Rattle.criteria.specs.Rows.{noRow, rowAt}
-use Rattle.decision.specs.Tests.{invariantB, invariantStateB, rowFrom, rowOf}
-use Rattle.decision.specs.Examine.{stateAt}
+use Rattle.decision.specs.Tests.{invariantB, invariantStateB}
+use Rattle.decision.proofs.Alike.{formula-alike}
 use Rattle.design.specs.Line as line
 use Rattle.design.specs.Line.{valuesIn}
-use Rattle.design.specs.Loaded.{lineFrom, eachLine, designIn}
-use Rattle.design.specs.declared.Counts.{Counts}
-use Rattle.layout.specs.Sizes.{Fit}
-use Rattle.steps.specs.Arrays.{padded, front, stepOf, rowsFrom, rowStep, rowSpan, rowWith, stateIn, initialIn, belowIn, sameIn, invariantIn, insideIn, mappedIn, measureIn, implStep, specStep, implSpan, specSpan, implRow, specRow}
-use Rattle.steps.proofs.Arrays.{each-length}
-
--- ---- a term at two lists of values that agree wherever they are asked
-
-module _ (v w : List ℕ) (agree : (i : ℕ) → getD v i 0 ≡ getD w i 0) where
-  mutual
-    unfolding evalV
-
-    alike-v : (t : Value) (e : ℕ) → evalV t v e ≡ evalV t w e
-    alike-v (num n) e = refl
-    alike-v (par i) e = agree i
-    alike-v sumValue e = refl
-    alike-v (tree.arith o a b) e = rw (alike-v a e, alike-v b e)
-    alike-v (choice f a b) e = rw (alike-f f e, alike-v a e, alike-v b e)
-    alike-v noValue e = refl
-
-    alike-f : (t : Formula) (e : ℕ) → evalF t v e ≡ evalF t w e
-    alike-f (const b) e = refl
-    alike-f (compare o a b) e = rw (alike-v a e, alike-v b e)
-    alike-f (negation f) e = rw (alike-f f e)
-    alike-f (join o f g) e = rw (alike-f f e, alike-f g e)
-    alike-f noFormula e = refl
+use Rattle.design.specs.Loaded.{lineFrom, processIn, designAt}
+use Rattle.design.specs.declared.Process.{Process}
+use Rattle.design.specs.declared.Shape.{Shape}
+use Rattle.layout.specs.Sizes.{FitsIn, Fits}
+use Rattle.steps.specs.Arrays.{padded, front, stateIn, belowIn, sameIn, invariantIn, insideIn}
+use Rattle.steps.proofs.Arrays.{each-length, row-there, row-past}
 
 -- ---- an array that holds a state
 
@@ -75,20 +53,6 @@ module _ (x : List ℕ) (short : length x ≤ 8) where
       go (yes l) = List·getD-append x rest 0 i l
       go (no l) = let e : length x + (i - length x) ≡ i = omega arith in past (i - length x) e
 
-  pub value-held : (t : Value) (e : ℕ) → evalV t (padded x) e ≡ evalV t x e
-  value-held t e = alike-v (padded x) x same-values t e
-
-  pub formula-held : (t : Formula) (e : ℕ) → evalF t (padded x) e ≡ evalF t x e
-  formula-held t e = alike-f (padded x) x same-values t e
-
-  pub values-held : (vs : List Value) (e : ℕ) → values vs (padded x) e ≡ values vs x e
-  values-held [] e = refl
-  values-held (t ∷ vs) e = rw (value-held t e, values-held vs e)
-
-  pub step-held : (r : Row) (e : ℕ) → stepOf r (padded x) e ≡ stepOf r x e
-  unfolding stepOf
-  step-held r e = rw (formula-held (r .condition) e, value-held (r .carries) e, values-held (r .next) e)
-
 -- its first values are the state's
 front-later : (n i a : ℕ) (x : List ℕ) → front n (suc i) (a ∷ x) ≡ front n i x
 unfolding front
@@ -112,120 +76,63 @@ pub same-held : (x y : List ℕ) (n : ℕ) → length x ≡ n → length y ≡ n
 unfolding sameIn
 same-held x y n ex ey l = rw (front-held x n ex l, front-held y n ey l)
 
--- ---- lengths
+-- ---- a process
 
-pub in-length : (n : ℕ) (l : List ℕ) → length (valuesIn n l) ≡ n
+in-length : (n : ℕ) (l : List ℕ) → length (valuesIn n l) ≡ n
 unfolding valuesIn
 in-length zero l = refl
 in-length (suc n) l = ap suc (in-length n _)
-
-pub rows-length : (f s : List ℕ) (i n m : ℕ) → EachIs (rowsFrom f s i n m) (λ r. length (r .next) ≡ m)
-unfolding eachLine
-rows-length f s i zero m k r is = absurd (nth-nil is)
-rows-length f s i (suc n) m k r is = nth-cons (λ r. length (r .next) ≡ m) (in-length m _) (rows-length f s (suc i) n m) k r is
 
 values-length : (zs : List ℕ) (n : ℕ) → length (valuesOf zs n) ≡ length zs
 unfolding valuesOf
 values-length [] n = refl
 values-length (z ∷ zs) n = ap suc (values-length zs (n % product zs))
 
--- ---- span and action do not depend on how many parameters a row has
+module _ (f s : List ℕ) (p : Process) where
+  pub rows-count : length (processIn f s p .rows) ≡ p .rows .count
+  rows-count = each-length (line.rowOf (p .parameters .count)) (lineFrom f s) (p .rows .count) (p .rows .first)
 
-module _ {A : Type 0} (g : Row → A) (f s : List ℕ) (n m : ℕ) (alike : (l : List ℕ) → g (line.rowOf n l) ≡ g (line.rowOf m l)) where
-  rows-alike : (i j k : ℕ) → g (getD (rowsFrom f s i j n) k noRow) ≡ g (getD (rowsFrom f s i j m) k noRow)
-  unfolding eachLine
-  rows-alike i zero k = refl
-  rows-alike i (suc j) zero = alike (lineFrom f s i)
-  rows-alike i (suc j) (suc k) = rows-alike (suc i) j k
+  sizes-length : length (sizes (processIn f s p)) ≡ p .parameters .count
+  sizes-length = length-map (processIn f s p .parameters) _ ∙ each-length line.parameterOf (lineFrom f s) (p .parameters .count) (p .parameters .first)
 
-  row-alike : (i j k : ℕ) → g (rowAt (rowsFrom f s i j n) k) ≡ g (rowAt (rowsFrom f s i j m) k)
-  row-alike i j zero = refl
-  row-alike i j (suc k) = rows-alike i j k
+  pub initial-length : length (initialState (processIn f s p)) ≡ p .parameters .count
+  initial-length = length-map (processIn f s p .parameters) _ ∙ each-length line.parameterOf (lineFrom f s) (p .parameters .count) (p .parameters .first)
 
-with-alike : (f s : List ℕ) (a n m j i k : ℕ) → rowFrom (rowsFrom f s i j n) a k ≡ rowFrom (rowsFrom f s i j m) a k
-unfolding eachLine rowFrom
-with-alike f s a n m zero i k = refl
-with-alike f s a n m (suc j) i k = rw (with-alike f s a n m j (suc i) (suc k))
+  pub state-length : (k : ℕ) → length (valuesOf (sizes (processIn f s p)) k) ≡ p .parameters .count
+  state-length k = values-length (sizes (processIn f s p)) k ∙ sizes-length
 
--- ---- the design in the arrays
+  -- row number k is one with a next value for each parameter, or there is none
+  pub next-length : (k : ℕ) → (length (rowAt (processIn f s p .rows) k .next) ≡ p .parameters .count) ⊎ (rowAt (processIn f s p .rows) k ≡ noRow)
+  next-length zero = inr refl
+  next-length (suc k) = go (decLe (suc k) (p .rows .count))
+    where
+      go : Dec (suc k ≤ p .rows .count) → (length (rowAt (processIn f s p .rows) (suc k) .next) ≡ p .parameters .count) ⊎ (rowAt (processIn f s p .rows) (suc k) ≡ noRow)
+      go (yes l) = inl (ap (λ (r : Row). length (r .next)) (row-there f s p (suc k) (omega arith) l) ∙ in-length (p .parameters .count) _)
+      go (no l) = inr (row-past f s p (suc k) (omega arith))
 
-module _ (f s : List ℕ) (c : Counts) where
-  pub impl-span-row : (k : ℕ) → implSpan f s c k ≡ rowAt (designIn f s c .impl .rows) k .span
-  unfolding implSpan rowSpan
-  impl-span-row k = row-alike (λ r. r .span) f s 0 (c .kind1) (λ l. refl) _ (c .kind3) k
+  -- the array of a number holds the state that has it
+  pub state-held : FitsIn p → (k : ℕ) → k < product (sizes (processIn f s p)) → stateIn f s p k ≡ padded (valuesOf (sizes (processIn f s p)) k)
+  unfolding stateIn
+  state-held fits k l =
+      let q = fits .parameters in
+      let e : min (p .parameters .count) 8 ≡ p .parameters .count = omega arith in
+      rw e (ap padded (from-the-last (sizes (processIn f s p)) k l))
 
-  pub spec-span-row : (k : ℕ) → specSpan f s c k ≡ rowAt (designIn f s c .spec .rows) k .span
-  unfolding specSpan rowSpan
-  spec-span-row k = row-alike (λ r. r .span) f s 0 (c .kind2) (λ l. refl) _ (c .kind4) k
+  pub below-held : FitsIn p → (x : List ℕ) → length x ≡ p .parameters .count → belowIn f s p (padded x) ≡ belowB (sizes (processIn f s p)) x
+  unfolding belowIn
+  below-held fits x e = rw (front-held x (p .parameters .count) e (fits .parameters))
 
-  pub impl-row-of : (a : ℕ) → implRow f s c a ≡ rowOf (designIn f s c .impl) a
-  unfolding implRow rowWith
-  impl-row-of a = with-alike f s a 0 (c .kind1) (c .kind3) _ 1
+-- ---- the design
 
-  pub spec-row-of : (a : ℕ) → specRow f s c a ≡ rowOf (designIn f s c .spec) a
-  unfolding specRow rowWith
-  spec-row-of a = with-alike f s a 0 (c .kind2) (c .kind4) _ 1
+module _ (f s : List ℕ) (h : Shape) where
+  pub mapped-length : (x : List ℕ) → length (mapped (designAt f s h) x) ≡ h .specification .parameters .count
+  mapped-length x = length-map (designAt f s h .mapping) _ ∙ in-length (h .specification .parameters .count) _
 
-  pub mapped-length : (x : List ℕ) → length (mapped (designIn f s c) x) ≡ c .kind2
-  mapped-length x = length-map (designIn f s c .mapping) _ ∙ in-length (c .kind2) _
+  pub invariant-held : (x : List ℕ) → length x ≤ 8 → invariantIn f s h (padded x) ≡ invariantB (designAt f s h) x
+  unfolding invariantIn
+  invariant-held x short = formula-alike (padded x) x (same-values x short) (designAt f s h .invariant) 0
 
-  pub state-length : (n : ℕ) → length (stateAt (designIn f s c) n) ≡ c .kind1
-  state-length n =
-      values-length (sizes (designIn f s c .impl)) n
-      ∙ length-map (designIn f s c .impl .parameters) _
-      ∙ each-length line.parameterOf (lineFrom f s) (c .kind1) 0
-
-  -- an array that holds a state
-  module _ (x : List ℕ) (short : length x ≤ 8) where
-    pub impl-step-held : (k e : ℕ) → implStep f s c k (padded x) e ≡ stepOf (rowAt (designIn f s c .impl .rows) k) x e
-    unfolding implStep rowStep
-    impl-step-held k e = step-held x short (rowAt (designIn f s c .impl .rows) k) e
-
-    pub spec-step-held : (k e : ℕ) → specStep f s c k (padded x) e ≡ stepOf (rowAt (designIn f s c .spec .rows) k) x e
-    unfolding specStep rowStep
-    spec-step-held k e = step-held x short (rowAt (designIn f s c .spec .rows) k) e
-
-    pub invariant-held : invariantIn f s c (padded x) ≡ invariantB (designIn f s c) x
-    unfolding invariantIn
-    invariant-held = formula-held x short (designIn f s c .invariant) 0
-
-    pub mapped-held : mappedIn f s c (padded x) ≡ padded (mapped (designIn f s c) x)
-    unfolding mappedIn
-    mapped-held = ap padded (values-held x short (designIn f s c .mapping) 0)
-
-    pub measure-held : measureIn f s c (padded x) ≡ measureAt (designIn f s c) x
-    unfolding measureIn
-    measure-held = value-held x short (designIn f s c .measure) 0
-
-  module _ (fits : Fit c) where
-    pub inside-held : (x : List ℕ) → length x ≡ c .kind1 → insideIn f s c (padded x) ≡ invariantStateB (designIn f s c) x
-    unfolding insideIn belowIn
-    inside-held x e =
-        let q = fits .kind1 in
-        rw (front-held x (c .kind1) e q, invariant-held x (rw e q))
-
-    pub mapped-below : (x : List ℕ) → belowIn f s (c .kind1) (c .kind2) (padded (mapped (designIn f s c) x)) ≡ belowB (sizes (designIn f s c .spec)) (mapped (designIn f s c) x)
-    unfolding belowIn
-    mapped-below x = rw (front-held (mapped (designIn f s c) x) (c .kind2) (mapped-length x) (fits .kind2))
-
-    -- the array of a number holds the state that has it
-    pub state-held : (k : ℕ) → k < product (sizes (designIn f s c .impl)) → stateIn f s (c .kind1) k ≡ padded (stateAt (designIn f s c) k)
-    unfolding stateIn
-    state-held k l =
-        let q = fits .kind1 in
-        let e : min (c .kind1) 8 ≡ c .kind1 = omega arith in
-        rw e (ap padded (from-the-last (sizes (designIn f s c .impl)) k l))
-
-    pub initial-held : initialIn f s 0 (c .kind1) ≡ padded (initialState (designIn f s c .impl))
-    unfolding initialIn
-    initial-held = refl
-
-    pub initial-held-spec : initialIn f s (c .kind1) (c .kind2) ≡ padded (initialState (designIn f s c .spec))
-    unfolding initialIn
-    initial-held-spec = refl
-
-  pub initial-length : length (initialState (designIn f s c .impl)) ≡ c .kind1
-  initial-length = length-map (designIn f s c .impl .parameters) _ ∙ each-length line.parameterOf (lineFrom f s) (c .kind1) 0
-
-  pub initial-length-spec : length (initialState (designIn f s c .spec)) ≡ c .kind2
-  initial-length-spec = length-map (designIn f s c .spec .parameters) _ ∙ each-length line.parameterOf (lineFrom f s) (c .kind2) (c .kind1)
+  pub inside-held : Fits h → (x : List ℕ) → length x ≡ h .implementation .parameters .count → insideIn f s h (padded x) ≡ invariantStateB (designAt f s h) x
+  unfolding insideIn
+  inside-held fits x e =
+      rw (below-held f s (h .implementation) (fits .implementation) x e, invariant-held x (rw e (fits .implementation .parameters)))

@@ -3,15 +3,13 @@
 //
 // A state, of either process, is an array of eight values of which those past the last parameter are 0. What each function computes
 // is in specs/Arrays; that this is what the design in the arrays says is in proofs/States.
-use layout::Shape;
+use design::Process;
+use design::Shape;
 ghost use mathlib.Core.Path.{_≡_};
 ghost use Prim.Native.Nat.{_-_, _%_, _/_, min};
 ghost use lib.ListN.{drop};
 ghost use Rattle.design.specs.Line.{rowOf};
-ghost use Rattle.design.specs.Loaded.{implRowsAt, specRowsAt, invariantAt};
-ghost use Rattle.layout.specs.Sizes.{countsOf};
-ghost use Rattle.steps.specs.Arrays.{padded, valuesAt, stepOf, noStep, rowStep, rowSpan, rowWith, stateIn, initialIn, belowIn, sameIn, invariantIn, insideIn, mappedIn, measureIn};
-ghost use Rattle.steps.specs.Arrays.{implLine, specLine, implStep, specStep, implSpan, specSpan, implRow, specRow};
+ghost use Rattle.steps.specs.Arrays.{padded, valuesAt, stepOf, noStep, lineOf, rowStep, rowSpan, rowWith, stateIn, initialIn, belowIn, sameIn, invariantIn, insideIn, mappedIn, measureIn};
 
 // What a row does at a state for a sum value: its action, whether it is enabled, the data number, and the state that it leads to.
 pub struct Step {
@@ -70,59 +68,57 @@ fn quotient(x: u16, y: u16) -> u16
     if y == 0 { 0 } else { x / y }
 }
 
-// The state that has a number: each value is the remainder by its size of what is left, from the last of n parameters on.
+// The state that has a number: each value is the remainder by its size of what is left, from the last parameter on.
 pub fn state<'a>(
     fields: &'a limits::Fields,
     starts: &'a limits::Starts,
-    n: u8,
+    process: Process,
     number: u16,
 ) -> limits::Values
-    ensures { λ r. ⌜ r ≡ stateIn (now (fields .entry)) (now (starts .entry)) n number ⌝ }
+    ensures { λ r. ⌜ r ≡ stateIn (now (fields .entry)) (now (starts .entry)) process number ⌝ }
 {
     let mut out = [0u16; limits::MAX_PARAMETERS];
     let mut left = number;
-    let mut i = few(n);
+    let mut i = few(process.parameters.count);
     while 0 < i {
         i -= 1;
-        let z = layout::size(fields, starts, i);
+        let z = layout::size(fields, starts, process.parameters.first as usize + i);
         out[i] = remainder(left, z);
         left = quotient(left, z);
     }
     out
 }
 
-// The initial values of n parameters that stand from line `first` on.
+// The initial state.
 pub fn initial_state<'a>(
     fields: &'a limits::Fields,
     starts: &'a limits::Starts,
-    first: u16,
-    n: u8,
+    process: Process,
 ) -> limits::Values
-    ensures { λ r. ⌜ r ≡ initialIn (now (fields .entry)) (now (starts .entry)) first n ⌝ }
+    ensures { λ r. ⌜ r ≡ initialIn (now (fields .entry)) (now (starts .entry)) process ⌝ }
 {
-    let m = few(n);
+    let m = few(process.parameters.count);
     let mut out = [0u16; limits::MAX_PARAMETERS];
     let mut i = 0;
     while i < m {
-        out[i] = layout::initial(fields, starts, first as usize + i);
+        out[i] = layout::initial(fields, starts, process.parameters.first as usize + i);
         i += 1;
     }
     out
 }
 
-// Whether each of the first n values is below its size, the sizes standing from line `first` on.
+// Whether the values are below the sizes.
 pub fn below<'a>(
     fields: &'a limits::Fields,
     starts: &'a limits::Starts,
-    first: u16,
-    n: u8,
+    process: Process,
     v: &limits::Values,
 ) -> bool
-    ensures { λ r. ⌜ r ≡ belowIn (now (fields .entry)) (now (starts .entry)) first n (now (v .entry)) ⌝ }
+    ensures { λ r. ⌜ r ≡ belowIn (now (fields .entry)) (now (starts .entry)) process (now (v .entry)) ⌝ }
 {
     let mut i = 0;
-    while i < n as usize {
-        let z = layout::size(fields, starts, first as usize + i);
+    while i < process.parameters.count as usize {
+        let z = layout::size(fields, starts, process.parameters.first as usize + i);
         if z <= terms::field(v, i) {
             return false;
         }
@@ -145,7 +141,7 @@ pub fn same(n: u8, v: &limits::Values, w: &limits::Values) -> bool
     true
 }
 
-// ---- the kinds of lines at a state
+// ---- rows
 
 // What the row in the line that starts at a place does, in a process of n parameters.
 fn step_by(fields: &limits::Fields, line: u16, n: u8, v: &limits::Values, sum: u16) -> Step
@@ -174,63 +170,72 @@ fn no_step() -> Step
     }
 }
 
-// What row k does, of n rows that stand from line `first` on, in a process of m parameters.
-fn row_step<'a>(
+// Where the line of row k of a process starts, rows being counted from 1.
+pub fn line_of(starts: &limits::Starts, process: Process, k: u16) -> u16
+    ensures { λ r. ⌜ r ≡ lineOf (now (starts .entry)) process k ⌝ }
+{
+    layout::line(starts, before(process.rows.first as usize + k as usize))
+}
+
+// One less, and 0 for 0.
+fn before(i: usize) -> usize
+    ensures { λ r. ⌜ r ≡ i - 1 ⌝ }
+{
+    if i == 0 { 0 } else { i - 1 }
+}
+
+// What row k of a process does.
+pub fn row_step<'a>(
     fields: &'a limits::Fields,
     starts: &'a limits::Starts,
-    first: u16,
-    n: u8,
-    m: u8,
+    process: Process,
     k: u16,
     v: &limits::Values,
     sum: u16,
 ) -> Step
-    ensures { λ r. ⌜ r ≡ rowStep (now (fields .entry)) (now (starts .entry)) first n m k (now (v .entry)) sum ⌝ }
+    ensures { λ r. ⌜ r ≡ rowStep (now (fields .entry)) (now (starts .entry)) process k (now (v .entry)) sum ⌝ }
 {
-    let i = k as usize;
-    if i == 0 {
+    if k == 0 {
         return no_step();
     }
-    if (n as usize) < i {
+    if (process.rows.count as u16) < k {
         return no_step();
     }
-    let line = layout::line(starts, first as usize + i - 1);
-    step_by(fields, line, m, v, sum)
+    let line = line_of(starts, process, k);
+    step_by(fields, line, process.parameters.count, v, sum)
 }
 
-// The span of row k, of n rows that stand from line `first` on.
-fn row_span<'a>(
+// Its span, and 0 where there is no row k.
+pub fn row_span<'a>(
     fields: &'a limits::Fields,
     starts: &'a limits::Starts,
-    first: u16,
-    n: u8,
+    process: Process,
     k: u16,
 ) -> u16
-    ensures { λ r. ⌜ r ≡ rowSpan (now (fields .entry)) (now (starts .entry)) first n k ⌝ }
+    ensures { λ r. ⌜ r ≡ rowSpan (now (fields .entry)) (now (starts .entry)) process k ⌝ }
 {
-    let i = k as usize;
-    if i == 0 {
+    if k == 0 {
         return 0;
     }
-    if (n as usize) < i {
+    if (process.rows.count as u16) < k {
         return 0;
     }
-    layout::field_of(fields, layout::line(starts, first as usize + i - 1), 2)
+    layout::field_of(fields, line_of(starts, process, k), 2)
 }
 
-// The number of the first row of an action, of n rows that stand from line `first` on, and 0 if there is none.
-fn row_with<'a>(
+// The number of the first row of an action, and 0 if there is none.
+pub fn row_with<'a>(
     fields: &'a limits::Fields,
     starts: &'a limits::Starts,
-    first: u16,
-    n: u8,
+    process: Process,
     action: u16,
 ) -> u16
-    ensures { λ r. ⌜ r ≡ rowWith (now (fields .entry)) (now (starts .entry)) first n action ⌝ }
+    ensures { λ r. ⌜ r ≡ rowWith (now (fields .entry)) (now (starts .entry)) process action ⌝ }
 {
     let mut i = 0;
-    while i < n as usize {
-        let a = layout::field_of(fields, layout::line(starts, first as usize + i), 1);
+    while i < process.rows.count as usize {
+        let line = layout::line(starts, process.rows.first as usize + i);
+        let a = layout::field_of(fields, line, 1);
         if a == action {
             return i as u16 + 1;
         }
@@ -239,25 +244,7 @@ fn row_with<'a>(
     0
 }
 
-// The lines of the first rows of the implementation and of the specification.
-fn impl_rows_line(shape: Shape) -> u16
-    ensures { λ r. ⌜ r ≡ implRowsAt (countsOf shape) ⌝ }
-{
-    shape.kind1 as u16 + shape.kind2 as u16
-}
-
-fn spec_rows_line(shape: Shape) -> u16
-    ensures { λ r. ⌜ r ≡ specRowsAt (countsOf shape) ⌝ }
-{
-    impl_rows_line(shape) + shape.kind3 as u16
-}
-
-// The line of the invariant; those of the mapping and the measure follow it.
-fn invariant_line(shape: Shape) -> usize
-    ensures { λ r. ⌜ r ≡ invariantAt (countsOf shape) ⌝ }
-{
-    spec_rows_line(shape) as usize + shape.kind4 as usize
-}
+// ---- the design
 
 // Whether the invariant holds.
 pub fn invariant<'a>(
@@ -266,9 +253,9 @@ pub fn invariant<'a>(
     shape: Shape,
     v: &limits::Values,
 ) -> bool
-    ensures { λ r. ⌜ r ≡ invariantIn (now (fields .entry)) (now (starts .entry)) (countsOf shape) (now (v .entry)) ⌝ }
+    ensures { λ r. ⌜ r ≡ invariantIn (now (fields .entry)) (now (starts .entry)) shape (now (v .entry)) ⌝ }
 {
-    let line = layout::line(starts, invariant_line(shape));
+    let line = layout::line(starts, shape.invariant as usize);
     conjuncts::holds(fields, line as usize + 1, v, 0)
 }
 
@@ -279,9 +266,9 @@ pub fn inside<'a>(
     shape: Shape,
     v: &limits::Values,
 ) -> bool
-    ensures { λ r. ⌜ r ≡ insideIn (now (fields .entry)) (now (starts .entry)) (countsOf shape) (now (v .entry)) ⌝ }
+    ensures { λ r. ⌜ r ≡ insideIn (now (fields .entry)) (now (starts .entry)) shape (now (v .entry)) ⌝ }
 {
-    if below(fields, starts, 0, shape.kind1, v) {
+    if below(fields, starts, shape.implementation, v) {
         invariant(fields, starts, shape, v)
     } else {
         false
@@ -295,10 +282,16 @@ pub fn mapped<'a>(
     shape: Shape,
     v: &limits::Values,
 ) -> limits::Values
-    ensures { λ r. ⌜ r ≡ mappedIn (now (fields .entry)) (now (starts .entry)) (countsOf shape) (now (v .entry)) ⌝ }
+    ensures { λ r. ⌜ r ≡ mappedIn (now (fields .entry)) (now (starts .entry)) shape (now (v .entry)) ⌝ }
 {
-    let line = layout::line(starts, invariant_line(shape) + 1);
-    values(fields, line as usize + 1, shape.kind2, v, 0)
+    let line = layout::line(starts, shape.mapping as usize);
+    values(
+        fields,
+        line as usize + 1,
+        shape.specification.parameters.count,
+        v,
+        0,
+    )
 }
 
 // The measure.
@@ -308,123 +301,9 @@ pub fn measure<'a>(
     shape: Shape,
     v: &limits::Values,
 ) -> u16
-    ensures { λ r. ⌜ r ≡ measureIn (now (fields .entry)) (now (starts .entry)) (countsOf shape) (now (v .entry)) ⌝ }
+    ensures { λ r. ⌜ r ≡ measureIn (now (fields .entry)) (now (starts .entry)) shape (now (v .entry)) ⌝ }
 {
-    let line = layout::line(starts, invariant_line(shape) + 2);
+    let line = layout::line(starts, shape.measure as usize);
     let m = eval::value(fields, line as usize + 1, v, 0, limits::MAX_DEPTH);
     m.value
-}
-
-// ---- the two processes
-
-// Where the line of row k of the implementation starts, and of the specification, rows being counted from 1.
-pub fn impl_line(starts: &limits::Starts, shape: Shape, k: u16) -> u16
-    ensures { λ r. ⌜ r ≡ implLine (now (starts .entry)) (countsOf shape) k ⌝ }
-{
-    layout::line(starts, before(impl_rows_line(shape) as usize + k as usize))
-}
-
-pub fn spec_line(starts: &limits::Starts, shape: Shape, k: u16) -> u16
-    ensures { λ r. ⌜ r ≡ specLine (now (starts .entry)) (countsOf shape) k ⌝ }
-{
-    layout::line(starts, before(spec_rows_line(shape) as usize + k as usize))
-}
-
-// One less, and 0 for 0.
-fn before(i: usize) -> usize
-    ensures { λ r. ⌜ r ≡ i - 1 ⌝ }
-{
-    if i == 0 { 0 } else { i - 1 }
-}
-
-// What row k of the implementation does at v.
-pub fn impl_step<'a>(
-    fields: &'a limits::Fields,
-    starts: &'a limits::Starts,
-    shape: Shape,
-    k: u16,
-    v: &limits::Values,
-    sum: u16,
-) -> Step
-    ensures { λ r. ⌜ r ≡ implStep (now (fields .entry)) (now (starts .entry)) (countsOf shape) k (now (v .entry)) sum ⌝ }
-{
-    row_step(
-        fields,
-        starts,
-        impl_rows_line(shape),
-        shape.kind3,
-        shape.kind1,
-        k,
-        v,
-        sum,
-    )
-}
-
-// What row k of the specification does at t.
-pub fn spec_step<'a>(
-    fields: &'a limits::Fields,
-    starts: &'a limits::Starts,
-    shape: Shape,
-    k: u16,
-    t: &limits::Values,
-    sum: u16,
-) -> Step
-    ensures { λ r. ⌜ r ≡ specStep (now (fields .entry)) (now (starts .entry)) (countsOf shape) k (now (t .entry)) sum ⌝ }
-{
-    row_step(
-        fields,
-        starts,
-        spec_rows_line(shape),
-        shape.kind4,
-        shape.kind2,
-        k,
-        t,
-        sum,
-    )
-}
-
-// The span of row k of the implementation, and of the specification.
-pub fn impl_span<'a>(
-    fields: &'a limits::Fields,
-    starts: &'a limits::Starts,
-    shape: Shape,
-    k: u16,
-) -> u16
-    ensures { λ r. ⌜ r ≡ implSpan (now (fields .entry)) (now (starts .entry)) (countsOf shape) k ⌝ }
-{
-    row_span(fields, starts, impl_rows_line(shape), shape.kind3, k)
-}
-
-pub fn spec_span<'a>(
-    fields: &'a limits::Fields,
-    starts: &'a limits::Starts,
-    shape: Shape,
-    k: u16,
-) -> u16
-    ensures { λ r. ⌜ r ≡ specSpan (now (fields .entry)) (now (starts .entry)) (countsOf shape) k ⌝ }
-{
-    row_span(fields, starts, spec_rows_line(shape), shape.kind4, k)
-}
-
-// The implementation's row of an action, and the specification's, by number; 0 where there is none.
-pub fn impl_row<'a>(
-    fields: &'a limits::Fields,
-    starts: &'a limits::Starts,
-    shape: Shape,
-    action: u16,
-) -> u16
-    ensures { λ r. ⌜ r ≡ implRow (now (fields .entry)) (now (starts .entry)) (countsOf shape) action ⌝ }
-{
-    row_with(fields, starts, impl_rows_line(shape), shape.kind3, action)
-}
-
-pub fn spec_row<'a>(
-    fields: &'a limits::Fields,
-    starts: &'a limits::Starts,
-    shape: Shape,
-    action: u16,
-) -> u16
-    ensures { λ r. ⌜ r ≡ specRow (now (fields .entry)) (now (starts .entry)) (countsOf shape) action ⌝ }
-{
-    row_with(fields, starts, spec_rows_line(shape), shape.kind4, action)
 }

@@ -8,10 +8,10 @@ use Rattle.steps.proofs.below.Statement.{statement}
 use Rattle.steps.proofs.below.Tie as tie
 
 abbrev Inv-loop : tie.InvT-loop
-Inv-loop fields starts first n v i₀ i = laws.belowLeft fields starts v first n i ≡ belowIn fields starts first n v
+Inv-loop fields starts process v i₀ i = laws.belowLeft fields starts v process i ≡ belowIn fields starts process v
 
 abbrev μ-loop : tie.MeasureT-loop
-μ-loop fields starts first n v i₀ i = n - i
+μ-loop fields starts process v i₀ i = process .parameters .count - i
 
 pub below-spec : {M : Type 1} → statement M
 below-spec =
@@ -20,6 +20,8 @@ below-spec =
     Inv-loop
     μ-loop
     (λ c. search laws.below-start)
+    (λ c. search needs)
+    (λ c. search needs)
     (λ c. search needs)
     (λ c κs. search needs)
     (λ c κs. search needs)

@@ -9,10 +9,10 @@ use Rattle.steps.proofs.initial_state.Statement.{statement}
 use Rattle.steps.proofs.initial_state.Tie as tie
 
 abbrev Inv-loop : tie.InvT-loop
-Inv-loop fields starts first n m out₀ i₀ out i = (length out ≡ 8) × (laws.initialLeft fields starts first n out i ≡ initialIn fields starts first n)
+Inv-loop fields starts process m out₀ i₀ out i = (length out ≡ 8) × (laws.initialLeft fields starts process out i ≡ initialIn fields starts process)
 
 abbrev μ-loop : tie.MeasureT-loop
-μ-loop fields starts first n m out₀ i₀ out i = m - i
+μ-loop fields starts process m out₀ i₀ out i = m - i
 
 pub initial-state-spec : {M : Type 1} → statement M
 initial-state-spec =
@@ -22,6 +22,7 @@ initial-state-spec =
     μ-loop
     (λ c κs. search needs)
     (λ c. (search needs, search laws.initial-start))
+    (λ c. search needs)
     (λ c. search needs)
     (λ c κs. search needs)
     (λ c. search needs)

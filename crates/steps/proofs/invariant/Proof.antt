@@ -8,7 +8,7 @@ pub invariant-spec : {M : Type 1} → statement M
 invariant-spec =
     tie.close
     (tie.spec
-    (λ c κs. search needs)
+    (λ c. search needs)
     (λ c κs. search needs)
     (λ c. search needs)
     (λ c. search needs)

@@ -8,7 +8,6 @@ pub mapped-spec : {M : Type 1} → statement M
 mapped-spec =
     tie.close
     (tie.spec
-    (λ c κs. search needs)
     (λ c. search needs)
     (λ c κs. search needs)
     (λ c. search needs)

@@ -9,9 +9,8 @@ row-span-spec =
     tie.close
     (tie.spec
     (λ c. search laws.span-none)
+    (λ c. search needs)
     (λ c. search laws.span-past)
-    (λ c. search needs)
-    (λ c. search needs)
     (λ c κs. search needs)
     (λ c κs. search needs)
     (λ c. search laws.span-there))

@@ -10,10 +10,9 @@ row-step-spec =
     (tie.spec
     (λ c κs. search needs)
     (λ c. search laws.step-none)
+    (λ c. search needs)
     (λ c κs. search needs)
     (λ c. search laws.step-past)
-    (λ c. search needs)
-    (λ c. search needs)
     (λ c κs. search needs)
     (λ c κs. search needs)
     (λ c. search laws.step-there))

@@ -8,10 +8,10 @@ use Rattle.steps.proofs.state.Statement.{statement}
 use Rattle.steps.proofs.state.Tie as tie
 
 abbrev Inv-loop : tie.InvT-loop
-Inv-loop fields starts n number out₀ left₀ i₀ out left i = (i ≤ min n 8) × ((out ≡ laws.lastValues fields starts (min n 8) number i) × (left ≡ laws.leftOver fields starts (min n 8) number i))
+Inv-loop fields starts process number out₀ left₀ i₀ out left i = let b = process .parameters .first in let n = min (process .parameters .count) 8 in (i ≤ n) × ((out ≡ laws.lastValues fields starts b n number i) × (left ≡ laws.leftOver fields starts b n number i))
 
 abbrev μ-loop : tie.MeasureT-loop
-μ-loop fields starts n number out₀ left₀ i₀ out left i = i
+μ-loop fields starts process number out₀ left₀ i₀ out left i = i
 
 pub state-spec : {M : Type 1} → statement M
 state-spec =
@@ -21,6 +21,8 @@ state-spec =
     μ-loop
     (λ c κs. search needs)
     (λ c. (omega arith, (search laws.state-start-values, search laws.state-start-left)))
+    (λ c. search needs)
+    (λ c. search needs)
     (λ c. search needs)
     (λ c κs. search needs)
     (λ c κs. search needs)

@@ -1,0 +1,96 @@
+-- A state counts by the values of its parameters alone: two lists of values that agree wherever a term asks them, as a state and an
+-- array that holds it with 0 after it, give every term one value, and so every test.
+use mathlib.Core.Path.{_≡_, refl, ap}
+use mathlib.Core.List.{List, [], _∷_}
+use Prim.Native.Nat.{ℕ}
+use lib.ListN.{getD}
+use Rattle.foundation.specs.First.{passes}
+use Rattle.foundation.specs.Trial.{firstOf}
+use Rattle.terms.specs.Tree.{Value, Formula, num, par, sumValue, choice, noValue, const, compare, negation, join, noFormula, evalV, evalF}
+use Rattle.terms.specs.Tree as tree
+use Rattle.criteria.specs.Design.{Design, Row, values, mapped}
+use Rattle.criteria.specs.Rows.{firstRow, internalTest}
+use Rattle.decision.specs.Tests.{focusB, holds2, holds3, holds4, holds5, holds6, holds7, holds8, holds9}
+use Rattle.decision.specs.Examine.{nothing, once, ofImpl, ofSpec, columns, trialOf, firstFailing}
+
+module _ (v w : List ℕ) (agree : (i : ℕ) → getD v i 0 ≡ getD w i 0) where
+  -- ---- terms
+
+  mutual
+    unfolding evalV
+
+    pub value-alike : (t : Value) (e : ℕ) → evalV t v e ≡ evalV t w e
+    value-alike (num n) e = refl
+    value-alike (par i) e = agree i
+    value-alike sumValue e = refl
+    value-alike (tree.arith o a b) e = rw (value-alike a e, value-alike b e)
+    value-alike (choice f a b) e = rw (formula-alike f e, value-alike a e, value-alike b e)
+    value-alike noValue e = refl
+
+    pub formula-alike : (t : Formula) (e : ℕ) → evalF t v e ≡ evalF t w e
+    formula-alike (const b) e = refl
+    formula-alike (compare o a b) e = rw (value-alike a e, value-alike b e)
+    formula-alike (negation f) e = rw (formula-alike f e)
+    formula-alike (join o f g) e = rw (formula-alike f e, formula-alike g e)
+    formula-alike noFormula e = refl
+
+  pub values-alike : (vs : List Value) (e : ℕ) → values vs v e ≡ values vs w e
+  values-alike [] e = refl
+  values-alike (t ∷ vs) e = rw (value-alike t e, values-alike vs e)
+
+  -- ---- the tests of a design
+
+  module _ (d : Design) where
+    pub mapped-alike : mapped d v ≡ mapped d w
+    mapped-alike = values-alike (d .mapping) 0
+
+    focus-alike : focusB d v ≡ focusB d w
+    focus-alike = ap (λ t. passes {A = ℕ × ℕ} (firstRow (d .impl .rows) t (λ k e. (k, e)))) internals
+      where
+        internals : internalTest v ≡ internalTest w
+        internals j r e = go r e j
+          where
+            go : (r : Row) (e : ℕ) → internalTest v r e ≡ internalTest w r e
+            go r e = rw (formula-alike (r .condition) e)
+
+    second : holds2 d v ≡ holds2 d w
+    second = rw mapped-alike
+
+    third : (r : Row) (e : ℕ) → holds3 d v r e ≡ holds3 d w r e
+    third r e = rw (formula-alike (r .condition) e, values-alike (r .next) e)
+
+    fourth : (r : Row) (e : ℕ) → holds4 d v r e ≡ holds4 d w r e
+    fourth r e = rw (formula-alike (r .condition) e, values-alike (r .next) e, mapped-alike)
+
+    fifth : (r : Row) (e : ℕ) → holds5 d v r e ≡ holds5 d w r e
+    fifth r e = rw (formula-alike (r .condition) e, values-alike (r .next) e, value-alike (d .measure) 0)
+
+    sixth : (r : Row) (e : ℕ) → holds6 d v r e ≡ holds6 d w r e
+    sixth r e = rw (formula-alike (r .condition) e, mapped-alike)
+
+    seventh : (q : Row) (e : ℕ) → holds7 d v q e ≡ holds7 d w q e
+    seventh q e = rw (focus-alike, mapped-alike, formula-alike _ e)
+
+    eighth : (r : Row) (e : ℕ) → holds8 d v r e ≡ holds8 d w r e
+    eighth r e = rw (formula-alike (r .condition) e, value-alike (r .carries) e, mapped-alike)
+
+    ninth : (r : Row) (e : ℕ) → holds9 d v r e ≡ holds9 d w r e
+    ninth r e = rw (formula-alike (r .condition) e, values-alike (r .next) e, mapped-alike)
+
+    columns-alike : columns d v ≡ columns d w
+    columns-alike j =
+        nothing
+        ∷ nothing
+        ∷ once (second j)
+        ∷ ofImpl (λ r e. third r e j)
+        ∷ ofImpl (λ r e. fourth r e j)
+        ∷ ofImpl (λ r e. fifth r e j)
+        ∷ ofImpl (λ r e. sixth r e j)
+        ∷ ofSpec (λ q e. seventh q e j)
+        ∷ ofImpl (λ r e. eighth r e j)
+        ∷ ofImpl (λ r e. ninth r e j)
+        ∷ []
+
+    -- the search
+    pub failing-alike : firstFailing d v ≡ firstFailing d w
+    failing-alike = ap (λ cs. firstOf (trialOf d cs)) columns-alike
