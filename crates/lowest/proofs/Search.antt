@@ -1,147 +1,215 @@
--- What the search of the code returns, as specs/Search says it: the arms of the choice of a criterion, and the turns of the loops over
--- sum values, rows and criteria, each the search for a first failure of foundation/proofs/First.
+-- What the search of the code returns: the arms of the choice of a criterion, and the turns of the loops over sum values, rows and
+-- criteria, each the search for a first failure of foundation/proofs/First; and that it is the search of decision/specs/Examine.
 use mathlib.Core.Path.{_≡_, refl, sym, _∙_, ap}
 use mathlib.Core.Bool.{Bool, true, false, not}
 use mathlib.Core.List.{List}
-use Prim.Native.Nat.{ℕ, suc, _+_, _-_, _≤_, _<_}
+use Prim.Native.Nat.{ℕ, zero, suc, _+_, _-_, _≤_, _<_}
 use native.Mathlib.Omega.{arith}
 use borrow.Author.Tests.{ne-eqb, not-true, not-false}
-use Rattle.foundation.specs.First.{Outcome, firstIn}
-use Rattle.foundation.specs.Trial.{Place as At, place}
-use Rattle.foundation.proofs.First.{loop-begins, loop-turns, loop-fails, loop-ends, test-turns, test-fails}
-use Rattle.design.specs.declared.Counts.{Counts}
-use Rattle.steps.specs.Arrays.{implSpan, specSpan}
-use Rattle.lowest.specs.Tests.{focusIn, holds2In, holds3In, holds4In, holds5In, holds6In, holds7In, holds8In, holds9In}
-use Rattle.lowest.specs.Search.{toldPlace, spanIn, rowsIn, holdsIn, failAt, inRowIn, inRowsIn, inCriteriaIn, searchIn}
+use lib.ListN.{length}
+use Rattle.foundation.specs.First.{Outcome, fail, failIf, orElse, firstIn}
+use Rattle.foundation.specs.Trial.{Place as At, place, firstPlace, inCriterion}
+use Rattle.foundation.proofs.First.{first-alike, loop-begins, loop-turns, loop-fails, loop-ends, test-turns, test-fails}
+use Rattle.terms.specs.Tree.{pick}
+use Rattle.criteria.specs.Design.{Design, Row, State}
+use Rattle.criteria.specs.Rows.{rowAt}
+use Rattle.decision.specs.Tests.{focusB, holds2, holds3, holds4, holds5, holds6, holds7, holds8, holds9}
+use Rattle.decision.specs.Examine.{trial, firstFailing}
+use Rattle.design.specs.Loaded.{designAt}
+use Rattle.design.specs.declared.Shape.{Shape}
+use Rattle.layout.specs.Sizes.{Fits}
+use Rattle.steps.specs.Arrays.{padded, rowSpan, mappedIn}
+use Rattle.steps.proofs.States.{rows-count}
+use Rattle.lowest.specs.Search.{Known, toldPlace, ofImpl, ofSpec, holdsFor, spanFor, rowsFor, inRow, inRows, inCriteria}
+use Rattle.lowest.specs.declared.Here.{Here}
 use Rattle.lowest.specs.declared.Place.{Place}
 use Rattle.lowest.specs.declared.Finding.{Finding}
 use Rattle.lowest.specs.declared.Finding.the-variants.{Nothing, Found}
 
 -- ---- which criterion, which rows
 
-module _ (f s : List ℕ) (c : Counts) (n k r : ℕ) where
-  pub span-7 : n ≡ 7 → r ≡ specSpan f s c k → r ≡ spanIn f s c n k
-  unfolding spanIn
-  span-7 h er = er ∙ rw h
+module _ (f s : List ℕ) (h : Shape) (n k r : ℕ) where
+  pub span-7 : n ≡ 7 → r ≡ rowSpan f s (h .specification) k → r ≡ spanFor (designAt f s h) n k
+  unfolding spanFor rowSpan
+  span-7 y er = er ∙ rw y
 
-  pub span-else : (n ≡ 7 → ⊥) → r ≡ implSpan f s c k → r ≡ spanIn f s c n k
-  unfolding spanIn
-  span-else h er = er ∙ rw (ne-eqb n 7 h)
+  pub span-else : (n ≡ 7 → ⊥) → r ≡ rowSpan f s (h .implementation) k → r ≡ spanFor (designAt f s h) n k
+  unfolding spanFor rowSpan
+  span-else y er = er ∙ rw (ne-eqb n 7 y)
 
-module _ (f s v t : List ℕ) (c : Counts) (b r : Bool) (n k e : ℕ) where
-  pub arm3 : n ≡ 3 → r ≡ holds3In f s c v k e → r ≡ holdsIn f s c v t b n k e
-  unfolding holdsIn
-  arm3 h er = er ∙ rw h
+module _ (h : Shape) (n : ℕ) where
+  pub rows-7 : n ≡ 7 → h .specification .rows .count ≡ rowsFor h n
+  unfolding rowsFor
+  rows-7 y = rw y
 
-  pub arm4 : n ≡ 4 → r ≡ holds4In f s c v t k e → r ≡ holdsIn f s c v t b n k e
-  unfolding holdsIn
-  arm4 h er = er ∙ rw h
+  pub rows-else : (n ≡ 7 → ⊥) → h .implementation .rows .count ≡ rowsFor h n
+  unfolding rowsFor
+  rows-else y = rw (ne-eqb n 7 y)
 
-  pub arm5 : n ≡ 5 → r ≡ holds5In f s c v k e → r ≡ holdsIn f s c v t b n k e
-  unfolding holdsIn
-  arm5 h er = er ∙ rw h
+module _ (d : Design) (v : State) (r : Bool) (n k e : ℕ) where
+  pub arm3 : n ≡ 3 → r ≡ ofImpl holds3 d v k e → r ≡ holdsFor d v n k e
+  unfolding holdsFor
+  arm3 y er = er ∙ rw y
 
-  pub arm6 : n ≡ 6 → r ≡ holds6In f s c v t k e → r ≡ holdsIn f s c v t b n k e
-  unfolding holdsIn
-  arm6 h er = er ∙ rw h
+  pub arm4 : n ≡ 4 → r ≡ ofImpl holds4 d v k e → r ≡ holdsFor d v n k e
+  unfolding holdsFor
+  arm4 y er = er ∙ rw y
 
-  pub arm7 : n ≡ 7 → r ≡ holds7In f s c v t b k e → r ≡ holdsIn f s c v t b n k e
-  unfolding holdsIn
-  arm7 h er = er ∙ rw h
+  pub arm5 : n ≡ 5 → r ≡ ofImpl holds5 d v k e → r ≡ holdsFor d v n k e
+  unfolding holdsFor
+  arm5 y er = er ∙ rw y
 
-  pub arm8 : n ≡ 8 → r ≡ holds8In f s c v t k e → r ≡ holdsIn f s c v t b n k e
-  unfolding holdsIn
-  arm8 h er = er ∙ rw h
+  pub arm6 : n ≡ 6 → r ≡ ofImpl holds6 d v k e → r ≡ holdsFor d v n k e
+  unfolding holdsFor
+  arm6 y er = er ∙ rw y
+
+  pub arm7 : n ≡ 7 → r ≡ ofSpec holds7 d v k e → r ≡ holdsFor d v n k e
+  unfolding holdsFor
+  arm7 y er = er ∙ rw y
+
+  pub arm8 : n ≡ 8 → r ≡ ofImpl holds8 d v k e → r ≡ holdsFor d v n k e
+  unfolding holdsFor
+  arm8 y er = er ∙ rw y
 
   pub arm-else : (n ≡ 3 → ⊥) → (n ≡ 4 → ⊥) → (n ≡ 5 → ⊥) → (n ≡ 6 → ⊥) → (n ≡ 7 → ⊥) → (n ≡ 8 → ⊥)
-      → r ≡ holds9In f s c v t k e → r ≡ holdsIn f s c v t b n k e
-  unfolding holdsIn
+      → r ≡ ofImpl holds9 d v k e → r ≡ holdsFor d v n k e
+  unfolding holdsFor
   arm-else h3 h4 h5 h6 h7 h8 er = er ∙ simp (ne-eqb n 3 h3, ne-eqb n 4 h4, ne-eqb n 5 h5, ne-eqb n 6 h6, ne-eqb n 7 h7, ne-eqb n 8 h8)
 
--- ---- the sum values of a row
+-- ---- the loops
 
-module _ (f s v t : List ℕ) (c : Counts) (b : Bool) (n k : ℕ) where
-  unfoldable pub sumsLeft : ℕ → ℕ → Outcome At
-  sumsLeft m e = firstIn (λ x. failAt f s c v t b n k x) (m - e) e
+module _ (d : Design) (v : State) where
+  -- the sum values of a row
+  module _ (n k : ℕ) where
+    abbrev failAt : ℕ → Outcome At
+    failAt e = failIf (not (holdsFor d v n k e)) (place n k e)
 
-  pub sums-begin : (m : ℕ) → m ≡ spanIn f s c n k → sumsLeft m 0 ≡ inRowIn f s c v t b n k
-  unfolding sumsLeft inRowIn
-  sums-begin m em = loop-begins (λ x. failAt f s c v t b n k x) m ∙ ap (λ m. firstIn (λ x. failAt f s c v t b n k x) m 0) em
+    unfoldable pub sumsLeft : ℕ → ℕ → Outcome At
+    sumsLeft m e = firstIn failAt (m - e) e
 
-  pub sums-turn : (m e : ℕ) (r : Bool) → e < m → r ≡ holdsIn f s c v t b n k e → not r ≡ false → sumsLeft m e ≡ inRowIn f s c v t b n k
-      → sumsLeft m (e + 1) ≡ inRowIn f s c v t b n k
-  unfolding sumsLeft
-  sums-turn m e r l er h inv =
-      sym (test-turns (λ x. not (holdsIn f s c v t b n k x)) (λ x. place n k x) m e {b = not r} l (ap not er) h) ∙ inv
+    pub sums-begin : (m : ℕ) → m ≡ spanFor d n k → sumsLeft m 0 ≡ inRow d v n k
+    unfolding sumsLeft inRow
+    sums-begin m em = loop-begins failAt m ∙ ap (λ m. firstIn failAt m 0) em
 
-  pub sums-fail : (m e : ℕ) (r : Bool) → e < m → r ≡ holdsIn f s c v t b n k e → not r ≡ true → sumsLeft m e ≡ inRowIn f s c v t b n k
-      → toldPlace (Found (record { criterion = n; row = k; sum = e })) ≡ inRowIn f s c v t b n k
-  unfolding sumsLeft
-  sums-fail m e r l er h inv =
-      sym (test-fails (λ x. not (holdsIn f s c v t b n k x)) (λ x. place n k x) m e {b = not r} l (ap not er) h) ∙ inv
+    pub sums-turn : (m e : ℕ) (r : Bool) → e < m → r ≡ holdsFor d v n k e → not r ≡ false → sumsLeft m e ≡ inRow d v n k → sumsLeft m (e + 1) ≡ inRow d v n k
+    unfolding sumsLeft
+    sums-turn m e r l er y inv = sym (test-turns (λ x. not (holdsFor d v n k x)) (λ x. place n k x) m e {b = not r} l (ap not er) y) ∙ inv
 
-  pub sums-end : (m e : ℕ) → m ≤ e → sumsLeft m e ≡ inRowIn f s c v t b n k → toldPlace Nothing ≡ inRowIn f s c v t b n k
-  unfolding sumsLeft
-  sums-end m e l inv = sym (loop-ends (λ x. failAt f s c v t b n k x) m e l) ∙ inv
+    pub sums-fail : (m e : ℕ) (r : Bool) → e < m → r ≡ holdsFor d v n k e → not r ≡ true → sumsLeft m e ≡ inRow d v n k
+        → toldPlace (Found (record { criterion = n; row = k; sum = e })) ≡ inRow d v n k
+    unfolding sumsLeft
+    sums-fail m e r l er y inv = sym (test-fails (λ x. not (holdsFor d v n k x)) (λ x. place n k x) m e {b = not r} l (ap not er) y) ∙ inv
 
--- ---- the rows of a criterion
+    pub sums-end : (m e : ℕ) → m ≤ e → sumsLeft m e ≡ inRow d v n k → toldPlace Nothing ≡ inRow d v n k
+    unfolding sumsLeft
+    sums-end m e l inv = sym (loop-ends failAt m e l) ∙ inv
 
-module _ (f s v t : List ℕ) (c : Counts) (b : Bool) (n : ℕ) where
-  unfoldable pub rowsLeft : ℕ → ℕ → Outcome At
-  rowsLeft m k = firstIn (λ x. inRowIn f s c v t b n x) (suc m - k) k
+  -- the rows of a criterion
+  module _ (h : Shape) (n : ℕ) where
+    abbrev tried : ℕ → Outcome At
+    tried k = inRow d v n k
 
-  pub rows-begin : (m : ℕ) → m ≡ rowsIn c n → rowsLeft m 0 ≡ inRowsIn f s c v t b n
-  unfolding rowsLeft inRowsIn
-  rows-begin m em = loop-begins (λ x. inRowIn f s c v t b n x) (suc m) ∙ ap (λ m. firstIn (λ x. inRowIn f s c v t b n x) (suc m) 0) em
+    unfoldable pub rowsLeft : ℕ → ℕ → Outcome At
+    rowsLeft m k = firstIn tried (suc m - k) k
 
-  pub rows-turn : (m k : ℕ) (r : Finding) → k ≤ m → toldPlace r ≡ inRowIn f s c v t b n k → r ≡ Nothing → rowsLeft m k ≡ inRowsIn f s c v t b n
-      → rowsLeft m (k + 1) ≡ inRowsIn f s c v t b n
-  unfolding rowsLeft
-  rows-turn m k r l er h inv = sym (loop-turns (λ x. inRowIn f s c v t b n x) (suc m) k (omega arith) (sym er ∙ ap toldPlace h)) ∙ inv
+    pub rows-begin : (m : ℕ) → m ≡ rowsFor h n → rowsLeft m 0 ≡ inRows h d v n
+    unfolding rowsLeft inRows
+    rows-begin m em = loop-begins tried (suc m) ∙ ap (λ m. firstIn tried (suc m) 0) em
 
-  pub rows-fail : (m k : ℕ) (r : Finding) (x : Place) → k ≤ m → toldPlace r ≡ inRowIn f s c v t b n k → r ≡ Found x → rowsLeft m k ≡ inRowsIn f s c v t b n
-      → toldPlace r ≡ inRowsIn f s c v t b n
-  unfolding rowsLeft
-  rows-fail m k r x l er h inv =
-      let e = ap toldPlace h in
-      e ∙ sym (loop-fails (λ x. inRowIn f s c v t b n x) (suc m) k _ (omega arith) (sym er ∙ e)) ∙ inv
+    pub rows-turn : (m k : ℕ) (r : Finding) → k ≤ m → toldPlace r ≡ inRow d v n k → r ≡ Nothing → rowsLeft m k ≡ inRows h d v n → rowsLeft m (k + 1) ≡ inRows h d v n
+    unfolding rowsLeft
+    rows-turn m k r l er y inv = sym (loop-turns tried (suc m) k (omega arith) (sym er ∙ ap toldPlace y)) ∙ inv
 
-  pub rows-end : (m k : ℕ) → m < k → rowsLeft m k ≡ inRowsIn f s c v t b n → toldPlace Nothing ≡ inRowsIn f s c v t b n
-  unfolding rowsLeft
-  rows-end m k l inv = sym (loop-ends (λ x. inRowIn f s c v t b n x) (suc m) k (omega arith)) ∙ inv
+    pub rows-fail : (m k : ℕ) (r : Finding) (x : Place) → k ≤ m → toldPlace r ≡ inRow d v n k → r ≡ Found x → rowsLeft m k ≡ inRows h d v n → toldPlace r ≡ inRows h d v n
+    unfolding rowsLeft
+    rows-fail m k r x l er y inv =
+        let e = ap toldPlace y in
+        e ∙ sym (loop-fails tried (suc m) k _ (omega arith) (sym er ∙ e)) ∙ inv
 
--- ---- the criteria
+    pub rows-end : (m k : ℕ) → m < k → rowsLeft m k ≡ inRows h d v n → toldPlace Nothing ≡ inRows h d v n
+    unfolding rowsLeft
+    rows-end m k l inv = sym (loop-ends tried (suc m) k (omega arith)) ∙ inv
 
-module _ (f s v t : List ℕ) (c : Counts) (b : Bool) where
-  unfoldable pub criteriaLeft : ℕ → Outcome At
-  criteriaLeft n = firstIn (λ x. inRowsIn f s c v t b x) (10 - n) n
+  -- the criteria
+  module _ (h : Shape) where
+    abbrev tries : ℕ → Outcome At
+    tries n = inRows h d v n
 
-  pub criteria-begin : criteriaLeft 3 ≡ inCriteriaIn f s c v t b
-  unfolding criteriaLeft inCriteriaIn
-  criteria-begin = refl
+    unfoldable pub criteriaLeft : ℕ → Outcome At
+    criteriaLeft n = firstIn tries (10 - n) n
 
-  pub criteria-turn : (n : ℕ) (r : Finding) → n < 10 → toldPlace r ≡ inRowsIn f s c v t b n → r ≡ Nothing → criteriaLeft n ≡ inCriteriaIn f s c v t b
-      → criteriaLeft (n + 1) ≡ inCriteriaIn f s c v t b
-  unfolding criteriaLeft
-  criteria-turn n r l er h inv = sym (loop-turns (λ x. inRowsIn f s c v t b x) 10 n l (sym er ∙ ap toldPlace h)) ∙ inv
+    pub criteria-begin : criteriaLeft 3 ≡ inCriteria h d v
+    unfolding criteriaLeft inCriteria
+    criteria-begin = refl
 
-  pub criteria-fail : (n : ℕ) (r : Finding) (x : Place) → n < 10 → toldPlace r ≡ inRowsIn f s c v t b n → r ≡ Found x → criteriaLeft n ≡ inCriteriaIn f s c v t b
-      → toldPlace r ≡ inCriteriaIn f s c v t b
-  unfolding criteriaLeft
-  criteria-fail n r x l er h inv =
-      let e = ap toldPlace h in
-      e ∙ sym (loop-fails (λ x. inRowsIn f s c v t b x) 10 n _ l (sym er ∙ e)) ∙ inv
+    pub criteria-turn : (n : ℕ) (r : Finding) → n < 10 → toldPlace r ≡ inRows h d v n → r ≡ Nothing → criteriaLeft n ≡ inCriteria h d v → criteriaLeft (n + 1) ≡ inCriteria h d v
+    unfolding criteriaLeft
+    criteria-turn n r l er y inv = sym (loop-turns tries 10 n l (sym er ∙ ap toldPlace y)) ∙ inv
 
-  pub criteria-end : (n : ℕ) → 10 ≤ n → criteriaLeft n ≡ inCriteriaIn f s c v t b → toldPlace Nothing ≡ inCriteriaIn f s c v t b
-  unfolding criteriaLeft
-  criteria-end n l inv = sym (loop-ends (λ x. inRowsIn f s c v t b x) 10 n l) ∙ inv
+    pub criteria-fail : (n : ℕ) (r : Finding) (x : Place) → n < 10 → toldPlace r ≡ inRows h d v n → r ≡ Found x → criteriaLeft n ≡ inCriteria h d v → toldPlace r ≡ inCriteria h d v
+    unfolding criteriaLeft
+    criteria-fail n r x l er y inv =
+        let e = ap toldPlace y in
+        e ∙ sym (loop-fails tries 10 n _ l (sym er ∙ e)) ∙ inv
 
-  -- criterion 2 before them
-  module _ (two : Bool) (said : two ≡ holds2In f s c t) where
-    pub second-fails : not two ≡ true → toldPlace (Found (record { criterion = 2; row = 0; sum = 0 })) ≡ searchIn f s c v t
-    unfolding searchIn
-    second-fails h = rw (← said, not-true two h)
+    pub criteria-end : (n : ℕ) → 10 ≤ n → criteriaLeft n ≡ inCriteria h d v → toldPlace Nothing ≡ inCriteria h d v
+    unfolding criteriaLeft
+    criteria-end n l inv = sym (loop-ends tries 10 n l) ∙ inv
 
-    pub second-holds : (r : Finding) → not two ≡ false → b ≡ focusIn f s c v → toldPlace r ≡ inCriteriaIn f s c v t b → toldPlace r ≡ searchIn f s c v t
-    unfolding searchIn
-    second-holds r h eb er = rw (← said, not-false two h, ← eb) er
+-- ---- the search is that of the crate decision
+
+module _ (f s : List ℕ) (h : Shape) (v : State) where
+  abbrev d : Design
+  d = designAt f s h
+
+  -- a criterion at the rows of a process
+  of-rows : (n m : ℕ) (rows : List Row) (holds : Row → ℕ → Bool) → m ≡ length rows
+      → firstIn (λ k. firstIn (λ e. failIf (not (holds (rowAt rows k) e)) (place n k e)) (rowAt rows k .span) 0) (suc m) 0
+      ≡ firstPlace (suc (length rows)) (λ k. rowAt rows k .span) (λ k e. not (holds (rowAt rows k) e)) (place n)
+  of-rows n m rows holds em = rw em
+
+  implRows : h .implementation .rows .count ≡ length (d .impl .rows)
+  implRows = sym (rows-count f s (h .implementation))
+
+  specRows : h .specification .rows .count ≡ length (d .spec .rows)
+  specRows = sym (rows-count f s (h .specification))
+
+  criterion : (n : ℕ) → 3 ≤ n → n < 10 → inRows h d v n ≡ inCriterion (trial d v) n
+  unfolding inRows inRow rowsFor spanFor holdsFor ofImpl ofSpec
+  criterion zero l u = absurd (omega arith)
+  criterion (suc zero) l u = absurd (omega arith)
+  criterion (suc (suc zero)) l u = absurd (omega arith)
+  criterion (suc (suc (suc zero))) l u = of-rows 3 _ (d .impl .rows) (holds3 d v) implRows
+  criterion (suc (suc (suc (suc zero)))) l u = of-rows 4 _ (d .impl .rows) (holds4 d v) implRows
+  criterion (suc (suc (suc (suc (suc zero))))) l u = of-rows 5 _ (d .impl .rows) (holds5 d v) implRows
+  criterion (suc (suc (suc (suc (suc (suc zero)))))) l u = of-rows 6 _ (d .impl .rows) (holds6 d v) implRows
+  criterion (suc (suc (suc (suc (suc (suc (suc zero))))))) l u = of-rows 7 _ (d .spec .rows) (holds7 d v) specRows
+  criterion (suc (suc (suc (suc (suc (suc (suc (suc zero)))))))) l u = of-rows 8 _ (d .impl .rows) (holds8 d v) implRows
+  criterion (suc (suc (suc (suc (suc (suc (suc (suc (suc zero))))))))) l u = of-rows 9 _ (d .impl .rows) (holds9 d v) implRows
+  criterion (suc (suc (suc (suc (suc (suc (suc (suc (suc (suc n)))))))))) l u = absurd (omega arith)
+
+  later : inCriteria h d v ≡ firstIn (λ n. inCriterion (trial d v) n) 7 3
+  unfolding inCriteria
+  later = first-alike _ _ 7 3 (λ n l u. criterion n l (omega arith))
+
+  whole : (b : Bool) → b ≡ holds2 d v → pick b (inCriteria h d v) (fail (place 2 0 0)) ≡ firstFailing d v
+  unfolding firstIn
+  whole b eb = rw (later, eb) (go (holds2 d v))
+    where
+      go : (b : Bool) → pick b (firstIn (λ n. inCriterion (trial d v) n) 7 3) (fail (place 2 0 0))
+          ≡ orElse (firstPlace 1 (λ _. 1) (λ _ _. not b) (place 2)) (firstIn (λ n. inCriterion (trial d v) n) 7 3)
+      go true = refl
+      go false = refl
+
+  -- what is known of the state
+  pub knows : (t : List ℕ) (b : Bool) → Fits h → t ≡ mappedIn f s h v → b ≡ focusB d v → Known h d (record { state = v; mapped = t; focus = b })
+  unfolding mappedIn
+  knows t b fits et eb = record { fits = fits; mapped-is = et; focus-is = eb }
+
+  -- criterion 2 before the others
+  module _ (two : Bool) (said : two ≡ holds2 d v) where
+    pub second-fails : not two ≡ true → toldPlace (Found (record { criterion = 2; row = 0; sum = 0 })) ≡ firstFailing d v
+    second-fails y = whole false (sym (not-true two y) ∙ said)
+
+    pub second-holds : (r : Finding) → not two ≡ false → toldPlace r ≡ inCriteria h d v → toldPlace r ≡ firstFailing d v
+    second-holds r y er = er ∙ whole true (sym (not-false two y) ∙ said)

@@ -1,15 +1,21 @@
--- The search for the lowest failure at a state as the code makes it, over the tests of specs/Tests: criterion 2, then of each of the
--- criteria 3 to 9 its rows, of each its sum values. It is that of decision/specs/Examine (proofs/Decided).
+-- What is known of a state where the search looks, what its answer says, and the parts of the search: criterion 2, then of each of the
+-- criteria 3 to 9 its rows, of each its sum values, by the tests of the crate decision. It is the search of decision/specs/Examine
+-- (proofs/Search).
+use mathlib.Core.Path.{_≡_}
 use mathlib.Core.Bool.{Bool, not}
 use mathlib.Core.List.{List}
 use Prim.Native.Nat.{ℕ, suc}
 use lib.Dec.{eqb}
-use Rattle.foundation.specs.First.{Outcome, pass, fail, failIf, firstIn}
+use Rattle.foundation.specs.First.{Outcome, pass, fail, failIf, firstIn, allIn}
 use Rattle.foundation.specs.Trial.{Place, place}
 use Rattle.terms.specs.Tree.{pick}
-use Rattle.design.specs.declared.Counts.{Counts}
-use Rattle.steps.specs.Arrays.{implSpan, specSpan}
-use Rattle.lowest.specs.Tests.{focusIn, holds2In, holds3In, holds4In, holds5In, holds6In, holds7In, holds8In, holds9In}
+use Rattle.criteria.specs.Design.{Design, Row, State, mapped}
+use Rattle.criteria.specs.Rows.{rowAt, internalTest}
+use Rattle.decision.specs.Tests.{focusB, holds3, holds4, holds5, holds6, holds7, holds8, holds9}
+use Rattle.design.specs.declared.Shape.{Shape}
+use Rattle.layout.specs.Sizes.{Fits}
+use Rattle.steps.specs.Arrays.{padded}
+use Rattle.lowest.specs.declared.Here.{Here}
 use Rattle.lowest.specs.declared.Finding.{Finding}
 use Rattle.lowest.specs.declared.Finding.the-variants.{Nothing, Found}
 
@@ -18,38 +24,46 @@ abbrev pub toldPlace : Finding → Outcome Place
 toldPlace Nothing = pass
 toldPlace (Found x) = fail (place (x .criterion) (x .row) (x .sum))
 
-module _ (f s : List ℕ) (c : Counts) where
-  -- the rows that criterion n is tried at, and their spans: "In criterion 7 the row is the specification's."
-  unfoldable pub spanIn : ℕ → ℕ → ℕ
-  spanIn n k = pick (eqb n 7) (specSpan f s c k) (implSpan f s c k)
+-- what is known of a state is so
+pub record Known (h : Shape) (d : Design) (here : Here) : Type 0 where
+  pub fits : Fits h
+  pub mapped-is : here .mapped ≡ padded (mapped d (here .state))
+  pub focus-is : here .focus ≡ focusB d (here .state)
 
-  module _ (v t : List ℕ) (b : Bool) where
-    -- criterion n for row k and the sum value e, where b says whether v is a focus point
-    unfoldable pub holdsIn : ℕ → ℕ → ℕ → Bool
-    holdsIn n k e =
-        pick (eqb n 3) (holds3In f s c v k e)
-        (pick (eqb n 4) (holds4In f s c v t k e)
-        (pick (eqb n 5) (holds5In f s c v k e)
-        (pick (eqb n 6) (holds6In f s c v t k e)
-        (pick (eqb n 7) (holds7In f s c v t b k e)
-        (pick (eqb n 8) (holds8In f s c v t k e)
-        (holds9In f s c v t k e))))))
+-- row k is no internal row that is enabled for some sum value
+unfoldable pub quietIn : Design → State → ℕ → Bool
+quietIn d v k = let r : Row = rowAt (d .impl .rows) k in allIn (λ e. not (internalTest v r e)) (r .span) 0
 
-    abbrev pub failAt : ℕ → ℕ → ℕ → Outcome Place
-    failAt n k e = failIf (not (holdsIn n k e)) (place n k e)
+-- a test at row k of the implementation, and of the specification
+unfoldable pub ofImpl : (Design → State → Row → ℕ → Bool) → Design → State → ℕ → ℕ → Bool
+ofImpl holds d v k e = holds d v (rowAt (d .impl .rows) k) e
 
-    unfoldable pub inRowIn : ℕ → ℕ → Outcome Place
-    inRowIn n k = firstIn (λ e. failAt n k e) (spanIn n k) 0
+unfoldable pub ofSpec : (Design → State → Row → ℕ → Bool) → Design → State → ℕ → ℕ → Bool
+ofSpec holds d v k e = holds d v (rowAt (d .spec .rows) k) e
 
-unfoldable pub rowsIn : Counts → ℕ → ℕ
-rowsIn c n = pick (eqb n 7) (c .kind4) (c .kind3)
+-- criterion n for row k and the sum value e; the span of the row, and how many rows there are: "In criterion 7 the row is the
+-- specification's."
+unfoldable pub holdsFor : Design → State → ℕ → ℕ → ℕ → Bool
+holdsFor d v n k e =
+    pick (eqb n 3) (ofImpl holds3 d v k e)
+    (pick (eqb n 4) (ofImpl holds4 d v k e)
+    (pick (eqb n 5) (ofImpl holds5 d v k e)
+    (pick (eqb n 6) (ofImpl holds6 d v k e)
+    (pick (eqb n 7) (ofSpec holds7 d v k e)
+    (pick (eqb n 8) (ofImpl holds8 d v k e)
+    (ofImpl holds9 d v k e))))))
 
-module _ (f s : List ℕ) (c : Counts) (v t : List ℕ) (b : Bool) where
-  unfoldable pub inRowsIn : ℕ → Outcome Place
-  inRowsIn n = firstIn (λ k. inRowIn f s c v t b n k) (suc (rowsIn c n)) 0
+unfoldable pub spanFor : Design → ℕ → ℕ → ℕ
+spanFor d n k = pick (eqb n 7) (rowAt (d .spec .rows) k .span) (rowAt (d .impl .rows) k .span)
 
-  unfoldable pub inCriteriaIn : Outcome Place
-  inCriteriaIn = firstIn (λ n. inRowsIn n) 7 3
+unfoldable pub rowsFor : Shape → ℕ → ℕ
+rowsFor h n = pick (eqb n 7) (h .specification .rows .count) (h .implementation .rows .count)
 
-unfoldable pub searchIn : List ℕ → List ℕ → Counts → List ℕ → List ℕ → Outcome Place
-searchIn f s c v t = let o = inCriteriaIn f s c v t (focusIn f s c v) in pick (holds2In f s c t) o (fail (place 2 0 0))
+unfoldable pub inRow : Design → State → ℕ → ℕ → Outcome Place
+inRow d v n k = firstIn (λ e. failIf (not (holdsFor d v n k e)) (place n k e)) (spanFor d n k) 0
+
+unfoldable pub inRows : Shape → Design → State → ℕ → Outcome Place
+inRows h d v n = firstIn (λ k. inRow d v n k) (suc (rowsFor h n)) 0
+
+unfoldable pub inCriteria : Shape → Design → State → Outcome Place
+inCriteria h d v = firstIn (λ n. inRows h d v n) 7 3

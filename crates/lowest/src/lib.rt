@@ -1,13 +1,13 @@
-// The lowest failure at a state: criteria 2 to 9 as tests of a row and a sum value, one function each, and the search through criteria,
-// rows and sum values in 01's order. Every function answers any arrays.
-//
-// v is a state of the implementation and t its mapped state, as arrays of the crate steps. What each function computes is in
-// specs/Tests and specs/Search; that it is what the crate decision says of the design in the arrays is in proofs/Decided.
-use layout::Shape;
+// The lowest failure at a state: criteria 2 to 9 as tests of a row and a sum value, and the search through criteria, rows and sum values in
+// 01's order. Every function answers any arrays, and what it answers is said in the words of the crate decision: of the design in the
+// arrays, at the array of a state, of which no test reads more than the state's values (decision/proofs/Alike).
+use design::Shape;
 ghost use mathlib.Core.Path.{_≡_};
-ghost use Rattle.layout.specs.Sizes.{countsOf};
-ghost use Rattle.lowest.specs.Tests.{rowQuiet, focusIn, holds2In, holds3In, holds4In, holds5In, holds6In, holds7In, holds8In, holds9In};
-ghost use Rattle.lowest.specs.Search.{toldPlace, holdsIn, spanIn, rowsIn, inRowIn, inRowsIn, inCriteriaIn, searchIn};
+ghost use Rattle.decision.specs.Tests as tests;
+ghost use Rattle.decision.specs.Examine.{firstFailing};
+ghost use Rattle.design.specs.Loaded.{designAt};
+ghost use Rattle.layout.specs.Sizes.{Fits};
+ghost use Rattle.lowest.specs.Search.{Known, toldPlace, ofImpl, ofSpec, quietIn, holdsFor, spanFor, rowsFor, inRow, inRows, inCriteria};
 
 // A place of failure at a state: criterion, row and sum value.
 pub struct Place {
@@ -21,6 +21,13 @@ pub enum Finding {
     Found(Place),
 }
 
+// What is known of a state: its values, its mapped state, and whether it is a focus point.
+pub struct Here {
+    state: limits::Values,
+    mapped: limits::Values,
+    focus: bool,
+}
+
 // ---- focus points
 
 // Whether row k of the implementation is no internal row that is enabled for some sum value.
@@ -28,15 +35,15 @@ fn row_quiet<'a>(
     fields: &'a limits::Fields,
     starts: &'a limits::Starts,
     shape: Shape,
-    k: u16,
     v: &limits::Values,
+    k: u16,
 ) -> bool
-    ensures { λ r. ⌜ r ≡ rowQuiet (now (fields .entry)) (now (starts .entry)) (countsOf shape) (now (v .entry)) k ⌝ }
+    ensures { λ r. ⌜ r ≡ quietIn (designAt (now (fields .entry)) (now (starts .entry)) shape) (now (v .entry)) k ⌝ }
 {
-    let span = steps::impl_span(fields, starts, shape, k);
+    let span = steps::row_span(fields, starts, shape.implementation, k);
     let mut sum = 0;
     while sum < span {
-        let step = steps::impl_step(fields, starts, shape, k, v, sum);
+        let step = steps::row_step(fields, starts, shape.implementation, k, v, sum);
         if (step.action == 0) & step.enabled {
             return false;
         }
@@ -52,12 +59,11 @@ fn focus<'a>(
     shape: Shape,
     v: &limits::Values,
 ) -> bool
-    ensures { λ r. ⌜ r ≡ focusIn (now (fields .entry)) (now (starts .entry)) (countsOf shape) (now (v .entry)) ⌝ }
+    ensures { λ r. ⌜ r ≡ tests.focusB (designAt (now (fields .entry)) (now (starts .entry)) shape) (now (v .entry)) ⌝ }
 {
-    let rows = shape.kind3;
     let mut k = 0;
-    while k <= rows as u16 {
-        if !row_quiet(fields, starts, shape, k, v) {
+    while k <= shape.implementation.rows.count as u16 {
+        if !row_quiet(fields, starts, shape, v, k) {
             return false;
         }
         k += 1;
@@ -65,30 +71,32 @@ fn focus<'a>(
     true
 }
 
-// ---- criteria 2 to 9, for row k and a sum value; t is the mapped state of v
+// ---- criteria 2 to 9, for row k and a sum value
 
 fn holds2<'a>(
     fields: &'a limits::Fields,
     starts: &'a limits::Starts,
     shape: Shape,
-    t: &limits::Values,
+    here: Here,
 ) -> bool
-    ensures { λ r. ⌜ r ≡ holds2In (now (fields .entry)) (now (starts .entry)) (countsOf shape) (now (t .entry)) ⌝ }
+    requires { ⌜ Known shape (designAt (now fields) (now starts) shape) here ⌝ }
+    ensures { λ r. ⌜ r ≡ tests.holds2 (designAt (now (fields .entry)) (now (starts .entry)) shape) (here .state) ⌝ }
 {
-    steps::below(fields, starts, shape.kind1 as u16, shape.kind2, t)
+    steps::below(fields, starts, shape.specification, &here.mapped)
 }
 
 fn holds3<'a>(
     fields: &'a limits::Fields,
     starts: &'a limits::Starts,
     shape: Shape,
-    v: &limits::Values,
+    here: Here,
     k: u16,
     sum: u16,
 ) -> bool
-    ensures { λ r. ⌜ r ≡ holds3In (now (fields .entry)) (now (starts .entry)) (countsOf shape) (now (v .entry)) k sum ⌝ }
+    requires { ⌜ Known shape (designAt (now fields) (now starts) shape) here ⌝ }
+    ensures { λ r. ⌜ r ≡ ofImpl tests.holds3 (designAt (now (fields .entry)) (now (starts .entry)) shape) (here .state) k sum ⌝ }
 {
-    let step = steps::impl_step(fields, starts, shape, k, v, sum);
+    let step = steps::row_step(fields, starts, shape.implementation, k, &here.state, sum);
     !step.enabled | steps::inside(fields, starts, shape, &step.next)
 }
 
@@ -96,48 +104,50 @@ fn holds4<'a>(
     fields: &'a limits::Fields,
     starts: &'a limits::Starts,
     shape: Shape,
-    v: &limits::Values,
-    t: &limits::Values,
+    here: Here,
     k: u16,
     sum: u16,
 ) -> bool
-    ensures { λ r. ⌜ r ≡ holds4In (now (fields .entry)) (now (starts .entry)) (countsOf shape) (now (v .entry)) (now (t .entry)) k sum ⌝ }
+    requires { ⌜ Known shape (designAt (now fields) (now starts) shape) here ⌝ }
+    ensures { λ r. ⌜ r ≡ ofImpl tests.holds4 (designAt (now (fields .entry)) (now (starts .entry)) shape) (here .state) k sum ⌝ }
 {
-    let step = steps::impl_step(fields, starts, shape, k, v, sum);
+    let step = steps::row_step(fields, starts, shape.implementation, k, &here.state, sum);
     let there = steps::mapped(fields, starts, shape, &step.next);
-    !step.enabled | (!(step.action == 0) | steps::same(shape.kind2, t, &there))
+    let n = shape.specification.parameters.count;
+    !step.enabled | (!(step.action == 0) | steps::same(n, &here.mapped, &there))
 }
 
 fn holds5<'a>(
     fields: &'a limits::Fields,
     starts: &'a limits::Starts,
     shape: Shape,
-    v: &limits::Values,
+    here: Here,
     k: u16,
     sum: u16,
 ) -> bool
-    ensures { λ r. ⌜ r ≡ holds5In (now (fields .entry)) (now (starts .entry)) (countsOf shape) (now (v .entry)) k sum ⌝ }
+    requires { ⌜ Known shape (designAt (now fields) (now starts) shape) here ⌝ }
+    ensures { λ r. ⌜ r ≡ ofImpl tests.holds5 (designAt (now (fields .entry)) (now (starts .entry)) shape) (here .state) k sum ⌝ }
 {
-    let step = steps::impl_step(fields, starts, shape, k, v, sum);
+    let step = steps::row_step(fields, starts, shape.implementation, k, &here.state, sum);
     let there = steps::measure(fields, starts, shape, &step.next);
-    let here = steps::measure(fields, starts, shape, v);
-    !step.enabled | (!(step.action == 0) | (there < here))
+    let measure = steps::measure(fields, starts, shape, &here.state);
+    !step.enabled | (!(step.action == 0) | (there < measure))
 }
 
 fn holds6<'a>(
     fields: &'a limits::Fields,
     starts: &'a limits::Starts,
     shape: Shape,
-    v: &limits::Values,
-    t: &limits::Values,
+    here: Here,
     k: u16,
     sum: u16,
 ) -> bool
-    ensures { λ r. ⌜ r ≡ holds6In (now (fields .entry)) (now (starts .entry)) (countsOf shape) (now (v .entry)) (now (t .entry)) k sum ⌝ }
+    requires { ⌜ Known shape (designAt (now fields) (now starts) shape) here ⌝ }
+    ensures { λ r. ⌜ r ≡ ofImpl tests.holds6 (designAt (now (fields .entry)) (now (starts .entry)) shape) (here .state) k sum ⌝ }
 {
-    let step = steps::impl_step(fields, starts, shape, k, v, sum);
-    let row = steps::spec_row(fields, starts, shape, step.action);
-    let answer = steps::spec_step(fields, starts, shape, row, t, sum);
+    let step = steps::row_step(fields, starts, shape.implementation, k, &here.state, sum);
+    let row = steps::row_with(fields, starts, shape.specification, step.action);
+    let answer = steps::row_step(fields, starts, shape.specification, row, &here.mapped, sum);
     !step.enabled | ((step.action == 0) | answer.enabled)
 }
 
@@ -146,34 +156,33 @@ fn holds7<'a>(
     fields: &'a limits::Fields,
     starts: &'a limits::Starts,
     shape: Shape,
-    v: &limits::Values,
-    t: &limits::Values,
-    focus: bool,
+    here: Here,
     k: u16,
     sum: u16,
 ) -> bool
-    ensures { λ r. ⌜ r ≡ holds7In (now (fields .entry)) (now (starts .entry)) (countsOf shape) (now (v .entry)) (now (t .entry)) focus k sum ⌝ }
+    requires { ⌜ Known shape (designAt (now fields) (now starts) shape) here ⌝ }
+    ensures { λ r. ⌜ r ≡ ofSpec tests.holds7 (designAt (now (fields .entry)) (now (starts .entry)) shape) (here .state) k sum ⌝ }
 {
-    let step = steps::spec_step(fields, starts, shape, k, t, sum);
-    let row = steps::impl_row(fields, starts, shape, step.action);
-    let answer = steps::impl_step(fields, starts, shape, row, v, sum);
-    !focus | (!step.enabled | answer.enabled)
+    let step = steps::row_step(fields, starts, shape.specification, k, &here.mapped, sum);
+    let row = steps::row_with(fields, starts, shape.implementation, step.action);
+    let answer = steps::row_step(fields, starts, shape.implementation, row, &here.state, sum);
+    !here.focus | (!step.enabled | answer.enabled)
 }
 
 fn holds8<'a>(
     fields: &'a limits::Fields,
     starts: &'a limits::Starts,
     shape: Shape,
-    v: &limits::Values,
-    t: &limits::Values,
+    here: Here,
     k: u16,
     sum: u16,
 ) -> bool
-    ensures { λ r. ⌜ r ≡ holds8In (now (fields .entry)) (now (starts .entry)) (countsOf shape) (now (v .entry)) (now (t .entry)) k sum ⌝ }
+    requires { ⌜ Known shape (designAt (now fields) (now starts) shape) here ⌝ }
+    ensures { λ r. ⌜ r ≡ ofImpl tests.holds8 (designAt (now (fields .entry)) (now (starts .entry)) shape) (here .state) k sum ⌝ }
 {
-    let step = steps::impl_step(fields, starts, shape, k, v, sum);
-    let row = steps::spec_row(fields, starts, shape, step.action);
-    let other = steps::spec_step(fields, starts, shape, row, t, sum);
+    let step = steps::row_step(fields, starts, shape.implementation, k, &here.state, sum);
+    let row = steps::row_with(fields, starts, shape.specification, step.action);
+    let other = steps::row_step(fields, starts, shape.specification, row, &here.mapped, sum);
     !step.enabled | ((step.action == 0) | ((row == 0) | (step.carries == other.carries)))
 }
 
@@ -181,19 +190,19 @@ fn holds9<'a>(
     fields: &'a limits::Fields,
     starts: &'a limits::Starts,
     shape: Shape,
-    v: &limits::Values,
-    t: &limits::Values,
+    here: Here,
     k: u16,
     sum: u16,
 ) -> bool
-    ensures { λ r. ⌜ r ≡ holds9In (now (fields .entry)) (now (starts .entry)) (countsOf shape) (now (v .entry)) (now (t .entry)) k sum ⌝ }
+    requires { ⌜ Known shape (designAt (now fields) (now starts) shape) here ⌝ }
+    ensures { λ r. ⌜ r ≡ ofImpl tests.holds9 (designAt (now (fields .entry)) (now (starts .entry)) shape) (here .state) k sum ⌝ }
 {
-    let step = steps::impl_step(fields, starts, shape, k, v, sum);
-    let row = steps::spec_row(fields, starts, shape, step.action);
-    let answer = steps::spec_step(fields, starts, shape, row, t, sum);
+    let step = steps::row_step(fields, starts, shape.implementation, k, &here.state, sum);
+    let row = steps::row_with(fields, starts, shape.specification, step.action);
+    let answer = steps::row_step(fields, starts, shape.specification, row, &here.mapped, sum);
     let there = steps::mapped(fields, starts, shape, &step.next);
-    !step.enabled
-        | ((step.action == 0) | ((row == 0) | steps::same(shape.kind2, &there, &answer.next)))
+    let n = shape.specification.parameters.count;
+    !step.enabled | ((step.action == 0) | ((row == 0) | steps::same(n, &there, &answer.next)))
 }
 
 // ---- the lowest failure of a state
@@ -203,27 +212,26 @@ fn holds<'a>(
     fields: &'a limits::Fields,
     starts: &'a limits::Starts,
     shape: Shape,
-    v: &limits::Values,
-    t: &limits::Values,
-    focus: bool,
+    here: Here,
     n: u16,
     k: u16,
     sum: u16,
 ) -> bool
-    ensures { λ r. ⌜ r ≡ holdsIn (now (fields .entry)) (now (starts .entry)) (countsOf shape) (now (v .entry)) (now (t .entry)) focus n k sum ⌝ }
+    requires { ⌜ Known shape (designAt (now fields) (now starts) shape) here ⌝ }
+    ensures { λ r. ⌜ r ≡ holdsFor (designAt (now (fields .entry)) (now (starts .entry)) shape) (here .state) n k sum ⌝ }
 {
     match n {
-        3 => holds3(fields, starts, shape, v, k, sum),
-        4 => holds4(fields, starts, shape, v, t, k, sum),
-        5 => holds5(fields, starts, shape, v, k, sum),
-        6 => holds6(fields, starts, shape, v, t, k, sum),
-        7 => holds7(fields, starts, shape, v, t, focus, k, sum),
-        8 => holds8(fields, starts, shape, v, t, k, sum),
-        _ => holds9(fields, starts, shape, v, t, k, sum),
+        3 => holds3(fields, starts, shape, here, k, sum),
+        4 => holds4(fields, starts, shape, here, k, sum),
+        5 => holds5(fields, starts, shape, here, k, sum),
+        6 => holds6(fields, starts, shape, here, k, sum),
+        7 => holds7(fields, starts, shape, here, k, sum),
+        8 => holds8(fields, starts, shape, here, k, sum),
+        _ => holds9(fields, starts, shape, here, k, sum),
     }
 }
 
-// The span of row k, where the rows are those that criterion n is tried at.
+// The span of row k, where the rows are those that criterion n is tried at: in criterion 7 the specification's.
 fn span_for<'a>(
     fields: &'a limits::Fields,
     starts: &'a limits::Starts,
@@ -231,20 +239,24 @@ fn span_for<'a>(
     n: u16,
     k: u16,
 ) -> u16
-    ensures { λ r. ⌜ r ≡ spanIn (now (fields .entry)) (now (starts .entry)) (countsOf shape) n k ⌝ }
+    ensures { λ r. ⌜ r ≡ spanFor (designAt (now (fields .entry)) (now (starts .entry)) shape) n k ⌝ }
 {
     if n == 7 {
-        steps::spec_span(fields, starts, shape, k)
+        steps::row_span(fields, starts, shape.specification, k)
     } else {
-        steps::impl_span(fields, starts, shape, k)
+        steps::row_span(fields, starts, shape.implementation, k)
     }
 }
 
-// How many rows criterion n is tried at: in criterion 7 they are the specification's.
+// How many rows these are.
 fn rows_for(shape: Shape, n: u16) -> u8
-    ensures { λ r. ⌜ r ≡ rowsIn (countsOf shape) n ⌝ }
+    ensures { λ r. ⌜ r ≡ rowsFor shape n ⌝ }
 {
-    if n == 7 { shape.kind4 } else { shape.kind3 }
+    if n == 7 {
+        shape.specification.rows.count
+    } else {
+        shape.implementation.rows.count
+    }
 }
 
 // The first sum value of row k at which criterion n fails.
@@ -252,18 +264,17 @@ fn in_row<'a>(
     fields: &'a limits::Fields,
     starts: &'a limits::Starts,
     shape: Shape,
-    v: &limits::Values,
-    t: &limits::Values,
-    focus: bool,
+    here: Here,
     n: u16,
     k: u16,
 ) -> Finding
-    ensures { λ r. ⌜ toldPlace r ≡ inRowIn (now (fields .entry)) (now (starts .entry)) (countsOf shape) (now (v .entry)) (now (t .entry)) focus n k ⌝ }
+    requires { ⌜ Known shape (designAt (now fields) (now starts) shape) here ⌝ }
+    ensures { λ r. ⌜ toldPlace r ≡ inRow (designAt (now (fields .entry)) (now (starts .entry)) shape) (here .state) n k ⌝ }
 {
     let span = span_for(fields, starts, shape, n, k);
     let mut sum = 0;
     while sum < span {
-        if !holds(fields, starts, shape, v, t, focus, n, k, sum) {
+        if !holds(fields, starts, shape, here, n, k, sum) {
             return Finding::Found(Place {
                 criterion: n,
                 row: k,
@@ -280,17 +291,16 @@ fn in_rows<'a>(
     fields: &'a limits::Fields,
     starts: &'a limits::Starts,
     shape: Shape,
-    v: &limits::Values,
-    t: &limits::Values,
-    focus: bool,
+    here: Here,
     n: u16,
 ) -> Finding
-    ensures { λ r. ⌜ toldPlace r ≡ inRowsIn (now (fields .entry)) (now (starts .entry)) (countsOf shape) (now (v .entry)) (now (t .entry)) focus n ⌝ }
+    requires { ⌜ Known shape (designAt (now fields) (now starts) shape) here ⌝ }
+    ensures { λ r. ⌜ toldPlace r ≡ inRows shape (designAt (now (fields .entry)) (now (starts .entry)) shape) (here .state) n ⌝ }
 {
     let rows = rows_for(shape, n);
     let mut k = 0;
     while k <= rows as u16 {
-        let found = in_row(fields, starts, shape, v, t, focus, n, k);
+        let found = in_row(fields, starts, shape, here, n, k);
         if let Finding::Found(_) = found {
             return found;
         }
@@ -304,15 +314,14 @@ fn in_criteria<'a>(
     fields: &'a limits::Fields,
     starts: &'a limits::Starts,
     shape: Shape,
-    v: &limits::Values,
-    t: &limits::Values,
-    focus: bool,
+    here: Here,
 ) -> Finding
-    ensures { λ r. ⌜ toldPlace r ≡ inCriteriaIn (now (fields .entry)) (now (starts .entry)) (countsOf shape) (now (v .entry)) (now (t .entry)) focus ⌝ }
+    requires { ⌜ Known shape (designAt (now fields) (now starts) shape) here ⌝ }
+    ensures { λ r. ⌜ toldPlace r ≡ inCriteria shape (designAt (now (fields .entry)) (now (starts .entry)) shape) (here .state) ⌝ }
 {
     let mut n = 3;
     while n < 10 {
-        let found = in_rows(fields, starts, shape, v, t, focus, n);
+        let found = in_rows(fields, starts, shape, here, n);
         if let Finding::Found(_) = found {
             return found;
         }
@@ -321,23 +330,27 @@ fn in_criteria<'a>(
     Finding::Nothing
 }
 
-// The lowest failure at the state v, whose mapped state is t.
+// The lowest failure at the state v.
 pub fn lowest<'a>(
     fields: &'a limits::Fields,
     starts: &'a limits::Starts,
     shape: Shape,
-    v: &limits::Values,
-    t: &limits::Values,
+    v: limits::Values,
 ) -> Finding
-    ensures { λ r. ⌜ toldPlace r ≡ searchIn (now (fields .entry)) (now (starts .entry)) (countsOf shape) (now (v .entry)) (now (t .entry)) ⌝ }
+    requires { ⌜ Fits shape ⌝ }
+    ensures { λ r. ⌜ toldPlace r ≡ firstFailing (designAt (now (fields .entry)) (now (starts .entry)) shape) v ⌝ }
 {
-    if !holds2(fields, starts, shape, t) {
+    let here = Here {
+        state: v,
+        mapped: steps::mapped(fields, starts, shape, &v),
+        focus: focus(fields, starts, shape, &v),
+    };
+    if !holds2(fields, starts, shape, here) {
         return Finding::Found(Place {
             criterion: 2,
             row: 0,
             sum: 0,
         });
     }
-    let quiet = focus(fields, starts, shape, v);
-    in_criteria(fields, starts, shape, v, t, quiet)
+    in_criteria(fields, starts, shape, here)
 }

@@ -9,19 +9,22 @@ use native.Mathlib.Decide.{decLt, decLe}
 use native.Mathlib.Omega.{arith}
 use lib.ListN.{length, getD, drop, replicate, length-map, getD-replicate, List·getD-append, List·getD-eq-default}
 use lib.Seq.{sets-eq, getD-append-add, getD-drop}
+use Rattle.foundation.specs.Nth.{EachIs}
 use Rattle.foundation.specs.Radix.{product, belowB, sameB, valuesOf}
+use Rattle.foundation.proofs.Nth.{nth-nil, nth-cons}
 use Rattle.foundation.proofs.Radix.{from-the-last}
-use Rattle.criteria.specs.Design.{Row, sizes, initialState, mapped}
+use Rattle.criteria.specs.Design.{Row, sizes, initialState, mapped, measureAt}
+use Rattle.criteria.specs.Step.{nextState}
 use Rattle.criteria.specs.Rows.{noRow, rowAt}
 use Rattle.decision.specs.Tests.{invariantB, invariantStateB}
-use Rattle.decision.proofs.Alike.{formula-alike}
+use Rattle.decision.proofs.Alike.{value-alike, formula-alike, values-alike}
 use Rattle.design.specs.Line as line
 use Rattle.design.specs.Line.{valuesIn}
-use Rattle.design.specs.Loaded.{lineFrom, processIn, designAt}
+use Rattle.design.specs.Loaded.{lineFrom, eachLine, processIn, designAt}
 use Rattle.design.specs.declared.Process.{Process}
 use Rattle.design.specs.declared.Shape.{Shape}
 use Rattle.layout.specs.Sizes.{FitsIn, Fits}
-use Rattle.steps.specs.Arrays.{padded, front, stateIn, belowIn, sameIn, invariantIn, insideIn}
+use Rattle.steps.specs.Arrays.{padded, front, stepOf, stateIn, belowIn, sameIn, invariantIn, insideIn, mappedIn, measureIn}
 use Rattle.steps.proofs.Arrays.{each-length, row-there, row-past}
 
 -- ---- an array that holds a state
@@ -52,6 +55,15 @@ module _ (x : List ℕ) (short : length x ≤ 8) where
       go : Dec (i < length x) → getD (x ++ rest) i 0 ≡ getD x i 0
       go (yes l) = List·getD-append x rest 0 i l
       go (no l) = let e : length x + (i - length x) ≡ i = omega arith in past (i - length x) e
+
+  pub step-held : (r : Row) (e : ℕ) → stepOf r (padded x) e ≡ stepOf r x e
+  unfolding stepOf
+  step-held r e =
+      rw (
+        formula-alike (padded x) x same-values (r .condition) e,
+        value-alike (padded x) x same-values (r .carries) e,
+        values-alike (padded x) x same-values (r .next) e,
+      )
 
 -- its first values are the state's
 front-later : (n i a : ℕ) (x : List ℕ) → front n (suc i) (a ∷ x) ≡ front n i x
@@ -88,6 +100,11 @@ unfolding valuesOf
 values-length [] n = refl
 values-length (z ∷ zs) n = ap suc (values-length zs (n % product zs))
 
+lines-length : (f s : List ℕ) (m n i : ℕ) → EachIs (eachLine (line.rowOf m) (lineFrom f s) n i) (λ r. length (r .next) ≡ m)
+unfolding eachLine
+lines-length f s m zero i k r is = absurd (nth-nil is)
+lines-length f s m (suc n) i k r is = nth-cons (λ r. length (r .next) ≡ m) (in-length m _) (lines-length f s m n (suc i)) k r is
+
 module _ (f s : List ℕ) (p : Process) where
   pub rows-count : length (processIn f s p .rows) ≡ p .rows .count
   rows-count = each-length (line.rowOf (p .parameters .count)) (lineFrom f s) (p .rows .count) (p .rows .first)
@@ -101,7 +118,10 @@ module _ (f s : List ℕ) (p : Process) where
   pub state-length : (k : ℕ) → length (valuesOf (sizes (processIn f s p)) k) ≡ p .parameters .count
   state-length k = values-length (sizes (processIn f s p)) k ∙ sizes-length
 
-  -- row number k is one with a next value for each parameter, or there is none
+  -- each row has a next value for each parameter; row number k is one, or there is none
+  pub rows-length : EachIs (processIn f s p .rows) (λ r. length (r .next) ≡ p .parameters .count)
+  rows-length = lines-length f s (p .parameters .count) (p .rows .count) (p .rows .first)
+
   pub next-length : (k : ℕ) → (length (rowAt (processIn f s p .rows) k .next) ≡ p .parameters .count) ⊎ (rowAt (processIn f s p .rows) k ≡ noRow)
   next-length zero = inr refl
   next-length (suc k) = go (decLe (suc k) (p .rows .count))
@@ -109,6 +129,14 @@ module _ (f s : List ℕ) (p : Process) where
       go : Dec (suc k ≤ p .rows .count) → (length (rowAt (processIn f s p .rows) (suc k) .next) ≡ p .parameters .count) ⊎ (rowAt (processIn f s p .rows) (suc k) ≡ noRow)
       go (yes l) = inl (ap (λ (r : Row). length (r .next)) (row-there f s p (suc k) (omega arith) l) ∙ in-length (p .parameters .count) _)
       go (no l) = inr (row-past f s p (suc k) (omega arith))
+
+  pub next-short : FitsIn p → (k : ℕ) (v : List ℕ) (e : ℕ) → length (nextState (rowAt (processIn f s p .rows) k) v e) ≤ 8
+  next-short fits k v e = rw (length-map (rowAt (processIn f s p .rows) k .next) _) (go (next-length k))
+    where
+      go : (length (rowAt (processIn f s p .rows) k .next) ≡ p .parameters .count) ⊎ (rowAt (processIn f s p .rows) k ≡ noRow)
+          → length (rowAt (processIn f s p .rows) k .next) ≤ 8
+      go (inl m) = rw m (fits .parameters)
+      go (inr m) = rw m (omega arith)
 
   -- the array of a number holds the state that has it
   pub state-held : FitsIn p → (k : ℕ) → k < product (sizes (processIn f s p)) → stateIn f s p k ≡ padded (valuesOf (sizes (processIn f s p)) k)
@@ -131,6 +159,14 @@ module _ (f s : List ℕ) (h : Shape) where
   pub invariant-held : (x : List ℕ) → length x ≤ 8 → invariantIn f s h (padded x) ≡ invariantB (designAt f s h) x
   unfolding invariantIn
   invariant-held x short = formula-alike (padded x) x (same-values x short) (designAt f s h .invariant) 0
+
+  pub mapped-held : (x : List ℕ) → length x ≤ 8 → mappedIn f s h (padded x) ≡ padded (mapped (designAt f s h) x)
+  unfolding mappedIn
+  mapped-held x short = ap padded (values-alike (padded x) x (same-values x short) (designAt f s h .mapping) 0)
+
+  pub measure-held : (x : List ℕ) → length x ≤ 8 → measureIn f s h (padded x) ≡ measureAt (designAt f s h) x
+  unfolding measureIn
+  measure-held x short = value-alike (padded x) x (same-values x short) (designAt f s h .measure) 0
 
   pub inside-held : Fits h → (x : List ℕ) → length x ≡ h .implementation .parameters .count → insideIn f s h (padded x) ≡ invariantStateB (designAt f s h) x
   unfolding insideIn

@@ -1,18 +1,18 @@
 -- What is left of the rows gives the whole.
 use borrow.Author.Needs.{needs}
-use Rattle.lowest.proofs.Tests as laws
 use mathlib.Core.Path.{_≡_}
 use Prim.Native.Nat.{suc, _-_}
-use Rattle.layout.specs.Sizes.{countsOf}
-use Rattle.lowest.specs.Tests.{focusIn}
+use Rattle.decision.specs.Tests.{focusB}
+use Rattle.design.specs.Loaded.{designAt}
+use Rattle.lowest.proofs.Tests as laws
 use Rattle.lowest.proofs.focus.Statement.{statement}
 use Rattle.lowest.proofs.focus.Tie as tie
 
 abbrev Inv-loop : tie.InvT-loop
-Inv-loop fields starts shape v rows k₀ k = laws.focusLeft fields starts v (countsOf shape) k ≡ focusIn fields starts (countsOf shape) v
+Inv-loop fields starts shape v k₀ k = laws.focusLeft fields starts shape v k ≡ focusB (designAt fields starts shape) v
 
 abbrev μ-loop : tie.MeasureT-loop
-μ-loop fields starts shape v rows k₀ k = suc rows - k
+μ-loop fields starts shape v k₀ k = suc (shape .implementation .rows .count) - k
 
 pub focus-spec : {M : Type 1} → statement M
 focus-spec =

@@ -1,18 +1,18 @@
 -- What is left of the criteria gives the whole.
 use borrow.Author.Needs.{needs}
-use Rattle.lowest.proofs.Search as laws
 use mathlib.Core.Path.{_≡_}
 use Prim.Native.Nat.{_-_}
-use Rattle.layout.specs.Sizes.{countsOf}
-use Rattle.lowest.specs.Search.{inCriteriaIn}
+use Rattle.design.specs.Loaded.{designAt}
+use Rattle.lowest.specs.Search.{inCriteria}
+use Rattle.lowest.proofs.Search as laws
 use Rattle.lowest.proofs.in_criteria.Statement.{statement}
 use Rattle.lowest.proofs.in_criteria.Tie as tie
 
 abbrev Inv-loop : tie.InvT-loop
-Inv-loop fields starts shape v t focus n₀ n = laws.criteriaLeft fields starts v t (countsOf shape) focus n ≡ inCriteriaIn fields starts (countsOf shape) v t focus
+Inv-loop fields starts shape here n₀ n = laws.criteriaLeft (designAt fields starts shape) (here .state) shape n ≡ inCriteria shape (designAt fields starts shape) (here .state)
 
 abbrev μ-loop : tie.MeasureT-loop
-μ-loop fields starts shape v t focus n₀ n = 10 - n
+μ-loop fields starts shape here n₀ n = 10 - n
 
 pub in-criteria-spec : {M : Type 1} → statement M
 in-criteria-spec =

@@ -1,18 +1,18 @@
 -- What is left of the row gives the whole.
 use borrow.Author.Needs.{needs}
-use Rattle.lowest.proofs.Search as laws
 use mathlib.Core.Path.{_≡_}
 use Prim.Native.Nat.{_-_}
-use Rattle.layout.specs.Sizes.{countsOf}
-use Rattle.lowest.specs.Search.{inRowIn}
+use Rattle.design.specs.Loaded.{designAt}
+use Rattle.lowest.specs.Search.{inRow}
+use Rattle.lowest.proofs.Search as laws
 use Rattle.lowest.proofs.in_row.Statement.{statement}
 use Rattle.lowest.proofs.in_row.Tie as tie
 
 abbrev Inv-loop : tie.InvT-loop
-Inv-loop fields starts shape v t focus n k span sum₀ sum = laws.sumsLeft fields starts v t (countsOf shape) focus n k span sum ≡ inRowIn fields starts (countsOf shape) v t focus n k
+Inv-loop fields starts shape here n k span sum₀ sum = laws.sumsLeft (designAt fields starts shape) (here .state) n k span sum ≡ inRow (designAt fields starts shape) (here .state) n k
 
 abbrev μ-loop : tie.MeasureT-loop
-μ-loop fields starts shape v t focus n k span sum₀ sum = span - sum
+μ-loop fields starts shape here n k span sum₀ sum = span - sum
 
 pub in-row-spec : {M : Type 1} → statement M
 in-row-spec =

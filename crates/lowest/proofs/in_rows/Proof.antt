@@ -1,18 +1,18 @@
 -- What is left of the rows gives the whole.
 use borrow.Author.Needs.{needs}
-use Rattle.lowest.proofs.Search as laws
 use mathlib.Core.Path.{_≡_}
 use Prim.Native.Nat.{suc, _-_}
-use Rattle.layout.specs.Sizes.{countsOf}
-use Rattle.lowest.specs.Search.{inRowsIn}
+use Rattle.design.specs.Loaded.{designAt}
+use Rattle.lowest.specs.Search.{inRows}
+use Rattle.lowest.proofs.Search as laws
 use Rattle.lowest.proofs.in_rows.Statement.{statement}
 use Rattle.lowest.proofs.in_rows.Tie as tie
 
 abbrev Inv-loop : tie.InvT-loop
-Inv-loop fields starts shape v t focus n rows k₀ k = laws.rowsLeft fields starts v t (countsOf shape) focus n rows k ≡ inRowsIn fields starts (countsOf shape) v t focus n
+Inv-loop fields starts shape here n rows k₀ k = laws.rowsLeft (designAt fields starts shape) (here .state) shape n rows k ≡ inRows shape (designAt fields starts shape) (here .state) n
 
 abbrev μ-loop : tie.MeasureT-loop
-μ-loop fields starts shape v t focus n rows k₀ k = suc rows - k
+μ-loop fields starts shape here n rows k₀ k = suc rows - k
 
 pub in-rows-spec : {M : Type 1} → statement M
 in-rows-spec =

@@ -9,7 +9,8 @@ lowest-spec =
     tie.close
     (tie.spec
     (λ c κs. search needs)
+    (λ c κs. search needs)
+    (λ c κs. search laws.knows)
     (λ c. search laws.second-fails)
-    (λ c κs. search needs)
-    (λ c κs. search needs)
+    (λ c κs. search laws.knows)
     (λ c. search laws.second-holds))

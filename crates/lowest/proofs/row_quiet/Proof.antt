@@ -1,18 +1,18 @@
 -- What is left of the row gives the whole.
 use borrow.Author.Needs.{needs}
-use Rattle.lowest.proofs.Tests as laws
 use mathlib.Core.Path.{_≡_}
 use Prim.Native.Nat.{_-_}
-use Rattle.layout.specs.Sizes.{countsOf}
-use Rattle.lowest.specs.Tests.{rowQuiet}
+use Rattle.design.specs.Loaded.{designAt}
+use Rattle.lowest.specs.Search.{quietIn}
+use Rattle.lowest.proofs.Tests as laws
 use Rattle.lowest.proofs.row_quiet.Statement.{statement}
 use Rattle.lowest.proofs.row_quiet.Tie as tie
 
 abbrev Inv-loop : tie.InvT-loop
-Inv-loop fields starts shape k v span sum₀ sum = laws.quietLeft fields starts v (countsOf shape) k span sum ≡ rowQuiet fields starts (countsOf shape) v k
+Inv-loop fields starts shape v k span sum₀ sum = laws.quietLeft fields starts shape v k span sum ≡ quietIn (designAt fields starts shape) v k
 
 abbrev μ-loop : tie.MeasureT-loop
-μ-loop fields starts shape k v span sum₀ sum = span - sum
+μ-loop fields starts shape v k span sum₀ sum = span - sum
 
 pub row-quiet-spec : {M : Type 1} → statement M
 row-quiet-spec =

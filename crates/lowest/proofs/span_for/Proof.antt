@@ -1,4 +1,4 @@
--- The rows of one process or the other.
+-- The specification's in criterion 7.
 use borrow.Author.Needs.{needs}
 use Rattle.lowest.proofs.Search as laws
 use Rattle.lowest.proofs.span_for.Statement.{statement}
