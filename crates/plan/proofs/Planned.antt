@@ -1,25 +1,29 @@
--- What the functions that make the plan return, as specs/Plan says it, and the turns of their loops.
+-- What the functions that make the plan return, as specs/Plan says it, and the turns of their loops; and that an entry of the plan of a
+-- design is that of its row.
 use mathlib.Core.Path.{_≡_, refl, sym, _∙_, ap}
-use mathlib.Core.Bool.{Bool, true, false, not, _&&_, _||_}
-use mathlib.Core.List.{List, _++_, append-nil}
-use Prim.Native.Nat.{ℕ, zero, suc, _+_, _-_, _*_, _≤_, _<_, _%_, _/_}
+use mathlib.Core.Bool.{Bool, true, false, not, _&&_}
+use mathlib.Core.List.{List, _∷_, _++_, append-nil}
+use Prim.Native.Nat.{ℕ, zero, suc, _+_, _-_, _*_, _≤_, _<_}
 use native.Mathlib.Numerals.{add-one}
 use native.Mathlib.Omega.{arith}
-use borrow.Author.Tests.{not-true, not-false, ne-eqb, le-leb}
-use lib.Dec.{leb}
+use borrow.Author.Tests.{not-true, not-false, ne-eqb, le-leb, lt-leb, lt-ltb, le-ltb}
+use lib.Dec.{eqb}
 use lib.ListN.{length, getD, drop, set, replicate, length-replicate, drop-of-length-le}
 use lib.Seq.{sets, sets-eq}
 use Rattle.foundation.specs.Nth.{eachB}
-use Rattle.terms.specs.Tree.{Value}
+use Rattle.terms.specs.Tree.{Value, pick}
 use Rattle.terms.specs.Read.{readV, readF}
 use Rattle.terms.proofs.Read.{place}
 use Rattle.sum_free.specs.SumFree.{sumFreeV, sumFreeF, foundV, foundF}
 use Rattle.sum_free.specs.declared.Found.{Found}
+use Rattle.criteria.specs.Design.{Row}
 use Rattle.design.specs.Line.{rowOf, valuesIn}
-use Rattle.design.specs.declared.Counts.{Counts}
-use Rattle.steps.specs.Arrays.{implLine, specLine, implRow, specRow}
+use Rattle.design.specs.declared.Process.{Process}
+use Rattle.design.specs.declared.Shape.{Shape}
+use Rattle.steps.specs.Arrays.{lineOf, rowWith}
 use Rattle.conjuncts.specs.Conjuncts.{frontOf}
-use Rattle.plan.specs.Plan.{implBy, specBy, implAt, specAt, valuesFree, conditionFree, rowFree, specFree, implFree, looksOf, flagOf, implPartner, implLooks, implFlag, specPartner, specLooks, specFlag, implFront, specFront, entryOf, isRow, entryIn, entriesFrom, planIn}
+use Rattle.plan.specs.Plan.{rowBy, partnerBy, valuesFree, freeOf, partnerFree, looksOf, entryOf, noEntry, entryIn, entryFor, flagOf, entriesFrom, planIn, entryAt}
+use Rattle.plan.specs.declared.Entry.{Entry}
 
 -- ---- terms that do not read the sum value
 
@@ -50,31 +54,32 @@ module _ (f : List ℕ) (at n : ℕ) where
       go : true ≡ freeLeft p i
       go = let e : n - i ≡ 0 = omega arith in rw e
 
-pub row-free-is : (f : List ℕ) (line n : ℕ) (h x : Found) (b : Bool) → h ≡ foundF (line + 3) (readF 32 (drop (line + 3) f))
-    → x ≡ foundV (h .next) (readV 32 (drop (h .next) f)) → b ≡ valuesFree f (x .next) n → h .free && (x .free && b) ≡ rowFree (rowOf n (drop line f))
-unfolding rowFree valuesFree
-row-free-is f line n h x b eh ex eb = rw (place f line 3 refl, eb, ex, eh, place f (line + 3) _ refl, place f (line + 3 + _) _ refl)
+and-true : (a : Bool) → a && true ≡ a
+and-true true = refl
+and-true false = refl
 
-pub condition-free-is : (f : List ℕ) (line : ℕ) (h : Found) → h ≡ foundF (line + 3) (readF 32 (drop (line + 3) f)) → h .free ≡ conditionFree f line
-unfolding conditionFree
-condition-free-is f line h eh = rw (place f line 3 refl, eh)
+module _ (f : List ℕ) (line n : ℕ) (whole : Bool) (h : Found) (eh : h ≡ foundF (line + 3) (readF 32 (drop (line + 3) f))) where
+  pub condition-free-is : not whole ≡ true → h .free ≡ freeOf whole (rowOf n (drop line f))
+  unfolding freeOf
+  condition-free-is w = rw (not-true whole w, place f line 3 refl, eh) (sym (and-true _))
 
-module _ (f s : List ℕ) (c : Counts) (k : ℕ) where
-  pub spec-free-none : k ≡ 0 → true ≡ specFree f s c k
-  unfolding specFree specAt rowFree sumFreeF
-  spec-free-none z = rw z
+  pub row-free-is : (x : Found) (b : Bool) → not whole ≡ false → x ≡ foundV (h .next) (readV 32 (drop (h .next) f)) → b ≡ valuesFree f (x .next) n
+      → h .free && (x .free && b) ≡ freeOf whole (rowOf n (drop line f))
+  unfolding freeOf valuesFree
+  row-free-is x b w ex eb = rw (not-false whole w, place f line 3 refl, eb, ex, eh, place f (line + 3) _ refl, place f (line + 3 + _) _ refl)
 
-  pub spec-free-is : (line : ℕ) (r : Bool) → (k ≡ 0 → ⊥) → line ≡ specLine s c k → r ≡ rowFree (rowOf (c .kind2) (drop line f)) → r ≡ specFree f s c k
-  unfolding specFree specAt specBy
-  spec-free-is line r p el er = er ∙ rw (ne-eqb k 0 p, el)
+module _ (f s : List ℕ) (p : Process) (k : ℕ) (whole : Bool) where
+  pub partner-free-none : k ≡ 0 → true ≡ partnerFree f s p k whole
+  unfolding partnerFree partnerBy freeOf sumFreeF
+  partner-free-none z = rw z (go whole)
+    where
+      go : (b : Bool) → true ≡ freeOf b (partnerBy f s p 0)
+      go true = refl
+      go false = refl
 
-  pub impl-free-none : k ≡ 0 → true ≡ implFree f s c k
-  unfolding implFree implAt sumFreeF
-  impl-free-none z = rw z
-
-  pub impl-free-is : (line : ℕ) (r : Bool) → (k ≡ 0 → ⊥) → line ≡ implLine s c k → r ≡ conditionFree f line → r ≡ implFree f s c k
-  unfolding implFree implAt implBy conditionFree
-  impl-free-is line r p el er = er ∙ rw (ne-eqb k 0 p, el)
+  pub partner-free-is : (line : ℕ) (r : Bool) → (k ≡ 0 → ⊥) → line ≡ lineOf s p k → r ≡ freeOf whole (rowOf (p .parameters .count) (drop line f)) → r ≡ partnerFree f s p k whole
+  unfolding partnerFree partnerBy rowBy
+  partner-free-is line r some el er = er ∙ rw (ne-eqb k 0 some, el)
 
 -- ---- looks and flags
 
@@ -102,100 +107,52 @@ module _ (b : Bool) where
 
 -- ---- the entries
 
-module _ (f s : List ℕ) (c : Counts) (k line : ℕ) where
-  pub impl-partner-is : (a r : ℕ) → line ≡ implLine s c k → a ≡ getD (drop line f) 1 0 → r ≡ specRow f s c a → r ≡ implPartner f s c k
-  unfolding implPartner
-  impl-partner-is a r el ea er = er ∙ rw (ea, el)
+only-condition : (r : Row) → freeOf false r ≡ sumFreeF (r .condition)
+unfolding freeOf
+only-condition r = and-true (sumFreeF (r .condition))
 
-  pub impl-looks-is : (j z r : ℕ) (a b : Bool) → line ≡ implLine s c k → j ≡ implPartner f s c k → a ≡ rowFree (rowOf (c .kind1) (drop line f))
-      → b ≡ specFree f s c j → z ≡ getD (drop line f) 2 0 → r ≡ looksOf (a && b) z → r ≡ implLooks f s c k
-  unfolding implLooks
-  impl-looks-is j z r a b el ej ea eb ez er = er ∙ rw (ea, eb, ez, ej, el)
+pub entry-is : (f s : List ℕ) (p o : Process) (whole : Bool) (k line a z j n l : ℕ) (b c free : Bool) → line ≡ lineOf s p k → a ≡ getD (drop line f) 1 0 → z ≡ getD (drop line f) 2 0
+    → j ≡ rowWith f s o a → b ≡ freeOf whole (rowOf (p .parameters .count) (drop line f)) → c ≡ partnerFree f s o j whole → n ≡ looksOf (b && c) z
+    → free ≡ freeOf false (rowOf (p .parameters .count) (drop line f)) → l ≡ frontOf f (line + 3) 32
+    → record { partner = j; looks = n; free = free; front = l } ≡ entryOf f s p o whole k
+unfolding entryOf rowBy
+entry-is f s p o whole k line a z j n l b c free el ea ez ej eb ec en ef ew =
+    let e = ef ∙ only-condition (rowOf (p .parameters .count) (drop line f)) in
+    rw (e, en, eb, ec, ej, ea, ez, ew, el)
 
-  pub impl-flag-is : (b : Bool) (r : ℕ) → line ≡ implLine s c k → b ≡ conditionFree f line → r ≡ flagOf b → r ≡ implFlag f s c k
-  unfolding implFlag
-  impl-flag-is b r el eb er = er ∙ rw (eb, el)
+module _ (f s : List ℕ) (p o : Process) (whole : Bool) (k : ℕ) where
+  pub entry-there : (r : Entry) → k ≤ p .rows .count → r ≡ entryOf f s p o whole k → r ≡ entryIn f s p o whole k
+  unfolding entryIn
+  entry-there r l er = er ∙ rw (le-leb k (p .rows .count) l)
 
-  pub spec-partner-is : (a r : ℕ) → line ≡ specLine s c k → a ≡ getD (drop line f) 1 0 → r ≡ implRow f s c a → r ≡ specPartner f s c k
-  unfolding specPartner
-  spec-partner-is a r el ea er = er ∙ rw (ea, el)
+  pub entry-past : p .rows .count < k → noEntry ≡ entryIn f s p o whole k
+  unfolding entryIn
+  entry-past l = rw (lt-leb k (p .rows .count) l)
 
-  pub spec-looks-is : (j z r : ℕ) (a b : Bool) → line ≡ specLine s c k → j ≡ specPartner f s c k → a ≡ conditionFree f line
-      → b ≡ implFree f s c j → z ≡ getD (drop line f) 2 0 → r ≡ looksOf (a && b) z → r ≡ specLooks f s c k
-  unfolding specLooks
-  spec-looks-is j z r a b el ej ea eb ez er = er ∙ rw (ea, eb, ez, ej, el)
+module _ (f s : List ℕ) (h : Shape) (i : ℕ) (r : Entry) where
+  pub of-implementation : i < 32 → r ≡ entryIn f s (h .implementation) (h .specification) true (i + 1) → r ≡ entryFor f s h i
+  unfolding entryFor
+  of-implementation l er = er ∙ rw (lt-ltb i 32 l)
 
-  pub spec-flag-is : (b : Bool) (r : ℕ) → line ≡ specLine s c k → b ≡ conditionFree f line → r ≡ flagOf b → r ≡ specFlag f s c k
-  unfolding specFlag
-  spec-flag-is b r el eb er = er ∙ rw (eb, el)
-
-module _ (f s : List ℕ) (c : Counts) (k line r : ℕ) where
-  pub impl-front-is : line ≡ implLine s c k → r ≡ frontOf f (line + 3) 32 → r ≡ implFront f s c k
-  unfolding implFront
-  impl-front-is el er = er ∙ rw el
-
-  pub spec-front-is : line ≡ specLine s c k → r ≡ frontOf f (line + 3) 32 → r ≡ specFront f s c k
-  unfolding specFront
-  spec-front-is el er = er ∙ rw el
-
-module _ (f s : List ℕ) (c : Counts) (w k r : ℕ) where
-  pub sort0 : w ≡ 0 → r ≡ implPartner f s c k → r ≡ entryOf f s c w k
-  unfolding entryOf
-  sort0 h er = er ∙ rw h
-
-  pub sort1 : w ≡ 1 → r ≡ implLooks f s c k → r ≡ entryOf f s c w k
-  unfolding entryOf
-  sort1 h er = er ∙ rw h
-
-  pub sort2 : w ≡ 2 → r ≡ implFlag f s c k → r ≡ entryOf f s c w k
-  unfolding entryOf
-  sort2 h er = er ∙ rw h
-
-  pub sort3 : w ≡ 3 → r ≡ specPartner f s c k → r ≡ entryOf f s c w k
-  unfolding entryOf
-  sort3 h er = er ∙ rw h
-
-  pub sort4 : w ≡ 4 → r ≡ specLooks f s c k → r ≡ entryOf f s c w k
-  unfolding entryOf
-  sort4 h er = er ∙ rw h
-
-  pub sort5 : w ≡ 5 → r ≡ specFlag f s c k → r ≡ entryOf f s c w k
-  unfolding entryOf
-  sort5 h er = er ∙ rw h
-
-  pub sort6 : w ≡ 6 → r ≡ implFront f s c k → r ≡ entryOf f s c w k
-  unfolding entryOf
-  sort6 h er = er ∙ rw h
-
-  pub sort7 : (w ≡ 0 → ⊥) → (w ≡ 1 → ⊥) → (w ≡ 2 → ⊥) → (w ≡ 3 → ⊥) → (w ≡ 4 → ⊥) → (w ≡ 5 → ⊥) → (w ≡ 6 → ⊥) → r ≡ specFront f s c k → r ≡ entryOf f s c w k
-  unfolding entryOf
-  sort7 h0 h1 h2 h3 h4 h5 h6 er =
-      er ∙ simp (ne-eqb w 0 h0, ne-eqb w 1 h1, ne-eqb w 2 h2, ne-eqb w 3 h3, ne-eqb w 4 h4, ne-eqb w 5 h5, ne-eqb w 6 h6)
-
-module _ (f s : List ℕ) (c : Counts) (w k : ℕ) where
-  pub entry-there : (r : ℕ) → leb k (c .kind3) || leb k (c .kind4) ≡ true → r ≡ entryOf f s c w k → r ≡ entryIn f s c w k
-  unfolding entryIn isRow
-  entry-there r h er = er ∙ rw h
-
-  pub entry-past : leb k (c .kind3) || leb k (c .kind4) ≡ false → 0 ≡ entryIn f s c w k
-  unfolding entryIn isRow
-  entry-past h = rw h
+  pub of-specification : 32 ≤ i → r ≡ entryIn f s (h .specification) (h .implementation) false (i - 32 + 1) → r ≡ entryFor f s h i
+  unfolding entryFor
+  of-specification l er = er ∙ rw (le-ltb i 32 l)
 
 -- ---- all of them, one after the other
 
-module _ (f s : List ℕ) (c : Counts) where
+module _ (f s : List ℕ) (h : Shape) where
   unfoldable pub planLeft : List ℕ → ℕ → List ℕ
-  planLeft w i = sets w i (entriesFrom f s c (256 - i) i)
+  planLeft w i = sets w (4 * i) (entriesFrom f s h (64 - i) i)
 
-  entries-length : (n i : ℕ) → length (entriesFrom f s c n i) ≡ n
+  entries-length : (n i : ℕ) → length (entriesFrom f s h n i) ≡ 4 * n
   unfolding entriesFrom
   entries-length zero i = refl
-  entries-length (suc n) i = ap suc (entries-length n (suc i))
+  entries-length (suc n) i = rw (entries-length n (suc i)) (omega arith)
 
   -- a full array: nothing of what it held before is left
-  pub plan-begin : planLeft (replicate 256 0) 0 ≡ planIn f s c
+  pub plan-begin : planLeft (replicate 256 0) 0 ≡ planIn f s h
   unfolding planLeft planIn
-  plan-begin = all-stored (entriesFrom f s c 256 0) (entries-length 256 0)
+  plan-begin = all-stored (entriesFrom f s h 64 0) (entries-length 64 0)
     where
       all-stored : (vs : List ℕ) → length vs ≡ 256 → sets (replicate 256 0) 0 vs ≡ vs
       all-stored vs e =
@@ -203,45 +160,59 @@ module _ (f s : List ℕ) (c : Counts) where
           let u : length (replicate {A = ℕ} 256 0) ≤ 0 + length vs = omega (arith, length-replicate {A = ℕ} 256 0) in
           sets-eq vs (replicate 256 0) 0 l ∙ ap (λ r. vs ++ r) (drop-of-length-le (replicate 256 0) u) ∙ append-nil vs
 
-  pub plan-turn : (w : List ℕ) (i r : ℕ) → i < 256 → r ≡ entryIn f s c (i / 32) (i % 32 + 1) → planLeft w i ≡ planIn f s c → planLeft (set w i r) (i + 1) ≡ planIn f s c
+  pub plan-turn : (w : List ℕ) (i at x : ℕ) (e : Entry) → i < 64 → at ≡ 4 * i → e ≡ entryFor f s h i → x ≡ flagOf (e .free) → planLeft w i ≡ planIn f s h
+      → planLeft (set (set (set (set w at (e .partner)) (at + 1) (e .looks)) (at + 2) x) (at + 3) (e .front)) (i + 1) ≡ planIn f s h
   unfolding planLeft entriesFrom
-  plan-turn w i r l er inv = go ∙ inv
+  plan-turn w i at x e l ea ee ex inv = go ∙ inv
     where
-      go : planLeft (set w i r) (i + 1) ≡ planLeft w i
-      go = let e : 256 - i ≡ suc (256 - (i + 1)) = omega arith in rw (e, er, add-one i)
+      go : planLeft (set (set (set (set w at (e .partner)) (at + 1) (e .looks)) (at + 2) x) (at + 3) (e .front)) (i + 1) ≡ planLeft w i
+      go =
+          let n : 64 - i ≡ suc (64 - (i + 1)) = omega arith in
+          let k1 : 4 * i + 1 ≡ suc (4 * i) = omega arith in
+          let k2 : 4 * i + 2 ≡ suc (suc (4 * i)) = omega arith in
+          let k3 : 4 * i + 3 ≡ suc (suc (suc (4 * i))) = omega arith in
+          let k4 : 4 * (i + 1) ≡ suc (suc (suc (suc (4 * i)))) = omega arith in
+          rw (n, ex, ee, ea, k1, k2, k3, k4, add-one i)
 
-  pub plan-end : (w : List ℕ) (i : ℕ) → 256 ≤ i → planLeft w i ≡ planIn f s c → w ≡ planIn f s c
+  pub plan-end : (w : List ℕ) (i : ℕ) → 64 ≤ i → planLeft w i ≡ planIn f s h → w ≡ planIn f s h
   unfolding planLeft entriesFrom
   plan-end w i l inv = go ∙ inv
     where
       go : w ≡ planLeft w i
-      go = let e : 256 - i ≡ 0 = omega arith in rw e
+      go = let e : 64 - i ≡ 0 = omega arith in rw e
 
--- ---- an entry of a row that is there
+-- ---- the entries of a plan
 
-module _ (f s : List ℕ) (c : Counts) where
-  entry-at : (n i k : ℕ) → k < n → getD (entriesFrom f s c n i) k 0 ≡ entryIn f s c ((i + k) / 32) ((i + k) % 32 + 1)
-  unfolding entriesFrom
-  entry-at zero i k l = absurd (omega arith)
-  entry-at (suc n) i zero l = let e : i + 0 ≡ i = omega arith in rw e
-  entry-at (suc n) i (suc k) l = let e : suc i + k ≡ i + suc k = omega arith in entry-at n (suc i) k (omega arith) ∙ rw e
+flag-is : (b : Bool) → eqb (flagOf b) 1 ≡ b
+unfolding flagOf
+flag-is true = refl
+flag-is false = refl
 
-  pub plan-at : (w i k : ℕ) → i < 32 → w < 8 → k ≡ w * 32 + i → isRow c (i + 1) ≡ true → getD (planIn f s c) k 0 ≡ entryOf f s c w (i + 1)
-  unfolding planIn entryIn
-  plan-at w i k l u e there =
-      let q : (0 + k) / 32 ≡ w = omega arith in
-      let m : (0 + k) % 32 ≡ i = omega arith in
-      entry-at 256 0 k (omega arith) ∙ rw (q, m, there)
+module _ (f s : List ℕ) (h : Shape) where
+  entry-read : (n i k : ℕ) → k < n → entryAt (entriesFrom f s h n i) k ≡ entryFor f s h (i + k)
+  unfolding entriesFrom entryAt
+  entry-read zero i k l = absurd (omega arith)
+  entry-read (suc n) i zero l =
+      let e : i + 0 ≡ i = omega arith in
+      rw e (λ j. record { partner = entryFor f s h i .partner; looks = entryFor f s h i .looks; free = flag-is (entryFor f s h i .free) j; front = entryFor f s h i .front })
+  entry-read (suc n) i (suc k) l =
+      let e : suc i + k ≡ i + suc k = omega arith in
+      let k0 : 4 * suc k ≡ suc (suc (suc (suc (4 * k)))) = omega arith in
+      let k1 : 4 * suc k + 1 ≡ suc (suc (suc (suc (4 * k + 1)))) = omega arith in
+      let k2 : 4 * suc k + 2 ≡ suc (suc (suc (suc (4 * k + 2)))) = omega arith in
+      let k3 : 4 * suc k + 3 ≡ suc (suc (suc (suc (4 * k + 3)))) = omega arith in
+      let all : List ℕ = entriesFrom f s h (suc n) i in
+      (λ j. record { partner = getD all (k0 j) 0; looks = getD all (k1 j) 0; free = eqb (getD all (k2 j) 0) 1; front = getD all (k3 j) 0 })
+      ∙ entry-read n (suc i) k (omega arith) ∙ rw e
 
-module _ (c : Counts) (i : ℕ) where
-  pub row-of-impl : i < c .kind3 → isRow c (i + 1) ≡ true
-  unfolding isRow
-  row-of-impl l = rw (le-leb (i + 1) (c .kind3) (omega arith))
+  -- of a row that is there
+  pub impl-entry : (i : ℕ) → i < 32 → i < h .implementation .rows .count → entryAt (planIn f s h) i ≡ entryOf f s (h .implementation) (h .specification) true (i + 1)
+  unfolding planIn entryFor entryIn
+  impl-entry i l u = let z : 0 + i ≡ i = omega arith in entry-read 64 0 i (omega arith) ∙ rw (z, lt-ltb i 32 l, le-leb (i + 1) (h .implementation .rows .count) (omega arith))
 
-  pub row-of-spec : i < c .kind4 → isRow c (i + 1) ≡ true
-  unfolding isRow
-  row-of-spec l = rw (le-leb (i + 1) (c .kind4) (omega arith)) (or-true (leb (i + 1) (c .kind3)))
-    where
-      or-true : (b : Bool) → b || true ≡ true
-      or-true true = refl
-      or-true false = refl
+  pub spec-entry : (i : ℕ) → i < 32 → i < h .specification .rows .count → entryAt (planIn f s h) (32 + i) ≡ entryOf f s (h .specification) (h .implementation) false (i + 1)
+  unfolding planIn entryFor entryIn
+  spec-entry i l u =
+      let z : 0 + (32 + i) ≡ 32 + i = omega arith in
+      let e : 32 + i - 32 ≡ i = omega arith in
+      entry-read 64 0 (32 + i) (omega arith) ∙ rw (z, le-ltb (32 + i) 32 (omega arith), e, le-leb (i + 1) (h .specification .rows .count) (omega arith))

@@ -1,18 +1,36 @@
 // The plan of a walk: what does not change from state to state, worked out once for a design. Of each row its partner, the row of its action
-// in the other process; how many of its sum values need a look, one where nothing in the row and its partner reads the sum value; whether its
+// in the other process; how many of its sum values need a look, one where nothing that is looked at reads the sum value; whether its
 // condition reads it; and how many conjuncts in front of its condition do not, so that a row that these rule out costs no more. What
 // each function computes is in specs/Plan. Every function answers any arrays.
-use layout::Shape;
+use design::Process;
+use design::Shape;
 ghost use mathlib.Core.Path.{_≡_};
+ghost use Prim.Native.Nat.{_<_};
 ghost use lib.ListN.{drop};
 ghost use Rattle.design.specs.Line.{rowOf};
-ghost use Rattle.layout.specs.Sizes.{countsOf};
-ghost use Rattle.plan.specs.Plan.{valuesFree, rowFree, conditionFree, specFree, implFree, looksOf, flagOf, implPartner, implLooks, implFlag, specPartner, specLooks, specFlag, implFront, specFront, entryOf, entryIn, planIn};
+ghost use Rattle.plan.specs.Plan.{valuesFree, freeOf, partnerFree, looksOf, flagOf, entryOf, noEntry, entryIn, entryFor, planIn, entryAt};
 
-// A plan has eight entries for each row number, four for the row of the implementation and four for that of the specification.
-pub const ENTRIES: usize = 8 * limits::MAX_ROWS;
+// What the plan has of a row.
+pub struct Entry {
+    // the number of its partner, 0 if there is none
+    pub partner: u16,
+    // how many sum values need a look
+    pub looks: u16,
+    // whether its condition does not read the sum value
+    pub free: bool,
+    // how many conjuncts in front of its condition do not
+    pub front: u16,
+}
 
+// An entry is four numbers.
+const NUMBERS: usize = 4;
+
+// A plan has an entry for each row of the implementation that there may be, and then for each of the specification.
 pub const ROWS: usize = limits::MAX_ROWS;
+
+pub const ENTRIES: usize = 2 * limits::MAX_ROWS * NUMBERS;
+
+// ---- what reads the sum value
 
 // Whether n values from a place on do not read the sum value.
 fn values_free(fields: &limits::Fields, at: usize, n: u8) -> bool
@@ -31,50 +49,34 @@ fn values_free(fields: &limits::Fields, at: usize, n: u8) -> bool
     true
 }
 
-// Whether nothing in the row of the line that starts at a place reads the sum value, in a process of n parameters.
-fn row_free(fields: &limits::Fields, line: u16, n: u8) -> bool
-    ensures { λ r. ⌜ r ≡ rowFree (rowOf n (drop line (now (fields .entry)))) ⌝ }
+// Whether the condition of the row in the line that starts at a place does not read it, and, if the whole row is asked for, nor do its
+// data and next values; in a process of n parameters.
+fn row_free(fields: &limits::Fields, line: u16, n: u8, whole: bool) -> bool
+    ensures { λ r. ⌜ r ≡ freeOf whole (rowOf n (drop line (now (fields .entry)))) ⌝ }
 {
     let condition = sum_free::formula_sum_free(fields, line as usize + 3, limits::MAX_DEPTH);
+    if !whole {
+        return condition.free;
+    }
     let data = sum_free::value_sum_free(fields, condition.next, limits::MAX_DEPTH);
     condition.free & (data.free & values_free(fields, data.next, n))
 }
 
-// Whether the condition of the row of the line that starts at a place does not read the sum value.
-fn condition_free(fields: &limits::Fields, line: u16) -> bool
-    ensures { λ r. ⌜ r ≡ conditionFree (now (fields .entry)) line ⌝ }
-{
-    let condition = sum_free::formula_sum_free(fields, line as usize + 3, limits::MAX_DEPTH);
-    condition.free
-}
-
-// The same of row k of the specification as a whole, and of the condition of row k of the implementation; no row reads nothing.
-fn spec_free<'a>(
+// The same of row k of a process; no row reads nothing.
+fn partner_free<'a>(
     fields: &'a limits::Fields,
     starts: &'a limits::Starts,
-    shape: Shape,
+    process: Process,
     k: u16,
+    whole: bool,
 ) -> bool
-    ensures { λ r. ⌜ r ≡ specFree (now (fields .entry)) (now (starts .entry)) (countsOf shape) k ⌝ }
+    ensures { λ r. ⌜ r ≡ partnerFree (now (fields .entry)) (now (starts .entry)) process k whole ⌝ }
 {
     if k == 0 {
         return true;
     }
-    row_free(fields, steps::spec_line(starts, shape, k), shape.kind2)
-}
-
-fn impl_free<'a>(
-    fields: &'a limits::Fields,
-    starts: &'a limits::Starts,
-    shape: Shape,
-    k: u16,
-) -> bool
-    ensures { λ r. ⌜ r ≡ implFree (now (fields .entry)) (now (starts .entry)) (countsOf shape) k ⌝ }
-{
-    if k == 0 {
-        return true;
-    }
-    condition_free(fields, steps::impl_line(starts, shape, k))
+    let line = steps::line_of(starts, process, k);
+    row_free(fields, line, process.parameters.count, whole)
 }
 
 // How many sum values need a look: one of those that there are where nothing reads them, and else all.
@@ -90,163 +92,126 @@ fn looks(free: bool, span: u16) -> u16
     1
 }
 
+// ---- the entries
+
+// The entry of row k of a process; whole rows are looked at with their partners, or only the conditions.
+fn entry_of<'a>(
+    fields: &'a limits::Fields,
+    starts: &'a limits::Starts,
+    process: Process,
+    other: Process,
+    whole: bool,
+    k: u16,
+) -> Entry
+    ensures { λ r. ⌜ r ≡ entryOf (now (fields .entry)) (now (starts .entry)) process other whole k ⌝ }
+{
+    let line = steps::line_of(starts, process, k);
+    let action = layout::field_of(fields, line, 1);
+    let span = layout::field_of(fields, line, 2);
+    let partner = steps::row_with(fields, starts, other, action);
+    let free = row_free(fields, line, process.parameters.count, whole)
+        & partner_free(fields, starts, other, partner, whole);
+    Entry {
+        partner: partner,
+        looks: looks(free, span),
+        free: row_free(fields, line, process.parameters.count, false),
+        front: conjuncts::front(fields, line as usize + 3),
+    }
+}
+
+// The same where there is a row k.
+fn entry_in<'a>(
+    fields: &'a limits::Fields,
+    starts: &'a limits::Starts,
+    process: Process,
+    other: Process,
+    whole: bool,
+    k: u16,
+) -> Entry
+    ensures { λ r. ⌜ r ≡ entryIn (now (fields .entry)) (now (starts .entry)) process other whole k ⌝ }
+{
+    if k <= process.rows.count as u16 {
+        return entry_of(fields, starts, process, other, whole, k);
+    }
+    Entry {
+        partner: 0,
+        looks: 0,
+        free: false,
+        front: 0,
+    }
+}
+
+// Entry number i: of the implementation's rows whole rows count, of the specification's only the conditions (criterion 7).
+fn entry_for<'a>(
+    fields: &'a limits::Fields,
+    starts: &'a limits::Starts,
+    shape: Shape,
+    i: usize,
+) -> Entry
+    requires { ⌜ i < 64 ⌝ }
+    ensures { λ r. ⌜ r ≡ entryFor (now (fields .entry)) (now (starts .entry)) shape i ⌝ }
+{
+    let implementation = shape.implementation;
+    let specification = shape.specification;
+    if i < ROWS {
+        entry_in(
+            fields,
+            starts,
+            implementation,
+            specification,
+            true,
+            i as u16 + 1,
+        )
+    } else {
+        entry_in(
+            fields,
+            starts,
+            specification,
+            implementation,
+            false,
+            (i - ROWS) as u16 + 1,
+        )
+    }
+}
+
 fn flag(b: bool) -> u16
     ensures { λ r. ⌜ r ≡ flagOf b ⌝ }
 {
     if b { 1 } else { 0 }
 }
 
-// The entries of row k of the implementation: its partner's number, its looks, and whether its condition is sum-free.
-fn impl_partner<'a>(
-    fields: &'a limits::Fields,
-    starts: &'a limits::Starts,
-    shape: Shape,
-    k: u16,
-) -> u16
-    ensures { λ r. ⌜ r ≡ implPartner (now (fields .entry)) (now (starts .entry)) (countsOf shape) k ⌝ }
-{
-    let line = steps::impl_line(starts, shape, k);
-    steps::spec_row(fields, starts, shape, layout::field_of(fields, line, 1))
-}
-
-fn impl_looks<'a>(
-    fields: &'a limits::Fields,
-    starts: &'a limits::Starts,
-    shape: Shape,
-    k: u16,
-) -> u16
-    ensures { λ r. ⌜ r ≡ implLooks (now (fields .entry)) (now (starts .entry)) (countsOf shape) k ⌝ }
-{
-    let line = steps::impl_line(starts, shape, k);
-    let partner = impl_partner(fields, starts, shape, k);
-    let free = row_free(fields, line, shape.kind1) & spec_free(fields, starts, shape, partner);
-    looks(free, layout::field_of(fields, line, 2))
-}
-
-fn impl_flag<'a>(
-    fields: &'a limits::Fields,
-    starts: &'a limits::Starts,
-    shape: Shape,
-    k: u16,
-) -> u16
-    ensures { λ r. ⌜ r ≡ implFlag (now (fields .entry)) (now (starts .entry)) (countsOf shape) k ⌝ }
-{
-    flag(condition_free(fields, steps::impl_line(starts, shape, k)))
-}
-
-// Of row k of the specification: for criterion 7 the conditions are all that counts.
-fn spec_partner<'a>(
-    fields: &'a limits::Fields,
-    starts: &'a limits::Starts,
-    shape: Shape,
-    k: u16,
-) -> u16
-    ensures { λ r. ⌜ r ≡ specPartner (now (fields .entry)) (now (starts .entry)) (countsOf shape) k ⌝ }
-{
-    let line = steps::spec_line(starts, shape, k);
-    steps::impl_row(fields, starts, shape, layout::field_of(fields, line, 1))
-}
-
-fn spec_looks<'a>(
-    fields: &'a limits::Fields,
-    starts: &'a limits::Starts,
-    shape: Shape,
-    k: u16,
-) -> u16
-    ensures { λ r. ⌜ r ≡ specLooks (now (fields .entry)) (now (starts .entry)) (countsOf shape) k ⌝ }
-{
-    let line = steps::spec_line(starts, shape, k);
-    let partner = spec_partner(fields, starts, shape, k);
-    let free = condition_free(fields, line) & impl_free(fields, starts, shape, partner);
-    looks(free, layout::field_of(fields, line, 2))
-}
-
-fn spec_flag<'a>(
-    fields: &'a limits::Fields,
-    starts: &'a limits::Starts,
-    shape: Shape,
-    k: u16,
-) -> u16
-    ensures { λ r. ⌜ r ≡ specFlag (now (fields .entry)) (now (starts .entry)) (countsOf shape) k ⌝ }
-{
-    flag(condition_free(fields, steps::spec_line(starts, shape, k)))
-}
-
-// The conjuncts in front of the conditions of both.
-fn impl_front<'a>(
-    fields: &'a limits::Fields,
-    starts: &'a limits::Starts,
-    shape: Shape,
-    k: u16,
-) -> u16
-    ensures { λ r. ⌜ r ≡ implFront (now (fields .entry)) (now (starts .entry)) (countsOf shape) k ⌝ }
-{
-    conjuncts::front(fields, steps::impl_line(starts, shape, k) as usize + 3)
-}
-
-fn spec_front<'a>(
-    fields: &'a limits::Fields,
-    starts: &'a limits::Starts,
-    shape: Shape,
-    k: u16,
-) -> u16
-    ensures { λ r. ⌜ r ≡ specFront (now (fields .entry)) (now (starts .entry)) (countsOf shape) k ⌝ }
-{
-    conjuncts::front(fields, steps::spec_line(starts, shape, k) as usize + 3)
-}
-
-// An entry of one of the eight sorts.
-fn entry_of<'a>(
-    fields: &'a limits::Fields,
-    starts: &'a limits::Starts,
-    shape: Shape,
-    sort: usize,
-    k: u16,
-) -> u16
-    ensures { λ r. ⌜ r ≡ entryOf (now (fields .entry)) (now (starts .entry)) (countsOf shape) sort k ⌝ }
-{
-    match sort {
-        0 => impl_partner(fields, starts, shape, k),
-        1 => impl_looks(fields, starts, shape, k),
-        2 => impl_flag(fields, starts, shape, k),
-        3 => spec_partner(fields, starts, shape, k),
-        4 => spec_looks(fields, starts, shape, k),
-        5 => spec_flag(fields, starts, shape, k),
-        6 => impl_front(fields, starts, shape, k),
-        _ => spec_front(fields, starts, shape, k),
-    }
-}
-
-// The same where a process has a row k, and else 0.
-fn entry<'a>(
-    fields: &'a limits::Fields,
-    starts: &'a limits::Starts,
-    shape: Shape,
-    sort: usize,
-    k: u16,
-) -> u16
-    ensures { λ r. ⌜ r ≡ entryIn (now (fields .entry)) (now (starts .entry)) (countsOf shape) sort k ⌝ }
-{
-    if (k <= shape.kind3 as u16) | (k <= shape.kind4 as u16) {
-        entry_of(fields, starts, shape, sort, k)
-    } else {
-        0
-    }
-}
-
-// All entries: those of one sort for all rows, then the next sort.
+// All entries.
 pub fn plan<'a>(
     fields: &'a limits::Fields,
     starts: &'a limits::Starts,
     shape: Shape,
 ) -> [u16; ENTRIES]
-    ensures { λ r. ⌜ r ≡ planIn (now (fields .entry)) (now (starts .entry)) (countsOf shape) ⌝ }
+    ensures { λ r. ⌜ r ≡ planIn (now (fields .entry)) (now (starts .entry)) shape ⌝ }
 {
     let mut out = [0u16; ENTRIES];
     let mut i = 0;
-    while i < ENTRIES {
-        out[i] = entry(fields, starts, shape, i / ROWS, (i % ROWS) as u16 + 1);
+    while i < 2 * ROWS {
+        let entry = entry_for(fields, starts, shape, i);
+        let at = NUMBERS * i;
+        out[at] = entry.partner;
+        out[at + 1] = entry.looks;
+        out[at + 2] = flag(entry.free);
+        out[at + 3] = entry.front;
         i += 1;
     }
     out
+}
+
+// Entry number i of a plan.
+pub fn entry_at(plan: &[u16; ENTRIES], i: usize) -> Entry
+    requires { ⌜ i < 64 ⌝ }
+    ensures { λ r. ⌜ r ≡ entryAt (now (plan .entry)) i ⌝ }
+{
+    let at = NUMBERS * i;
+    Entry {
+        partner: plan[at],
+        looks: plan[at + 1],
+        free: plan[at + 2] == 1,
+        front: plan[at + 3],
+    }
 }

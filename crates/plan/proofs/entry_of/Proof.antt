@@ -1,4 +1,4 @@
--- An arm for each sort.
+-- Each part by its law.
 use borrow.Author.Needs.{needs}
 use Rattle.plan.proofs.Planned as laws
 use Rattle.plan.proofs.entry_of.Statement.{statement}
@@ -16,11 +16,7 @@ entry-of-spec =
     (λ c κs. search needs)
     (λ c κs. search needs)
     (λ c κs. search needs)
-    (λ c. search laws.sort0)
-    (λ c. search laws.sort1)
-    (λ c. search laws.sort2)
-    (λ c. search laws.sort3)
-    (λ c. search laws.sort4)
-    (λ c. search laws.sort5)
-    (λ c. search laws.sort6)
-    (λ c. search laws.sort7))
+    (λ c. search needs)
+    (λ c. search needs)
+    (λ c κs. search needs)
+    (λ c. search laws.entry-is))

@@ -1,4 +1,4 @@
--- Condition, data and next values.
+-- The condition alone, or the whole row.
 use borrow.Author.Needs.{needs}
 use Rattle.plan.proofs.Planned as laws
 use Rattle.plan.proofs.row_free.Statement.{statement}
@@ -10,6 +10,7 @@ row-free-spec =
     (tie.spec
     (λ c. search needs)
     (λ c κs. search needs)
+    (λ c. search laws.condition-free-is)
     (λ c κs. search needs)
     (λ c κs. search needs)
     (λ c. search laws.row-free-is))

@@ -1,9 +1,9 @@
--- What is left to look at gives the whole.
+-- What is left of the values gives the whole.
 use borrow.Author.Needs.{needs}
 use mathlib.Core.Path.{_≡_}
 use Prim.Native.Nat.{_-_}
-use Rattle.plan.proofs.Planned as laws
 use Rattle.plan.specs.Plan.{valuesFree}
+use Rattle.plan.proofs.Planned as laws
 use Rattle.plan.proofs.values_free.Statement.{statement}
 use Rattle.plan.proofs.values_free.Tie as tie
 

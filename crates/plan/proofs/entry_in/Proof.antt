@@ -1,14 +1,13 @@
--- Where there is such a row.
+-- Where there is a row.
 use borrow.Author.Needs.{needs}
 use Rattle.plan.proofs.Planned as laws
-use Rattle.plan.proofs.entry.Statement.{statement}
-use Rattle.plan.proofs.entry.Tie as tie
+use Rattle.plan.proofs.entry_in.Statement.{statement}
+use Rattle.plan.proofs.entry_in.Tie as tie
 
-pub entry-spec : {M : Type 1} → statement M
-entry-spec =
+pub entry-in-spec : {M : Type 1} → statement M
+entry-in-spec =
     tie.close
     (tie.spec
-    (λ c. search needs)
     (λ c. search needs)
     (λ c κs. search needs)
     (λ c. search laws.entry-there)
