@@ -1,2 +1,1 @@
 pub mod Seeing
-pub mod Decided

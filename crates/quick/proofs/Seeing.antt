@@ -1,6 +1,6 @@
 -- What the functions of the quick test return, as specs/Quick says it, and the turns of their loops.
 use mathlib.Core.Path.{_≡_, refl, sym, _∙_, ap}
-use mathlib.Core.Bool.{Bool, true, false, not, _&&_, _||_}
+use mathlib.Core.Bool.{Bool, true, false, not, _&&_, _||_, or-true}
 use mathlib.Core.List.{List}
 use Prim.Native.Nat.{ℕ, zero, suc, _+_, _-_, _≤_, _<_}
 use native.Mathlib.Numerals.{add-one}
@@ -10,6 +10,7 @@ use lib.Dec.{eqb, ltb, eqb·suc-zero}
 use lib.ListN.{getD, drop}
 use Rattle.foundation.specs.First.{allIn}
 use Rattle.foundation.specs.Reflects.{_⇒_}
+use Rattle.foundation.proofs.All.{all-begin, all-turn, all-fail, all-end}
 use Rattle.terms.specs.Tree.{pick, evalV, evalF}
 use Rattle.terms.specs.Read.{readV, readF}
 use Rattle.terms.proofs.Read.{place}
@@ -19,117 +20,120 @@ use Rattle.eval.specs.declared.Valued.{Valued}
 use Rattle.eval.specs.declared.Held.{Held}
 use Rattle.decision.specs.Tests.{enabledB}
 use Rattle.design.specs.Line.{rowOf}
-use Rattle.design.specs.declared.Counts.{Counts}
-use Rattle.steps.specs.Arrays.{padded, valuesAt, belowIn, sameIn, insideIn, mappedIn, measureIn, implLine, specLine}
-use Rattle.steps.proofs.All.{all-begin, all-turn, all-fail, all-end}
+use Rattle.design.specs.declared.Process.{Process}
+use Rattle.design.specs.declared.Shape.{Shape}
+use Rattle.layout.specs.Sizes.{Fits}
+use Rattle.steps.specs.Arrays.{padded, valuesAt, lineOf, belowIn, sameIn, insideIn, mappedIn, measureIn}
 use Rattle.conjuncts.specs.Conjuncts.{guardIn}
-use Rattle.plan.specs.Plan.{implBy, specBy, implAt, specAt}
-use Rattle.quick.specs.Quick.{keptIn, answeredIn, stepIn, heldIf, seen, onAt, knownIn, lookIn, looksIn, rowIn, plannedIn, implIn, repliedIf, repliedIn, replyLooks, replyIn, replyPlanned, specIn, passesIn}
-use Rattle.quick.specs.declared.Seen.{Seen}
 use Rattle.conjuncts.specs.declared.Guarded.{Guarded}
+use Rattle.plan.specs.Plan.{rowBy, partnerBy, entryAt}
+use Rattle.plan.specs.declared.Entry.{Entry}
+use Rattle.quick.specs.Quick.{rowFor, left, onAt, knownIn, keptIn, answeredIn, stepIn, seen, lookIn, looksIn, rowIn, implIn, repliedIn, replyLooks, replyIn, specIn, passesIn}
+use Rattle.quick.specs.declared.Seen.{Seen}
+use Rattle.quick.specs.declared.Row.{Row}
+
+-- ---- what is known of a condition
+
+module _ (f : List ℕ) (row : Row) (v : List ℕ) (first : Held) (e : ℕ) where
+  pub kept-known : row .free || eqb e 0 ≡ true → first ≡ knownIn f row v first e
+  unfolding knownIn
+  kept-known y = rw y
+
+  pub not-kept : (r : Held) → row .free || eqb e 0 ≡ false → r ≡ answerF (row .at) v e (readF (row .depth) (drop (row .at) f)) → r ≡ knownIn f row v first e
+  unfolding knownIn
+  not-kept r y er = er ∙ rw y
+
+  -- it is the condition, evaluated for 0 where nothing reads the sum value
+  on-is : first ≡ answerF (row .at) v 0 (left f row) → knownIn f row v first e ≡ answerF (row .at) v (pick (row .free) 0 e) (left f row)
+  unfolding knownIn
+  on-is ef = go (row .free) e
+    where
+      go : (b : Bool) (x : ℕ) → pick (b || eqb x 0) first (answerF (row .at) v x (left f row)) ≡ answerF (row .at) v (pick b 0 x) (left f row)
+      go true x = ef
+      go false zero = ef
+      go false (suc x) = rw (eqb·suc-zero x)
 
 -- ---- a step
 
-module _ (f s x t w : List ℕ) (c : Counts) (m : ℕ) (b : Bool) (ew : w ≡ mappedIn f s c x) (eb : b ≡ sameIn (c .kind2) t w) where
-  pub kept-lowers : (n : ℕ) → b ≡ true → n ≡ measureIn f s c x → ltb n m ≡ keptIn f s c x t m
+module _ (f s x t w : List ℕ) (h : Shape) (m : ℕ) (b : Bool) (ew : w ≡ mappedIn f s h x) (eb : b ≡ sameIn (h .specification .parameters .count) t w) where
+  pub kept-lowers : (n : ℕ) → b ≡ true → n ≡ measureIn f s h x → ltb n m ≡ keptIn f s h x t m
   unfolding keptIn
-  kept-lowers n h en = rw (← ew, ← eb, h, en)
+  kept-lowers n y en = rw (← ew, ← eb, y, en)
 
-  pub kept-not : b ≡ false → false ≡ keptIn f s c x t m
+  pub kept-not : b ≡ false → false ≡ keptIn f s h x t m
   unfolding keptIn
-  kept-not h = rw (← ew, ← eb, h)
+  kept-not y = rw (← ew, ← eb, y)
 
-module _ (f s y t : List ℕ) (c : Counts) (j w e : ℕ) where
-  pub answer-none : j ≡ 0 → false ≡ answeredIn f s c j w y t e
-  unfolding answeredIn specAt evalF
+module _ (f s y t : List ℕ) (p : Process) (j w e : ℕ) where
+  abbrev n : ℕ
+  n = p .parameters .count
+
+  pub answer-none : j ≡ 0 → false ≡ answeredIn f s p j w y t e
+  unfolding answeredIn partnerBy evalF
   answer-none z = rw z
 
-  module _ (line : ℕ) (some : j ≡ 0 → ⊥) (el : line ≡ specLine s c j) (h : Held) (eh : h ≡ answerF (line + 3) t e (readF 32 (drop (line + 3) f))) where
-    row-is : specAt f s c j ≡ rowOf (c .kind2) (drop line f)
-    unfolding specAt specBy
+  module _ (line : ℕ) (some : j ≡ 0 → ⊥) (el : line ≡ lineOf s p j) (h : Held) (eh : h ≡ answerF (line + 3) t e (readF 32 (drop (line + 3) f))) where
+    row-is : partnerBy f s p j ≡ rowOf n (drop line f)
+    unfolding partnerBy rowBy
     row-is = rw (ne-eqb j 0 some, el)
 
-    pub answer-off : not (h .holds) ≡ true → false ≡ answeredIn f s c j w y t e
+    pub answer-off : not (h .holds) ≡ true → false ≡ answeredIn f s p j w y t e
     unfolding answeredIn
     answer-off is-off =
-        let off : evalF (rowOf (c .kind2) (drop line f) .condition) t e ≡ false =
+        let off : evalF (rowOf n (drop line f) .condition) t e ≡ false =
         rw (place f line 3 refl) (sym (ap (λ r. r .holds) eh) ∙ not-true (h .holds) is-off) in
         rw (row-is, off)
 
-    on : not (h .holds) ≡ false → evalF (rowOf (c .kind2) (drop line f) .condition) t e ≡ true
+    on : not (h .holds) ≡ false → evalF (rowOf n (drop line f) .condition) t e ≡ true
     on yes-on = rw (place f line 3 refl) (sym (ap (λ r. r .holds) eh) ∙ not-false (h .holds) yes-on)
 
-    carried : (x : Valued) → x ≡ answerV (h .next) t e (readV 32 (drop (h .next) f)) → evalV (rowOf (c .kind2) (drop line f) .carries) t e ≡ x .value
+    carried : (x : Valued) → x ≡ answerV (h .next) t e (readV 32 (drop (h .next) f)) → evalV (rowOf n (drop line f) .carries) t e ≡ x .value
     carried x ex = rw (ex, eh, place f line 3 refl, place f (line + 3) _ refl)
 
     pub answer-differs : (x : Valued) → not (h .holds) ≡ false → x ≡ answerV (h .next) t e (readV 32 (drop (h .next) f)) → (w ≡ x .value → ⊥)
-        → false ≡ answeredIn f s c j w y t e
+        → false ≡ answeredIn f s p j w y t e
     unfolding answeredIn
     answer-differs x yes-on ex ne = rw (row-is, on yes-on, carried x ex, ne-eqb w (x .value) ne)
 
     pub answer-same : (x : Valued) (z : List ℕ) (b : Bool) → not (h .holds) ≡ false → x ≡ answerV (h .next) t e (readV 32 (drop (h .next) f)) → w ≡ x .value
-        → z ≡ padded (valuesAt f (x .next) (c .kind2) t e) → b ≡ sameIn (c .kind2) y z → b ≡ answeredIn f s c j w y t e
+        → z ≡ padded (valuesAt f (x .next) n t e) → b ≡ sameIn n y z → b ≡ answeredIn f s p j w y t e
     unfolding answeredIn valuesAt
     answer-same x z b yes-on ex eq ez eb =
         rw (row-is, on yes-on, carried x ex, eq-eqb w (x .value) eq, eb, ez, ex, eh, place f line 3 refl, place f (line + 3) _ refl, place f (line + 3 + _) _ refl)
 
-module _ (f s v t x : List ℕ) (c : Counts) (at j m e : ℕ) (b i : Bool) (d : Valued) (ed : d ≡ answerV at v e (readV 32 (drop at f)))
-    (ex : x ≡ padded (valuesAt f (d .next) (c .kind1) v e)) (ei : i ≡ insideIn f s c x) where
-  pub step-out : not i ≡ true → false ≡ stepIn f s c at b j v t m e
+module _ (f s v t x : List ℕ) (h : Shape) (row : Row) (at m e : ℕ) (i : Bool) (d : Valued) (ed : d ≡ answerV at v e (readV 32 (drop at f)))
+    (ex : x ≡ padded (valuesAt f (d .next) (h .implementation .parameters .count) v e)) (ei : i ≡ insideIn f s h x) where
+  abbrev rest : Bool
+  rest = pick (row .internal) (keptIn f s h x t m) (answeredIn f s (h .specification) (row .partner) (d .value) (mappedIn f s h x) t e)
+
+  step-so : insideIn f s h x && rest ≡ stepIn f s h row at v t m e
   unfolding stepIn
-  step-out h = let off : insideIn f s c x ≡ false = sym ei ∙ not-true i h in go ∙ ap (λ a. a && pick b (keptIn f s c x t m) (answeredIn f s c j (d .value) (mappedIn f s c x) t e)) (sym off) ∙ rw (ex, ed)
-    where
-      go : false ≡ false && pick b (keptIn f s c x t m) (answeredIn f s c j (d .value) (mappedIn f s c x) t e)
-      go = refl
+  step-so = rw (ex, ed)
 
-  step-within : (r : Bool) → not i ≡ false → r ≡ pick b (keptIn f s c x t m) (answeredIn f s c j (d .value) (mappedIn f s c x) t e) → r ≡ stepIn f s c at b j v t m e
-  unfolding stepIn
-  step-within r h er =
-      let in-size : insideIn f s c x ≡ true = sym ei ∙ not-false i h in
-      er ∙ ap (λ a. a && pick b (keptIn f s c x t m) (answeredIn f s c j (d .value) (mappedIn f s c x) t e)) (sym in-size) ∙ rw (ex, ed)
+  pub step-out : not i ≡ true → false ≡ stepIn f s h row at v t m e
+  step-out y = ap (λ a. a && rest) (sym (sym ei ∙ not-true i y)) ∙ step-so
 
-  pub step-internal : (r : Bool) → not i ≡ false → b ≡ true → r ≡ keptIn f s c x t m → r ≡ stepIn f s c at b j v t m e
-  step-internal r h eb er = step-within r h (er ∙ rw eb)
+  step-within : (r : Bool) → not i ≡ false → r ≡ rest → r ≡ stepIn f s h row at v t m e
+  step-within r y er = er ∙ ap (λ a. a && rest) (sym (sym ei ∙ not-false i y)) ∙ step-so
 
-  pub step-visible : (y : List ℕ) (r : Bool) → not i ≡ false → b ≡ false → y ≡ mappedIn f s c x → r ≡ answeredIn f s c j (d .value) y t e → r ≡ stepIn f s c at b j v t m e
-  step-visible y r h eb ey er = step-within r h (er ∙ rw (eb, ey))
+  pub step-internal : (r : Bool) → not i ≡ false → row .internal ≡ true → r ≡ keptIn f s h x t m → r ≡ stepIn f s h row at v t m e
+  step-internal r y eb er = step-within r y (er ∙ rw eb)
 
-pub held-on : (on b r : Bool) → on ≡ true → r ≡ b → r ≡ heldIf on b
-unfolding heldIf
-held-on on b r h er = er ∙ rw h
-
-pub held-off : (on b : Bool) → on ≡ false → true ≡ heldIf on b
-unfolding heldIf
-held-off on b h = rw h
-
-pub kept-known : (keep : Bool) (a b : Held) → keep ≡ true → a ≡ pick keep a b
-kept-known keep a b h = rw h
-
-pub not-kept : (keep : Bool) (a b r : Held) → keep ≡ false → r ≡ b → r ≡ pick keep a b
-not-kept keep a b r h er = er ∙ rw h
+  pub step-visible : (z : List ℕ) (r : Bool) → not i ≡ false → row .internal ≡ false → z ≡ mappedIn f s h x
+      → r ≡ answeredIn f s (h .specification) (row .partner) (d .value) z t e → r ≡ stepIn f s h row at v t m e
+  step-visible z r y eb ez er = step-within r y (er ∙ rw (eb, ez))
 
 -- one look
-module _ (f s v t : List ℕ) (c : Counts) (at d j m e : ℕ) (free i : Bool) (first h : Held) where
-  pub look-is : (b : Bool) → h ≡ knownIn f v at d first free e → b ≡ heldIf (h .holds) (stepIn f s c (h .next) i j v t m e)
-      → record { holds = b; quiet = not (h .holds) } ≡ lookIn f s c at d first free i j v t m e
+module _ (f s v t : List ℕ) (h : Shape) (row : Row) (first o : Held) (m e : ℕ) (eo : o ≡ knownIn f row v first e) where
+  pub look-off : not (o .holds) ≡ true → record { holds = true; quiet = true } ≡ lookIn f s h row first v t m e
   unfolding lookIn
-  look-is b eh eb = rw (eb, eh)
+  look-off y = rw (← eo, not-true (o .holds) y)
 
-  pub replied-is : (b : Bool) → h ≡ knownIn f t at d first free e → b ≡ repliedIf (h .holds) f s c j v e → b ≡ repliedIn f s c at d first free j v t e
-  unfolding repliedIn
-  replied-is b eh eb = eb ∙ rw eh
+  pub look-on : (b : Bool) → not (o .holds) ≡ false → b ≡ stepIn f s h row (o .next) v t m e → record { holds = b; quiet = false } ≡ lookIn f s h row first v t m e
+  unfolding lookIn
+  look-on b y eb = rw (← eo, not-false (o .holds) y, eb)
 
 -- ---- all sum values of a row
-
--- the condition, evaluated for 0 where it is kept and else for e
-on-is : (f v : List ℕ) (at d e : ℕ) (free : Bool) (first : Held) → first ≡ answerF at v 0 (readF d (drop at f))
-    → knownIn f v at d first free e ≡ answerF at v (pick free 0 e) (readF d (drop at f))
-on-is f v at d e free first ef = go free e
-  where
-    go : (b : Bool) (x : ℕ) → pick (b || eqb x 0) first (answerF at v x (readF d (drop at f))) ≡ answerF at v (pick b 0 x) (readF d (drop at f))
-    go true x = ef
-    go false zero = ef
-    go false (suc x) = rw (eqb·suc-zero x)
 
 all-yes : (g : ℕ → Bool) → ((i : ℕ) → g i ≡ true) → (n i : ℕ) → allIn g n i ≡ true
 unfolding allIn
@@ -143,10 +147,6 @@ and-three false b r = refl
 and-true : (a : Bool) → a && true ≡ a
 and-true true = refl
 and-true false = refl
-
-or-true : (a : Bool) → a || true ≡ true
-or-true true = refl
-or-true false = refl
 
 -- one more that holds, whose second says q
 all-step : (g : ℕ → Bool) (n i : ℕ) → i < n → allIn g (n - i) i ≡ g i && allIn g (n - (i + 1)) (i + 1)
@@ -171,214 +171,227 @@ module _ (h q : ℕ → Bool) (u : Bool → Bool) (n : ℕ) where
   seen-end : (a : Bool) (i : ℕ) → n ≤ i → record { holds = true; quiet = u a } ≡ seenLeft a i
   seen-end a i l = rw (all-end h n i l, all-end q n i l, and-true a)
 
-module _ (f s v t : List ℕ) (c : Counts) (at d j n m : ℕ) (free i : Bool) where
+-- a condition that does not read the sum value, and does not hold for 0, never holds
+never : (f v : List ℕ) (row : Row) (first : Held) → row .free && not (first .holds) ≡ true → first ≡ answerF (row .at) v 0 (left f row) → (e : ℕ) → onAt f row v e ≡ false
+never f v row first y ef e =
+    ap (λ b. evalF (left f row .tree) v (pick b 0 e)) (and-left (row .free) (not (first .holds)) y)
+    ∙ sym (ap (λ x. x .holds) ef) ∙ not-true (first .holds) (and-right (row .free) (not (first .holds)) y)
+
+module _ (f s v t : List ℕ) (h : Shape) (row : Row) (m : ℕ) where
   abbrev whole : Seen
-  whole = looksIn f s c at d free i j n v t m
+  whole = looksIn f s h row v t m
 
-  abbrev H : ℕ → Bool
-  H e = onAt f v at d free e ⇒ stepIn f s c (at + readF d (drop at f) .used) i j v t m e
+  abbrev past : ℕ
+  past = row .at + left f row .used
 
-  abbrev I : ℕ → Bool
-  I e = not (onAt f v at d free e)
+  abbrev held : ℕ → Bool
+  held e = onAt f row v e ⇒ stepIn f s h row past v t m e
+
+  abbrev off : ℕ → Bool
+  off e = not (onAt f row v e)
 
   abbrev told : Bool → Bool
-  told b = not i || b
+  told b = not (row .internal) || b
 
   unfoldable pub rowLeft : Bool → ℕ → Seen
-  rowLeft a e = seenLeft H I told n a e
+  rowLeft a e = seenLeft held off told (row .looks) a e
 
-  module _ (first : Held) (ef : first ≡ answerF at v 0 (readF d (drop at f))) where
-    pub row-ruled-out : free && not (first .holds) ≡ true → record { holds = true; quiet = true } ≡ whole
+  module _ (first : Held) (ef : first ≡ answerF (row .at) v 0 (left f row)) where
+    pub row-ruled-out : row .free && not (first .holds) ≡ true → record { holds = true; quiet = true } ≡ whole
     unfolding looksIn
-    row-ruled-out h =
+    row-ruled-out y =
         rw (
-          and-left free (not (first .holds)) h,
-          all-yes (λ e. evalF (readF d (drop at f) .tree) v 0 ⇒ stepIn f s c (at + readF d (drop at f) .used) i j v t m e) (λ e. ap (λ b. b ⇒ stepIn f s c (at + readF d (drop at f) .used) i j v t m e) off) n 0,
-          all-yes (λ e. not (evalF (readF d (drop at f) .tree) v 0)) (λ e. ap not off) n 0,
-          or-true (not i),
+          all-yes held (λ e. ap (λ b. b ⇒ stepIn f s h row past v t m e) (never f v row first y ef e)) (row .looks) 0,
+          all-yes off (λ e. ap not (never f v row first y ef e)) (row .looks) 0,
+          or-true (not (row .internal)),
         )
-      where
-        off : evalF (readF d (drop at f) .tree) v 0 ≡ false
-        off = sym (ap (λ x. x .holds) ef) ∙ not-true (first .holds) (and-right free (not (first .holds)) h)
 
     pub row-begin : rowLeft true 0 ≡ whole
     unfolding rowLeft looksIn
-    row-begin = seen-begin H I told n
+    row-begin = seen-begin held off told (row .looks)
 
-    look-row : (e : ℕ) → lookIn f s c at d first free i j v t m e ≡ record { holds = H e; quiet = I e }
-    unfolding lookIn heldIf
-    look-row e = rw (on-is f v at d e free first ef)
+    look-row : (e : ℕ) → lookIn f s h row first v t m e ≡ record { holds = held e; quiet = off e }
+    unfolding lookIn
+    look-row e = rw (on-is f row v first e ef)
 
-    module _ (e : ℕ) (q : Bool) (g : Seen) (l : e < n) (eg : g ≡ lookIn f s c at d first free i j v t m e) (inv : rowLeft q e ≡ whole) where
-      held-row : g .holds ≡ H e
+    module _ (e : ℕ) (q : Bool) (g : Seen) (l : e < row .looks) (eg : g ≡ lookIn f s h row first v t m e) (inv : rowLeft q e ≡ whole) where
+      held-row : g .holds ≡ held e
       held-row = ap (λ x. x .holds) (eg ∙ look-row e)
 
       pub row-turn : not (g .holds) ≡ false → rowLeft (q && g .quiet) (e + 1) ≡ whole
       unfolding rowLeft
       row-turn ok =
-          ap (λ x. seenLeft H I told n (q && x .quiet) (e + 1)) (eg ∙ look-row e)
-          ∙ sym (seen-turn H I told n q e l (sym held-row ∙ not-false (g .holds) ok)) ∙ inv
+          ap (λ x. seenLeft held off told (row .looks) (q && x .quiet) (e + 1)) (eg ∙ look-row e)
+          ∙ sym (seen-turn held off told (row .looks) q e l (sym held-row ∙ not-false (g .holds) ok)) ∙ inv
 
       pub row-fail : not (g .holds) ≡ true → record { holds = false; quiet = false } ≡ whole
       unfolding rowLeft
-      row-fail ok = seen-fail H I told n q e l (sym held-row ∙ not-true (g .holds) ok) ∙ inv
+      row-fail ok = seen-fail held off told (row .looks) q e l (sym held-row ∙ not-true (g .holds) ok) ∙ inv
 
-  pub row-end : (e : ℕ) (q : Bool) → n ≤ e → rowLeft q e ≡ whole → record { holds = true; quiet = not i || q } ≡ whole
+  pub row-end : (e : ℕ) (q : Bool) → row .looks ≤ e → rowLeft q e ≡ whole → record { holds = true; quiet = not (row .internal) || q } ≡ whole
   unfolding rowLeft
-  row-end e q l inv = seen-end H I told n q e l ∙ inv
+  row-end e q l inv = seen-end held off told (row .looks) q e l ∙ inv
 
 -- the conjuncts in front
-module _ (f s v t : List ℕ) (c : Counts) (k j n l m line : ℕ) (free : Bool) (g : Guarded) (el : line ≡ implLine s c k) (eg : g ≡ guardIn f v 0 l (line + 3) 32) where
-  pub row-off : not (g .holds) ≡ true → record { holds = true; quiet = true } ≡ rowIn f s c k j n free l v t m
+module _ (f s v t : List ℕ) (h : Shape) (k m line : ℕ) (en : Entry) (g : Guarded) (el : line ≡ lineOf s (h .implementation) k) (eg : g ≡ guardIn f v 0 (en .front) (line + 3) 32) where
+  pub row-off : not (g .holds) ≡ true → record { holds = true; quiet = true } ≡ rowIn f s h k en v t m
   unfolding rowIn
-  row-off h = rw (← el, ← eg, not-true (g .holds) h)
+  row-off y = rw (← el, ← eg, not-true (g .holds) y)
 
-  pub row-on : (a : ℕ) (r : Seen) → not (g .holds) ≡ false → a ≡ getD (drop line f) 1 0 → r ≡ looksIn f s c (g .at) (g .depth) free (eqb a 0) j n v t m
-      → r ≡ rowIn f s c k j n free l v t m
-  unfolding rowIn implBy
-  row-on a r h ea er = er ∙ rw (← el, ← eg, not-false (g .holds) h, ea)
+  pub row-on : (a : ℕ) (row : Row) (r : Seen) → not (g .holds) ≡ false → a ≡ getD (drop line f) 1 0 → row ≡ rowFor g en (eqb a 0) → r ≡ looksIn f s h row v t m
+      → r ≡ rowIn f s h k en v t m
+  unfolding rowIn rowBy
+  row-on a row r y ea ew er = er ∙ rw (ew, ← el, ← eg, not-false (g .holds) y, ea)
 
 -- ---- all rows of the implementation
 
-pub planned-is : (f s p v t : List ℕ) (c : Counts) (i j n x l m : ℕ) (r : Seen) → j ≡ getD p i 0 → n ≡ getD p (32 + i) 0 → x ≡ getD p (64 + i) 0
-    → l ≡ getD p (192 + i) 0 → r ≡ rowIn f s c (i + 1) j n (eqb x 1) l v t m → r ≡ plannedIn f s c p i v t m
-unfolding plannedIn
-planned-is f s p v t c i j n x l m r ej en ex el er = er ∙ rw (ej, en, ex, el)
+module _ (f s p v t : List ℕ) (h : Shape) (m : ℕ) where
+  abbrev rows : ℕ
+  rows = h .implementation .rows .count
 
-module _ (f s p v t : List ℕ) (c : Counts) (m : ℕ) where
+  abbrev rowSeen : ℕ → Seen
+  rowSeen i = rowIn f s h (i + 1) (entryAt p i) v t m
+
   abbrev holdsAt : ℕ → Bool
-  holdsAt i = plannedIn f s c p i v t m .holds
+  holdsAt i = rowSeen i .holds
 
   abbrev quietAt : ℕ → Bool
-  quietAt i = plannedIn f s c p i v t m .quiet
+  quietAt i = rowSeen i .quiet
 
   unfoldable pub implLeft : Bool → ℕ → Seen
-  implLeft a i = seenLeft holdsAt quietAt (λ b. b) (c .kind3) a i
+  implLeft a i = seenLeft holdsAt quietAt (λ b. b) rows a i
 
-  pub impl-begin : implLeft true 0 ≡ implIn f s c p v t m
+  pub impl-begin : implLeft true 0 ≡ implIn f s h p v t m
   unfolding implLeft implIn
-  impl-begin = seen-begin holdsAt quietAt (λ b. b) (c .kind3)
+  impl-begin = seen-begin holdsAt quietAt (λ b. b) rows
 
-  pub impl-turn : (a : Bool) (i : ℕ) (r : Seen) → i < c .kind3 → r ≡ plannedIn f s c p i v t m → not (r .holds) ≡ false → implLeft a i ≡ implIn f s c p v t m
-      → implLeft (a && r .quiet) (i + 1) ≡ implIn f s c p v t m
-  unfolding implLeft
-  impl-turn a i r l er ok inv =
-      ap (λ x. seenLeft holdsAt quietAt (λ b. b) (c .kind3) (a && x .quiet) (i + 1)) er
-      ∙ sym (seen-turn holdsAt quietAt (λ b. b) (c .kind3) a i l (sym (ap (λ x. x .holds) er) ∙ not-false (r .holds) ok)) ∙ inv
+  module _ (a : Bool) (i : ℕ) (e : Entry) (r : Seen) (l : i < rows) (ee : e ≡ entryAt p i) (er : r ≡ rowIn f s h (i + 1) e v t m) (inv : implLeft a i ≡ implIn f s h p v t m) where
+    is : r ≡ rowSeen i
+    is = er ∙ ap (λ x. rowIn f s h (i + 1) x v t m) ee
 
-  pub impl-fail : (a : Bool) (i : ℕ) (r : Seen) → i < c .kind3 → r ≡ plannedIn f s c p i v t m → not (r .holds) ≡ true → implLeft a i ≡ implIn f s c p v t m
-      → record { holds = false; quiet = false } ≡ implIn f s c p v t m
-  unfolding implLeft
-  impl-fail a i r l er ok inv = seen-fail holdsAt quietAt (λ b. b) (c .kind3) a i l (sym (ap (λ x. x .holds) er) ∙ not-true (r .holds) ok) ∙ inv
+    pub impl-turn : not (r .holds) ≡ false → implLeft (a && r .quiet) (i + 1) ≡ implIn f s h p v t m
+    unfolding implLeft
+    impl-turn ok =
+        ap (λ x. seenLeft holdsAt quietAt (λ b. b) rows (a && x .quiet) (i + 1)) is
+        ∙ sym (seen-turn holdsAt quietAt (λ b. b) rows a i l (sym (ap (λ x. x .holds) is) ∙ not-false (r .holds) ok)) ∙ inv
 
-  pub impl-end : (a : Bool) (i : ℕ) → c .kind3 ≤ i → implLeft a i ≡ implIn f s c p v t m → record { holds = true; quiet = a } ≡ implIn f s c p v t m
+    pub impl-fail : not (r .holds) ≡ true → record { holds = false; quiet = false } ≡ implIn f s h p v t m
+    unfolding implLeft
+    impl-fail ok = seen-fail holdsAt quietAt (λ b. b) rows a i l (sym (ap (λ x. x .holds) is) ∙ not-true (r .holds) ok) ∙ inv
+
+  pub impl-end : (a : Bool) (i : ℕ) → rows ≤ i → implLeft a i ≡ implIn f s h p v t m → record { holds = true; quiet = a } ≡ implIn f s h p v t m
   unfolding implLeft
-  impl-end a i l inv = seen-end holdsAt quietAt (λ b. b) (c .kind3) a i l ∙ inv
+  impl-end a i l inv = seen-end holdsAt quietAt (λ b. b) rows a i l ∙ inv
+
+-- a plan has their entries
+pub impl-few : (h : Shape) (i : ℕ) → Fits h → i < h .implementation .rows .count → i < 64
+impl-few h i fits l = let n = fits .implementation .rows in omega arith
+
+pub spec-few : (h : Shape) (i : ℕ) → Fits h → i < h .specification .rows .count → 32 + i < 64
+spec-few h i fits l = let n = fits .specification .rows in omega arith
 
 -- ---- the rows of the specification
 
-module _ (f s v : List ℕ) (c : Counts) (j e : ℕ) (on : Bool) where
-  pub reply-off : not on ≡ true → true ≡ repliedIf on f s c j v e
-  unfolding repliedIf
-  reply-off h = rw (not-true on h)
+module _ (f s v t : List ℕ) (p : Process) (row : Row) (first o : Held) (e : ℕ) (eo : o ≡ knownIn f row t first e) where
+  pub reply-off : not (o .holds) ≡ true → true ≡ repliedIn f s p row first v t e
+  unfolding repliedIn
+  reply-off y = rw (← eo, not-true (o .holds) y)
 
-  pub reply-none : not on ≡ false → j ≡ 0 → false ≡ repliedIf on f s c j v e
-  unfolding repliedIf implAt evalF
-  reply-none h z = rw (not-false on h, z)
+  pub reply-none : not (o .holds) ≡ false → row .partner ≡ 0 → false ≡ repliedIn f s p row first v t e
+  unfolding repliedIn partnerBy evalF
+  reply-none y z = rw (← eo, not-false (o .holds) y, z)
 
-  pub reply-on : (line : ℕ) (b : Bool) → not on ≡ false → (j ≡ 0 → ⊥) → line ≡ implLine s c j → b ≡ evalF (readF 32 (drop (line + 3) f) .tree) v e
-      → b ≡ repliedIf on f s c j v e
-  unfolding repliedIf implAt implBy
-  reply-on line b ok some el eb = rw (not-false on ok, ne-eqb j 0 some, ← el, place f line 3 refl, eb)
+  pub reply-on : (line : ℕ) (b : Bool) → not (o .holds) ≡ false → (row .partner ≡ 0 → ⊥) → line ≡ lineOf s p (row .partner) → b ≡ evalF (readF 32 (drop (line + 3) f) .tree) v e
+      → b ≡ repliedIn f s p row first v t e
+  unfolding repliedIn partnerBy rowBy
+  reply-on line b ok some el eb = rw (← eo, not-false (o .holds) ok, ne-eqb (row .partner) 0 some, ← el, place f line 3 refl, eb)
 
-module _ (f s v t : List ℕ) (c : Counts) (at d j n : ℕ) (free : Bool) where
-  abbrev R : ℕ → Bool
-  R e = repliedIf (onAt f t at d free e) f s c j v e
+module _ (f s v t : List ℕ) (p : Process) (row : Row) where
+  abbrev answers : ℕ → Bool
+  answers e = onAt f row t e ⇒ enabledB (partnerBy f s p (row .partner)) v e
 
   unfoldable pub replyLeft : ℕ → Bool
-  replyLeft e = allIn R (n - e) e
+  replyLeft e = allIn answers (row .looks - e) e
 
-  module _ (first : Held) (ef : first ≡ answerF at t 0 (readF d (drop at f))) where
-    pub reply-ruled-out : free && not (first .holds) ≡ true → true ≡ replyLooks f s c at d free j n v t
-    unfolding replyLooks repliedIf
-    reply-ruled-out h =
-        rw (and-left free (not (first .holds)) h)
-        (sym (all-yes (λ e. evalF (readF d (drop at f) .tree) t 0 ⇒ enabledB (implAt f s c j) v e) (λ e. ap (λ b. b ⇒ enabledB (implAt f s c j) v e) off) n 0))
-      where
-        off : evalF (readF d (drop at f) .tree) t 0 ≡ false
-        off = sym (ap (λ x. x .holds) ef) ∙ not-true (first .holds) (and-right free (not (first .holds)) h)
+  module _ (first : Held) (ef : first ≡ answerF (row .at) t 0 (left f row)) where
+    pub reply-ruled-out : row .free && not (first .holds) ≡ true → true ≡ replyLooks f s p row v t
+    unfolding replyLooks
+    reply-ruled-out y = sym (all-yes answers (λ e. ap (λ b. b ⇒ enabledB (partnerBy f s p (row .partner)) v e) (never f t row first y ef e)) (row .looks) 0)
 
-    pub reply-begin : replyLeft 0 ≡ replyLooks f s c at d free j n v t
+    pub reply-begin : replyLeft 0 ≡ replyLooks f s p row v t
     unfolding replyLeft replyLooks
-    reply-begin = all-begin R n
+    reply-begin = all-begin answers (row .looks)
 
-    module _ (e : ℕ) (b : Bool) (eb : b ≡ repliedIn f s c at d first free j v t e) where
-      replied-row : b ≡ R e
+    module _ (e : ℕ) (b : Bool) (eb : b ≡ repliedIn f s p row first v t e) where
+      replied-row : b ≡ answers e
       unfolding repliedIn
-      replied-row = eb ∙ ap (λ x. repliedIf (x .holds) f s c j v e) (on-is f t at d e free first ef)
+      replied-row = eb ∙ ap (λ x. x .holds ⇒ enabledB (partnerBy f s p (row .partner)) v e) (on-is f row t first e ef)
 
-      pub reply-turn : e < n → not b ≡ false → replyLeft e ≡ replyLooks f s c at d free j n v t → replyLeft (e + 1) ≡ replyLooks f s c at d free j n v t
+      pub reply-turn : e < row .looks → not b ≡ false → replyLeft e ≡ replyLooks f s p row v t → replyLeft (e + 1) ≡ replyLooks f s p row v t
       unfolding replyLeft
-      reply-turn l ok inv = sym (all-turn R n e l (sym replied-row ∙ not-false b ok)) ∙ inv
+      reply-turn l ok inv = sym (all-turn answers (row .looks) e l (sym replied-row ∙ not-false b ok)) ∙ inv
 
-      pub reply-fail : e < n → not b ≡ true → replyLeft e ≡ replyLooks f s c at d free j n v t → false ≡ replyLooks f s c at d free j n v t
+      pub reply-fail : e < row .looks → not b ≡ true → replyLeft e ≡ replyLooks f s p row v t → false ≡ replyLooks f s p row v t
       unfolding replyLeft
-      reply-fail l ok inv = sym (all-fail R n e l (sym replied-row ∙ not-true b ok)) ∙ inv
+      reply-fail l ok inv = sym (all-fail answers (row .looks) e l (sym replied-row ∙ not-true b ok)) ∙ inv
 
-  pub reply-end : (e : ℕ) → n ≤ e → replyLeft e ≡ replyLooks f s c at d free j n v t → true ≡ replyLooks f s c at d free j n v t
+  pub reply-end : (e : ℕ) → row .looks ≤ e → replyLeft e ≡ replyLooks f s p row v t → true ≡ replyLooks f s p row v t
   unfolding replyLeft
-  reply-end e l inv = sym (all-end R n e l) ∙ inv
+  reply-end e l inv = sym (all-end answers (row .looks) e l) ∙ inv
 
-module _ (f s v t : List ℕ) (c : Counts) (k j n l line : ℕ) (free : Bool) (g : Guarded) (el : line ≡ specLine s c k) (eg : g ≡ guardIn f t 0 l (line + 3) 32) where
-  pub reply-guarded : not (g .holds) ≡ true → true ≡ replyIn f s c k j n free l v t
+module _ (f s v t : List ℕ) (h : Shape) (k line : ℕ) (en : Entry) (g : Guarded) (el : line ≡ lineOf s (h .specification) k) (eg : g ≡ guardIn f t 0 (en .front) (line + 3) 32) where
+  pub reply-guarded : not (g .holds) ≡ true → true ≡ replyIn f s h k en v t
   unfolding replyIn
-  reply-guarded h = rw (← el, ← eg, not-true (g .holds) h)
+  reply-guarded y = rw (← el, ← eg, not-true (g .holds) y)
 
-  pub reply-row : (r : Bool) → not (g .holds) ≡ false → r ≡ replyLooks f s c (g .at) (g .depth) free j n v t → r ≡ replyIn f s c k j n free l v t
+  pub reply-row : (row : Row) (r : Bool) → not (g .holds) ≡ false → row ≡ rowFor g en false → r ≡ replyLooks f s (h .implementation) row v t → r ≡ replyIn f s h k en v t
   unfolding replyIn
-  reply-row r h er = er ∙ rw (← el, ← eg, not-false (g .holds) h)
+  reply-row row r y ew er = er ∙ rw (ew, ← el, ← eg, not-false (g .holds) y)
 
-pub reply-planned-is : (f s p v t : List ℕ) (c : Counts) (i j n x l : ℕ) (r : Bool) → j ≡ getD p (96 + i) 0 → n ≡ getD p (128 + i) 0 → x ≡ getD p (160 + i) 0
-    → l ≡ getD p (224 + i) 0 → r ≡ replyIn f s c (i + 1) j n (eqb x 1) l v t → r ≡ replyPlanned f s c p i v t
-unfolding replyPlanned
-reply-planned-is f s p v t c i j n x l r ej en ex el er = er ∙ rw (ej, en, ex, el)
+module _ (f s p v t : List ℕ) (h : Shape) where
+  abbrev replied : ℕ → Bool
+  replied i = replyIn f s h (i + 1) (entryAt p (32 + i)) v t
 
-module _ (f s p v t : List ℕ) (c : Counts) where
   unfoldable pub specLeft : ℕ → Bool
-  specLeft i = allIn (λ x. replyPlanned f s c p x v t) (c .kind4 - i) i
+  specLeft i = allIn replied (h .specification .rows .count - i) i
 
-  pub spec-begin : specLeft 0 ≡ specIn f s c p v t
+  pub spec-begin : specLeft 0 ≡ specIn f s h p v t
   unfolding specLeft specIn
-  spec-begin = all-begin (λ x. replyPlanned f s c p x v t) (c .kind4)
+  spec-begin = all-begin replied (h .specification .rows .count)
 
-  pub spec-turn : (i : ℕ) (b : Bool) → i < c .kind4 → b ≡ replyPlanned f s c p i v t → not b ≡ false → specLeft i ≡ specIn f s c p v t → specLeft (i + 1) ≡ specIn f s c p v t
-  unfolding specLeft
-  spec-turn i b l eb ok inv = sym (all-turn (λ x. replyPlanned f s c p x v t) (c .kind4) i l (sym eb ∙ not-false b ok)) ∙ inv
+  module _ (i : ℕ) (e : Entry) (b : Bool) (l : i < h .specification .rows .count) (ee : e ≡ entryAt p (32 + i)) (eb : b ≡ replyIn f s h (i + 1) e v t)
+      (inv : specLeft i ≡ specIn f s h p v t) where
+    answered : replied i ≡ b
+    answered = sym (eb ∙ ap (λ x. replyIn f s h (i + 1) x v t) ee)
 
-  pub spec-fail : (i : ℕ) (b : Bool) → i < c .kind4 → b ≡ replyPlanned f s c p i v t → not b ≡ true → specLeft i ≡ specIn f s c p v t → false ≡ specIn f s c p v t
-  unfolding specLeft
-  spec-fail i b l eb ok inv = sym (all-fail (λ x. replyPlanned f s c p x v t) (c .kind4) i l (sym eb ∙ not-true b ok)) ∙ inv
+    pub spec-turn : not b ≡ false → specLeft (i + 1) ≡ specIn f s h p v t
+    unfolding specLeft
+    spec-turn ok = sym (all-turn replied (h .specification .rows .count) i l (answered ∙ not-false b ok)) ∙ inv
 
-  pub spec-end : (i : ℕ) → c .kind4 ≤ i → specLeft i ≡ specIn f s c p v t → true ≡ specIn f s c p v t
+    pub spec-fail : not b ≡ true → false ≡ specIn f s h p v t
+    unfolding specLeft
+    spec-fail ok = sym (all-fail replied (h .specification .rows .count) i l (answered ∙ not-true b ok)) ∙ inv
+
+  pub spec-end : (i : ℕ) → h .specification .rows .count ≤ i → specLeft i ≡ specIn f s h p v t → true ≡ specIn f s h p v t
   unfolding specLeft
-  spec-end i l inv = sym (all-end (λ x. replyPlanned f s c p x v t) (c .kind4) i l) ∙ inv
+  spec-end i l inv = sym (all-end replied (h .specification .rows .count) i l) ∙ inv
 
 -- ---- the state
 
-module _ (f s p v t : List ℕ) (c : Counts) (two : Bool) (said : two ≡ belowIn f s (c .kind1) (c .kind2) t) where
-  pub pass-two : not two ≡ true → false ≡ passesIn f s c p v t
+module _ (f s p v t : List ℕ) (h : Shape) (two : Bool) (said : two ≡ belowIn f s (h .specification) t) where
+  pub pass-two : not two ≡ true → false ≡ passesIn f s h p v t
   unfolding passesIn
-  pass-two h = rw (← said, not-true two h)
+  pass-two y = rw (← said, not-true two y)
 
-  module _ (m : ℕ) (r : Seen) (ok : not two ≡ false) (em : m ≡ measureIn f s c v) (er : r ≡ implIn f s c p v t m) where
-    pub pass-rows : not (r .holds) ≡ true → false ≡ passesIn f s c p v t
+  module _ (m : ℕ) (r : Seen) (ok : not two ≡ false) (em : m ≡ measureIn f s h v) (er : r ≡ implIn f s h p v t m) where
+    pub pass-rows : not (r .holds) ≡ true → false ≡ passesIn f s h p v t
     unfolding passesIn
-    pass-rows h = rw (← said, not-false two ok, ← em, ← er, not-true (r .holds) h)
+    pass-rows y = rw (← said, not-false two ok, ← em, ← er, not-true (r .holds) y)
 
-    pub pass-busy : not (r .holds) ≡ false → not (r .quiet) ≡ true → true ≡ passesIn f s c p v t
+    pub pass-busy : not (r .holds) ≡ false → not (r .quiet) ≡ true → true ≡ passesIn f s h p v t
     unfolding passesIn
-    pass-busy h q = rw (← said, not-false two ok, ← em, ← er, not-false (r .holds) h, not-true (r .quiet) q)
+    pass-busy y q = rw (← said, not-false two ok, ← em, ← er, not-false (r .holds) y, not-true (r .quiet) q)
 
-    pub pass-quiet : (b : Bool) → not (r .holds) ≡ false → not (r .quiet) ≡ false → b ≡ specIn f s c p v t → b ≡ passesIn f s c p v t
+    pub pass-quiet : (b : Bool) → not (r .holds) ≡ false → not (r .quiet) ≡ false → b ≡ specIn f s h p v t → b ≡ passesIn f s h p v t
     unfolding passesIn
-    pass-quiet b h q eb = eb ∙ rw (← said, not-false two ok, ← em, ← er, not-false (r .holds) h, not-false (r .quiet) q)
+    pass-quiet b y q eb = eb ∙ rw (← said, not-false two ok, ← em, ← er, not-false (r .holds) y, not-false (r .quiet) q)

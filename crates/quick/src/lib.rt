@@ -1,23 +1,59 @@
 // Whether a state passes, with no word on where it fails: one look at each row and sum value, all criteria at once. So a state that
-// passes is paid for once, and only one that fails is searched (crate lowest). Every function answers any arrays.
+// passes is paid for once, and only one that fails is searched (crate lowest). Every function answers any arrays and any plan.
 //
 // What does not change from state to state is worked out before (crate plan). What each function computes is in specs/Quick; that it
 // is the quick test of the crate decision is in proofs/Decided.
+use conjuncts::Guarded;
+use design::Process;
+use design::Shape;
 use eval::Held;
-use layout::Shape;
+use plan::Entry;
 ghost use mathlib.Core.Path.{_≡_};
-ghost use Prim.Native.Nat.{_+_, _*_};
-ghost use lib.ListN.{drop};
-ghost use Rattle.terms.specs.Read.{readF};
-ghost use Rattle.terms.specs.Tree.{pick};
-ghost use Rattle.eval.specs.Answer.{answerF};
-ghost use Rattle.layout.specs.Sizes.{countsOf};
-ghost use Rattle.quick.specs.Quick.{keptIn, answeredIn, stepIn, heldIf, lookIn, looksIn, rowIn, plannedIn, implIn, repliedIf, repliedIn, replyLooks, replyIn, replyPlanned, specIn, passesIn};
+ghost use Rattle.layout.specs.Sizes.{Fits};
+ghost use Rattle.quick.specs.Quick.{knownIn, keptIn, answeredIn, stepIn, lookIn, looksIn, rowFor, rowIn, implIn, repliedIn, replyLooks, replyIn, specIn, passesIn};
 
 // What was seen of rows: whether each holds, and, if so, whether no internal one is enabled.
 pub struct Seen {
     pub holds: bool,
     pub quiet: bool,
+}
+
+// A row that is looked at.
+pub struct Row {
+    // where its condition, or what is left of it, stands, and how deep that may be
+    pub at: usize,
+    pub depth: usize,
+    // whether that does not read the sum value
+    pub free: bool,
+    // how many sum values need a look
+    pub looks: u16,
+    pub internal: bool,
+    // the number of its partner, 0 if there is none
+    pub partner: u16,
+}
+
+// The row of an entry, of whose condition the conjuncts in front were evaluated.
+fn row_for(front: Guarded, entry: Entry, internal: bool) -> Row
+    ensures { λ r. ⌜ r ≡ rowFor front entry internal ⌝ }
+{
+    Row {
+        at: front.at,
+        depth: front.depth,
+        free: entry.free,
+        looks: entry.looks,
+        internal: internal,
+        partner: entry.partner,
+    }
+}
+
+// Whether a row's condition holds for a sum value, and where it ends: what is known for sum value 0 does for all where nothing reads it.
+fn on_at(fields: &limits::Fields, row: Row, v: &limits::Values, first: Held, sum: u16) -> Held
+    ensures { λ r. ⌜ r ≡ knownIn (now (fields .entry)) row (now (v .entry)) first sum ⌝ }
+{
+    if row.free | (sum == 0) {
+        return first;
+    }
+    eval::formula(fields, row.at, v, sum, row.depth)
 }
 
 // ---- a step of a row
@@ -31,10 +67,10 @@ fn kept<'a>(
     t: &limits::Values,
     m: u16,
 ) -> bool
-    ensures { λ r. ⌜ r ≡ keptIn (now (fields .entry)) (now (starts .entry)) (countsOf shape) (now (x .entry)) (now (t .entry)) m ⌝ }
+    ensures { λ r. ⌜ r ≡ keptIn (now (fields .entry)) (now (starts .entry)) shape (now (x .entry)) (now (t .entry)) m ⌝ }
 {
     let there = steps::mapped(fields, starts, shape, x);
-    if steps::same(shape.kind2, t, &there) {
+    if steps::same(shape.specification.parameters.count, t, &there) {
         steps::measure(fields, starts, shape, x) < m
     } else {
         false
@@ -45,19 +81,19 @@ fn kept<'a>(
 fn answered<'a>(
     fields: &'a limits::Fields,
     starts: &'a limits::Starts,
-    shape: Shape,
+    specification: Process,
     j: u16,
     carries: u16,
     there: &limits::Values,
     t: &limits::Values,
     sum: u16,
 ) -> bool
-    ensures { λ r. ⌜ r ≡ answeredIn (now (fields .entry)) (now (starts .entry)) (countsOf shape) j carries (now (there .entry)) (now (t .entry)) sum ⌝ }
+    ensures { λ r. ⌜ r ≡ answeredIn (now (fields .entry)) (now (starts .entry)) specification j carries (now (there .entry)) (now (t .entry)) sum ⌝ }
 {
     if j == 0 {
         return false;
     }
-    let line = steps::spec_line(starts, shape, j);
+    let line = steps::line_of(starts, specification, j);
     let condition = eval::formula(fields, line as usize + 3, t, sum, limits::MAX_DEPTH);
     if !condition.holds {
         return false;
@@ -66,8 +102,9 @@ fn answered<'a>(
     if carries != carried.value {
         return false;
     }
-    let next = steps::values(fields, carried.next, shape.kind2, t, sum);
-    steps::same(shape.kind2, there, &next)
+    let n = specification.parameters.count;
+    let next = steps::values(fields, carried.next, n, t, sum);
+    steps::same(n, there, &next)
 }
 
 // Whether criteria 3 to 6, 8 and 9 hold of the step of a row that is enabled; its data stand at a place.
@@ -75,128 +112,80 @@ fn step_holds<'a>(
     fields: &'a limits::Fields,
     starts: &'a limits::Starts,
     shape: Shape,
+    row: Row,
     at: usize,
-    internal: bool,
-    j: u16,
     v: &limits::Values,
     t: &limits::Values,
     m: u16,
     sum: u16,
 ) -> bool
-    ensures { λ r. ⌜ r ≡ stepIn (now (fields .entry)) (now (starts .entry)) (countsOf shape) at internal j (now (v .entry)) (now (t .entry)) m sum ⌝ }
+    ensures { λ r. ⌜ r ≡ stepIn (now (fields .entry)) (now (starts .entry)) shape row at (now (v .entry)) (now (t .entry)) m sum ⌝ }
 {
     let data = eval::value(fields, at, v, sum, limits::MAX_DEPTH);
-    let x = steps::values(fields, data.next, shape.kind1, v, sum);
+    let n = shape.implementation.parameters.count;
+    let x = steps::values(fields, data.next, n, v, sum);
     if !steps::inside(fields, starts, shape, &x) {
         return false;
     }
-    if internal {
+    if row.internal {
         return kept(fields, starts, shape, &x, t, m);
     }
     let there = steps::mapped(fields, starts, shape, &x);
-    answered(fields, starts, shape, j, data.value, &there, t, sum)
-}
-
-// The same where the row is enabled.
-fn held_if<'a>(
-    on: bool,
-    fields: &'a limits::Fields,
-    starts: &'a limits::Starts,
-    shape: Shape,
-    at: usize,
-    internal: bool,
-    j: u16,
-    v: &limits::Values,
-    t: &limits::Values,
-    m: u16,
-    sum: u16,
-) -> bool
-    ensures { λ r. ⌜ r ≡ heldIf on (stepIn (now (fields .entry)) (now (starts .entry)) (countsOf shape) at internal j (now (v .entry)) (now (t .entry)) m sum) ⌝ }
-{
-    if on {
-        step_holds(fields, starts, shape, at, internal, j, v, t, m, sum)
-    } else {
-        true
-    }
-}
-
-// Whether the formula at a place holds for a sum value: what is known of it, where that may be kept.
-fn on_at(
-    fields: &limits::Fields,
-    at: usize,
-    depth: usize,
-    v: &limits::Values,
-    sum: u16,
-    keep: bool,
-    known: Held,
-) -> Held
-    ensures { λ r. ⌜ r ≡ pick keep known (answerF at (now (v .entry)) sum (readF depth (drop at (now (fields .entry))))) ⌝ }
-{
-    if keep {
-        return known;
-    }
-    eval::formula(fields, at, v, sum, depth)
+    answered(
+        fields,
+        starts,
+        shape.specification,
+        row.partner,
+        data.value,
+        &there,
+        t,
+        sum,
+    )
 }
 
 // ---- the rows of the implementation
 
-// One look at a row whose condition stands at a place: whether it holds, and whether it is not enabled. For sum value 0, and for all
-// where the condition is sum-free, what is known of the condition will do.
+// One look at a row: whether it holds, and whether it is not enabled.
 fn look<'a>(
     fields: &'a limits::Fields,
     starts: &'a limits::Starts,
     shape: Shape,
-    at: usize,
-    depth: usize,
+    row: Row,
     first: Held,
-    free: bool,
-    internal: bool,
-    j: u16,
     v: &limits::Values,
     t: &limits::Values,
     m: u16,
     sum: u16,
 ) -> Seen
-    ensures { λ r. ⌜ r ≡ lookIn (now (fields .entry)) (now (starts .entry)) (countsOf shape) at depth first free internal j (now (v .entry)) (now (t .entry)) m sum ⌝ }
+    ensures { λ r. ⌜ r ≡ lookIn (now (fields .entry)) (now (starts .entry)) shape row first (now (v .entry)) (now (t .entry)) m sum ⌝ }
 {
-    let on = on_at(fields, at, depth, v, sum, free | (sum == 0), first);
+    let on = on_at(fields, row, v, first, sum);
+    if !on.holds {
+        return Seen {
+            holds: true,
+            quiet: true,
+        };
+    }
     Seen {
-        holds: held_if(
-            on.holds,
-            fields,
-            starts,
-            shape,
-            on.next,
-            internal,
-            j,
-            v,
-            t,
-            m,
-            sum,
-        ),
-        quiet: !on.holds,
+        holds: step_holds(fields, starts, shape, row, on.next, v, t, m, sum),
+        quiet: false,
     }
 }
 
-// What n looks see at a row whose condition, or what is left of it, stands at a place; where that is sum-free it is evaluated once.
+// What its looks see. A condition that does not read the sum value is evaluated once.
 fn row_looks<'a>(
     fields: &'a limits::Fields,
     starts: &'a limits::Starts,
     shape: Shape,
-    at: usize,
-    depth: usize,
-    free: bool,
-    internal: bool,
-    j: u16,
-    n: u16,
+    row: Row,
     v: &limits::Values,
     t: &limits::Values,
     m: u16,
 ) -> Seen
-    ensures { λ r. ⌜ r ≡ looksIn (now (fields .entry)) (now (starts .entry)) (countsOf shape) at depth free internal j n (now (v .entry)) (now (t .entry)) m ⌝ }
+    ensures { λ r. ⌜ r ≡ looksIn (now (fields .entry)) (now (starts .entry)) shape row (now (v .entry)) (now (t .entry)) m ⌝ }
 {
-    let first = eval::formula(fields, at, v, 0, depth);
-    if free & !first.holds {
+    let first = eval::formula(fields, row.at, v, 0, row.depth);
+    if row.free & !first.holds {
         return Seen {
             holds: true,
             quiet: true,
@@ -204,22 +193,8 @@ fn row_looks<'a>(
     }
     let mut quiet = true;
     let mut sum = 0;
-    while sum < n {
-        let seen = look(
-            fields,
-            starts,
-            shape,
-            at,
-            depth,
-            first,
-            free,
-            internal,
-            j,
-            v,
-            t,
-            m,
-            sum,
-        );
+    while sum < row.looks {
+        let seen = look(fields, starts, shape, row, first, v, t, m, sum);
         if !seen.holds {
             return Seen {
                 holds: false,
@@ -231,28 +206,25 @@ fn row_looks<'a>(
     }
     Seen {
         holds: true,
-        quiet: !internal | quiet,
+        quiet: !row.internal | quiet,
     }
 }
 
-// What is seen of row k, whose partner is j: the conjuncts in front of its condition, and if they hold n looks at what is left.
+// What is seen of row k: the conjuncts in front of its condition, and if they hold its looks at what is left.
 fn row_seen<'a>(
     fields: &'a limits::Fields,
     starts: &'a limits::Starts,
     shape: Shape,
     k: u16,
-    j: u16,
-    n: u16,
-    free: bool,
-    fronts: u16,
+    entry: Entry,
     v: &limits::Values,
     t: &limits::Values,
     m: u16,
 ) -> Seen
-    ensures { λ r. ⌜ r ≡ rowIn (now (fields .entry)) (now (starts .entry)) (countsOf shape) k j n free fronts (now (v .entry)) (now (t .entry)) m ⌝ }
+    ensures { λ r. ⌜ r ≡ rowIn (now (fields .entry)) (now (starts .entry)) shape k entry (now (v .entry)) (now (t .entry)) m ⌝ }
 {
-    let line = steps::impl_line(starts, shape, k);
-    let front = conjuncts::guard(fields, line as usize + 3, v, 0, fronts);
+    let line = steps::line_of(starts, shape.implementation, k);
+    let front = conjuncts::guard(fields, line as usize + 3, v, 0, entry.front);
     if !front.holds {
         return Seen {
             holds: true,
@@ -260,52 +232,8 @@ fn row_seen<'a>(
         };
     }
     let internal = layout::field_of(fields, line, 1) == 0;
-    row_looks(
-        fields,
-        starts,
-        shape,
-        front.at,
-        front.depth,
-        free,
-        internal,
-        j,
-        n,
-        v,
-        t,
-        m,
-    )
-}
-
-// What is seen by the plan of the row with number i + 1.
-fn row_planned<'a>(
-    fields: &'a limits::Fields,
-    starts: &'a limits::Starts,
-    shape: Shape,
-    plan: &[u16; plan::ENTRIES],
-    i: u8,
-    v: &limits::Values,
-    t: &limits::Values,
-    m: u16,
-) -> Seen
-    ensures { λ r. ⌜ r ≡ plannedIn (now (fields .entry)) (now (starts .entry)) (countsOf shape) (now (plan .entry)) i (now (v .entry)) (now (t .entry)) m ⌝ }
-{
-    let j = terms::field(plan, i as usize);
-    let n = terms::field(plan, plan::ROWS + i as usize);
-    let free = terms::field(plan, 2 * plan::ROWS + i as usize);
-    let fronts = terms::field(plan, 6 * plan::ROWS + i as usize);
-    row_seen(
-        fields,
-        starts,
-        shape,
-        i as u16 + 1,
-        j,
-        n,
-        free == 1,
-        fronts,
-        v,
-        t,
-        m,
-    )
+    let row = row_for(front, entry, internal);
+    row_looks(fields, starts, shape, row, v, t, m)
 }
 
 // What is seen of all rows.
@@ -318,12 +246,14 @@ fn rows_seen<'a>(
     t: &limits::Values,
     m: u16,
 ) -> Seen
-    ensures { λ r. ⌜ r ≡ implIn (now (fields .entry)) (now (starts .entry)) (countsOf shape) (now (plan .entry)) (now (v .entry)) (now (t .entry)) m ⌝ }
+    requires { ⌜ Fits shape ⌝ }
+    ensures { λ r. ⌜ r ≡ implIn (now (fields .entry)) (now (starts .entry)) shape (now (plan .entry)) (now (v .entry)) (now (t .entry)) m ⌝ }
 {
     let mut quiet = true;
     let mut i = 0;
-    while i < shape.kind3 {
-        let seen = row_planned(fields, starts, shape, plan, i, v, t, m);
+    while i < shape.implementation.rows.count {
+        let entry = plan::entry_at(plan, i as usize);
+        let seen = row_seen(fields, starts, shape, i as u16 + 1, entry, v, t, m);
         if !seen.holds {
             return Seen {
                 holds: false,
@@ -341,70 +271,48 @@ fn rows_seen<'a>(
 
 // ---- the rows of the specification, at a focus point
 
-// Whether row j of the implementation is enabled at v, where it has to be.
-fn replied_if<'a>(
-    on: bool,
-    fields: &'a limits::Fields,
-    starts: &'a limits::Starts,
-    shape: Shape,
-    j: u16,
-    v: &limits::Values,
-    sum: u16,
-) -> bool
-    ensures { λ r. ⌜ r ≡ repliedIf on (now (fields .entry)) (now (starts .entry)) (countsOf shape) j (now (v .entry)) sum ⌝ }
-{
-    if !on {
-        return true;
-    }
-    if j == 0 {
-        return false;
-    }
-    let line = steps::impl_line(starts, shape, j);
-    conjuncts::holds(fields, line as usize + 3, v, sum)
-}
-
-// One look at a row whose condition, or what is left of it, stands at a place: whether criterion 7 holds.
+// One look at a row: whether criterion 7 holds.
 fn replied<'a>(
     fields: &'a limits::Fields,
     starts: &'a limits::Starts,
-    shape: Shape,
-    at: usize,
-    depth: usize,
+    implementation: Process,
+    row: Row,
     first: Held,
-    free: bool,
-    j: u16,
     v: &limits::Values,
     t: &limits::Values,
     sum: u16,
 ) -> bool
-    ensures { λ r. ⌜ r ≡ repliedIn (now (fields .entry)) (now (starts .entry)) (countsOf shape) at depth first free j (now (v .entry)) (now (t .entry)) sum ⌝ }
+    ensures { λ r. ⌜ r ≡ repliedIn (now (fields .entry)) (now (starts .entry)) implementation row first (now (v .entry)) (now (t .entry)) sum ⌝ }
 {
-    let on = on_at(fields, at, depth, t, sum, free | (sum == 0), first);
-    replied_if(on.holds, fields, starts, shape, j, v, sum)
+    let on = on_at(fields, row, t, first, sum);
+    if !on.holds {
+        return true;
+    }
+    if row.partner == 0 {
+        return false;
+    }
+    let line = steps::line_of(starts, implementation, row.partner);
+    conjuncts::holds(fields, line as usize + 3, v, sum)
 }
 
-// Whether it holds at n looks.
+// Whether it holds at its looks.
 fn reply_looks<'a>(
     fields: &'a limits::Fields,
     starts: &'a limits::Starts,
-    shape: Shape,
-    at: usize,
-    depth: usize,
-    free: bool,
-    j: u16,
-    n: u16,
+    implementation: Process,
+    row: Row,
     v: &limits::Values,
     t: &limits::Values,
 ) -> bool
-    ensures { λ r. ⌜ r ≡ replyLooks (now (fields .entry)) (now (starts .entry)) (countsOf shape) at depth free j n (now (v .entry)) (now (t .entry)) ⌝ }
+    ensures { λ r. ⌜ r ≡ replyLooks (now (fields .entry)) (now (starts .entry)) implementation row (now (v .entry)) (now (t .entry)) ⌝ }
 {
-    let first = eval::formula(fields, at, t, 0, depth);
-    if free & !first.holds {
+    let first = eval::formula(fields, row.at, t, 0, row.depth);
+    if row.free & !first.holds {
         return true;
     }
     let mut sum = 0;
-    while sum < n {
-        if !replied(fields, starts, shape, at, depth, first, free, j, v, t, sum) {
+    while sum < row.looks {
+        if !replied(fields, starts, implementation, row, first, v, t, sum) {
             return false;
         }
         sum += 1;
@@ -412,68 +320,25 @@ fn reply_looks<'a>(
     true
 }
 
-// Whether it holds of row k, whose partner is j.
+// Whether it holds of row k.
 fn row_replied<'a>(
     fields: &'a limits::Fields,
     starts: &'a limits::Starts,
     shape: Shape,
     k: u16,
-    j: u16,
-    n: u16,
-    free: bool,
-    fronts: u16,
+    entry: Entry,
     v: &limits::Values,
     t: &limits::Values,
 ) -> bool
-    ensures { λ r. ⌜ r ≡ replyIn (now (fields .entry)) (now (starts .entry)) (countsOf shape) k j n free fronts (now (v .entry)) (now (t .entry)) ⌝ }
+    ensures { λ r. ⌜ r ≡ replyIn (now (fields .entry)) (now (starts .entry)) shape k entry (now (v .entry)) (now (t .entry)) ⌝ }
 {
-    let line = steps::spec_line(starts, shape, k);
-    let front = conjuncts::guard(fields, line as usize + 3, t, 0, fronts);
+    let line = steps::line_of(starts, shape.specification, k);
+    let front = conjuncts::guard(fields, line as usize + 3, t, 0, entry.front);
     if !front.holds {
         return true;
     }
-    reply_looks(
-        fields,
-        starts,
-        shape,
-        front.at,
-        front.depth,
-        free,
-        j,
-        n,
-        v,
-        t,
-    )
-}
-
-// Whether it holds, by the plan, of the row with number i + 1.
-fn reply_planned<'a>(
-    fields: &'a limits::Fields,
-    starts: &'a limits::Starts,
-    shape: Shape,
-    plan: &[u16; plan::ENTRIES],
-    i: u8,
-    v: &limits::Values,
-    t: &limits::Values,
-) -> bool
-    ensures { λ r. ⌜ r ≡ replyPlanned (now (fields .entry)) (now (starts .entry)) (countsOf shape) (now (plan .entry)) i (now (v .entry)) (now (t .entry)) ⌝ }
-{
-    let j = terms::field(plan, 3 * plan::ROWS + i as usize);
-    let n = terms::field(plan, 4 * plan::ROWS + i as usize);
-    let free = terms::field(plan, 5 * plan::ROWS + i as usize);
-    let fronts = terms::field(plan, 7 * plan::ROWS + i as usize);
-    row_replied(
-        fields,
-        starts,
-        shape,
-        i as u16 + 1,
-        j,
-        n,
-        free == 1,
-        fronts,
-        v,
-        t,
-    )
+    let row = row_for(front, entry, false);
+    reply_looks(fields, starts, shape.implementation, row, v, t)
 }
 
 // Whether it holds of each row.
@@ -485,11 +350,13 @@ fn rows_replied<'a>(
     v: &limits::Values,
     t: &limits::Values,
 ) -> bool
-    ensures { λ r. ⌜ r ≡ specIn (now (fields .entry)) (now (starts .entry)) (countsOf shape) (now (plan .entry)) (now (v .entry)) (now (t .entry)) ⌝ }
+    requires { ⌜ Fits shape ⌝ }
+    ensures { λ r. ⌜ r ≡ specIn (now (fields .entry)) (now (starts .entry)) shape (now (plan .entry)) (now (v .entry)) (now (t .entry)) ⌝ }
 {
     let mut i = 0;
-    while i < shape.kind4 {
-        if !reply_planned(fields, starts, shape, plan, i, v, t) {
+    while i < shape.specification.rows.count {
+        let entry = plan::entry_at(plan, plan::ROWS + i as usize);
+        if !row_replied(fields, starts, shape, i as u16 + 1, entry, v, t) {
             return false;
         }
         i += 1;
@@ -508,9 +375,10 @@ pub fn passes<'a>(
     v: &limits::Values,
     t: &limits::Values,
 ) -> bool
-    ensures { λ r. ⌜ r ≡ passesIn (now (fields .entry)) (now (starts .entry)) (countsOf shape) (now (plan .entry)) (now (v .entry)) (now (t .entry)) ⌝ }
+    requires { ⌜ Fits shape ⌝ }
+    ensures { λ r. ⌜ r ≡ passesIn (now (fields .entry)) (now (starts .entry)) shape (now (plan .entry)) (now (v .entry)) (now (t .entry)) ⌝ }
 {
-    if !steps::below(fields, starts, shape.kind1 as u16, shape.kind2, t) {
+    if !steps::below(fields, starts, shape.specification, t) {
         return false;
     }
     let m = steps::measure(fields, starts, shape, v);

@@ -1,4 +1,4 @@
--- Enabled, the same data, the same next state.
+-- Condition, data and next values, each from where the one before ended.
 use borrow.Author.Needs.{needs}
 use Rattle.quick.proofs.Seeing as laws
 use Rattle.quick.proofs.answered.Statement.{statement}

@@ -1,4 +1,4 @@
--- Both parts.
+-- The mapping, then the measure.
 use borrow.Author.Needs.{needs}
 use Rattle.quick.proofs.Seeing as laws
 use Rattle.quick.proofs.kept.Statement.{statement}

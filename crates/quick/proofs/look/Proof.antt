@@ -1,4 +1,4 @@
--- The condition, and then the step.
+-- Only an enabled row makes a step.
 use borrow.Author.Needs.{needs}
 use Rattle.quick.proofs.Seeing as laws
 use Rattle.quick.proofs.look.Statement.{statement}
@@ -9,5 +9,6 @@ look-spec =
     tie.close
     (tie.spec
     (λ c κs. search needs)
+    (λ c. search laws.look-off)
     (λ c κs. search needs)
-    (λ c. search laws.look-is))
+    (λ c. search laws.look-on))

@@ -1,4 +1,4 @@
--- What is known, or evaluated.
+-- What is known, or the condition anew.
 use borrow.Author.Needs.{needs}
 use Rattle.quick.proofs.Seeing as laws
 use Rattle.quick.proofs.on_at.Statement.{statement}

@@ -8,7 +8,6 @@ pub passes-spec : {M : Type 1} → statement M
 passes-spec =
     tie.close
     (tie.spec
-    (λ c. search needs)
     (λ c κs. search needs)
     (λ c. search laws.pass-two)
     (λ c κs. search needs)

@@ -1,4 +1,4 @@
--- The condition, and then the partner's.
+-- Where the condition holds, the partner's.
 use borrow.Author.Needs.{needs}
 use Rattle.quick.proofs.Seeing as laws
 use Rattle.quick.proofs.replied.Statement.{statement}
@@ -9,5 +9,10 @@ replied-spec =
     tie.close
     (tie.spec
     (λ c κs. search needs)
+    (λ c. search laws.reply-off)
+    (λ c. search laws.reply-none)
     (λ c κs. search needs)
-    (λ c. search laws.replied-is))
+    (λ c. search needs)
+    (λ c. search needs)
+    (λ c κs. search needs)
+    (λ c. search laws.reply-on))

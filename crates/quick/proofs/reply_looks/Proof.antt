@@ -1,18 +1,17 @@
--- What is left of the row gives the whole.
+-- What is left of the looks gives the whole.
 use borrow.Author.Needs.{needs}
 use mathlib.Core.Path.{_≡_}
 use Prim.Native.Nat.{_-_}
-use Rattle.quick.proofs.Seeing as laws
-use Rattle.layout.specs.Sizes.{countsOf}
 use Rattle.quick.specs.Quick.{replyLooks}
+use Rattle.quick.proofs.Seeing as laws
 use Rattle.quick.proofs.reply_looks.Statement.{statement}
 use Rattle.quick.proofs.reply_looks.Tie as tie
 
 abbrev Inv-loop : tie.InvT-loop
-Inv-loop fields starts shape at depth free j n v t first sum₀ sum = laws.replyLeft fields starts v t (countsOf shape) at depth j n free sum ≡ replyLooks fields starts (countsOf shape) at depth free j n v t
+Inv-loop fields starts implementation row v t first sum₀ sum = laws.replyLeft fields starts v t implementation row sum ≡ replyLooks fields starts implementation row v t
 
 abbrev μ-loop : tie.MeasureT-loop
-μ-loop fields starts shape at depth free j n v t first sum₀ sum = n - sum
+μ-loop fields starts implementation row v t first sum₀ sum = row .looks - sum
 
 pub reply-looks-spec : {M : Type 1} → statement M
 reply-looks-spec =

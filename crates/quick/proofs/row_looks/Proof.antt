@@ -1,18 +1,17 @@
--- What is left of the row gives the whole.
+-- What is left of the looks gives the whole.
 use borrow.Author.Needs.{needs}
 use mathlib.Core.Path.{_≡_}
 use Prim.Native.Nat.{_-_}
-use Rattle.quick.proofs.Seeing as laws
-use Rattle.layout.specs.Sizes.{countsOf}
 use Rattle.quick.specs.Quick.{looksIn}
+use Rattle.quick.proofs.Seeing as laws
 use Rattle.quick.proofs.row_looks.Statement.{statement}
 use Rattle.quick.proofs.row_looks.Tie as tie
 
 abbrev Inv-loop : tie.InvT-loop
-Inv-loop fields starts shape at depth free internal j n v t m first quiet₀ sum₀ quiet sum = laws.rowLeft fields starts v t (countsOf shape) at depth j n m free internal quiet sum ≡ looksIn fields starts (countsOf shape) at depth free internal j n v t m
+Inv-loop fields starts shape row v t m first quiet₀ sum₀ quiet sum = laws.rowLeft fields starts v t shape row m quiet sum ≡ looksIn fields starts shape row v t m
 
 abbrev μ-loop : tie.MeasureT-loop
-μ-loop fields starts shape at depth free internal j n v t m first quiet₀ sum₀ quiet sum = n - sum
+μ-loop fields starts shape row v t m first quiet₀ sum₀ quiet sum = row .looks - sum
 
 pub row-looks-spec : {M : Type 1} → statement M
 row-looks-spec =

@@ -1,4 +1,4 @@
--- The conjuncts in front, and then the rest.
+-- The conjuncts in front, then the rest.
 use borrow.Author.Needs.{needs}
 use Rattle.quick.proofs.Seeing as laws
 use Rattle.quick.proofs.row_replied.Statement.{statement}
@@ -13,5 +13,6 @@ row-replied-spec =
     (λ c. search needs)
     (λ c κs. search needs)
     (λ c. search laws.reply-guarded)
+    (λ c κs. search needs)
     (λ c κs. search needs)
     (λ c. search laws.reply-row))

@@ -1,4 +1,4 @@
--- The conjuncts in front, and then the rest.
+-- The conjuncts in front, then the rest.
 use borrow.Author.Needs.{needs}
 use Rattle.quick.proofs.Seeing as laws
 use Rattle.quick.proofs.row_seen.Statement.{statement}
@@ -13,6 +13,7 @@ row-seen-spec =
     (λ c. search needs)
     (λ c κs. search needs)
     (λ c. search laws.row-off)
+    (λ c κs. search needs)
     (λ c κs. search needs)
     (λ c κs. search needs)
     (λ c. search laws.row-on))

@@ -2,17 +2,16 @@
 use borrow.Author.Needs.{needs}
 use mathlib.Core.Path.{_≡_}
 use Prim.Native.Nat.{_-_}
-use Rattle.quick.proofs.Seeing as laws
-use Rattle.layout.specs.Sizes.{countsOf}
 use Rattle.quick.specs.Quick.{specIn}
+use Rattle.quick.proofs.Seeing as laws
 use Rattle.quick.proofs.rows_replied.Statement.{statement}
 use Rattle.quick.proofs.rows_replied.Tie as tie
 
 abbrev Inv-loop : tie.InvT-loop
-Inv-loop fields starts shape plan v t i₀ i = laws.specLeft fields starts plan v t (countsOf shape) i ≡ specIn fields starts (countsOf shape) plan v t
+Inv-loop fields starts shape plan v t i₀ i = laws.specLeft fields starts plan v t shape i ≡ specIn fields starts shape plan v t
 
 abbrev μ-loop : tie.MeasureT-loop
-μ-loop fields starts shape plan v t i₀ i = shape .kind4 - i
+μ-loop fields starts shape plan v t i₀ i = shape .specification .rows .count - i
 
 pub rows-replied-spec : {M : Type 1} → statement M
 rows-replied-spec =
@@ -21,6 +20,11 @@ rows-replied-spec =
     Inv-loop
     μ-loop
     (λ c. search laws.spec-begin)
+    (λ c. search needs)
+    (λ c. search needs)
+    (λ c κs. search laws.spec-few)
+    (λ c. search needs)
+    (λ c. search needs)
     (λ c κs. search needs)
     (λ c. search laws.spec-fail)
     (λ c. search needs)

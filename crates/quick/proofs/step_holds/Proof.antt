@@ -1,4 +1,4 @@
--- Inside, and then by the sort of row.
+-- Inside, and then by the sort of the row.
 use borrow.Author.Needs.{needs}
 use Rattle.quick.proofs.Seeing as laws
 use Rattle.quick.proofs.step_holds.Statement.{statement}
