@@ -90,7 +90,7 @@ same-held x y n ex ey l = rw (front-held x n ex l, front-held y n ey l)
 
 -- ---- a process
 
-in-length : (n : ℕ) (l : List ℕ) → length (valuesIn n l) ≡ n
+pub in-length : (n : ℕ) (l : List ℕ) → length (valuesIn n l) ≡ n
 unfolding valuesIn
 in-length zero l = refl
 in-length (suc n) l = ap suc (in-length n _)
