@@ -18,24 +18,24 @@ use Rattle.criteria.specs.Failure.{Failure}
 use Rattle.decision.specs.Tests.{invariantB, holds1}
 use Rattle.decision.specs.Quick.{stateHolds}
 use Rattle.decision.proofs.Quick.{quick-passes}
+use Rattle.decision.proofs.Alike.{failing-alike}
 use Rattle.decision.specs.Examine.{named, stateAt, firstFailing, examine}
-use Rattle.design.specs.Loaded.{designIn}
+use Rattle.design.specs.Loaded.{sections, designAt, designIn}
 use Rattle.design.specs.declared.Counts.{Counts}
-use Rattle.layout.specs.Sizes.{countsFit, Fit, shapeOf, countsOf, stateCountIn}
-use Rattle.layout.specs.declared.Shape.{Shape}
-use Rattle.layout.proofs.Sizes.{fit, counts-kept}
-use Rattle.steps.specs.Arrays.{initialIn, stateIn, invariantIn, mappedIn, sameIn}
+use Rattle.design.specs.declared.Shape.{Shape}
+use Rattle.layout.specs.Sizes.{countsFit, Fits, shapeOf, stateCountIn}
+use Rattle.layout.proofs.Sizes.{shape-fits, sections-kept}
+use Rattle.steps.specs.Arrays.{padded, initialIn, stateIn, invariantIn, mappedIn, sameIn}
 use Rattle.steps.proofs.States as held
-use Rattle.lowest.specs.Search.{toldPlace, searchIn}
+use Rattle.lowest.specs.Search.{toldPlace}
 use Rattle.lowest.specs.declared.Place.{Place}
 use Rattle.lowest.specs.declared.Finding.{Finding}
 use Rattle.lowest.specs.declared.Finding.the-variants.{Nothing, Found}
-use Rattle.lowest.proofs.Decided.{search-held}
 use Rattle.plan.specs.Plan.{planIn}
 use Rattle.quick.specs.Quick.{passesIn}
 use Rattle.quick.proofs.Decided.{quick-held}
 use Rattle.walk.specs.Told.{told, toldWalked, noWalk, namedBy}
-use Rattle.walk.specs.Examine.{examineIn, walkOn}
+use Rattle.walk.specs.Examine.{examineAt, examineIn, walkOn}
 use Rattle.walk.specs.Walk.{startIn, walkIn, statesThere, planOf, walkBy, startMeets}
 use Rattle.walk.specs.declared.Failure.{Failure as Said}
 use Rattle.walk.specs.declared.Outcome.{Outcome as Answer}
@@ -53,43 +53,47 @@ pub named-found : (n : ℕ) (r : Finding) (x : Place) → r ≡ Found x
 unfolding namedBy
 named-found n r x h = rw h
 
-module _ (f s p v : List ℕ) (c : Counts) (k : ℕ) (b : Bool) (ev : v ≡ stateIn f s (c .kind1) k) (eb : b ≡ invariantIn f s c v) where
-  pub examine-outside : not b ≡ true → told Pass ≡ examineIn f s c p k
+module _ (f s p v : List ℕ) (h : Shape) (k : ℕ) (b : Bool) (ev : v ≡ stateIn f s (h .implementation) k) (eb : b ≡ invariantIn f s h v) where
+  of-state : (o : Outcome Failure) → o ≡ examineAt f s h p k v → o ≡ examineIn f s h p k
   unfolding examineIn
-  examine-outside h = rw (← ev, ← eb, not-true b h)
+  of-state o eo = eo ∙ ap (examineAt f s h p k) ev
 
-  module _ (t : List ℕ) (q : Bool) (h : not b ≡ false) (et : t ≡ mappedIn f s c v) (eq : q ≡ passesIn f s c p v t) where
-    pub examine-passes : q ≡ true → told Pass ≡ examineIn f s c p k
-    unfolding examineIn
-    examine-passes y = rw (← ev, ← eb, not-false b h, ← et, ← eq, y)
+  pub examine-outside : not b ≡ true → told Pass ≡ examineIn f s h p k
+  unfolding examineAt
+  examine-outside y = of-state (told Pass) (rw (← eb, not-true b y))
 
-    pub examine-finds : (r : Finding) (o : Answer) → q ≡ false → toldPlace r ≡ searchIn f s c v t → told o ≡ namedBy k r → told o ≡ examineIn f s c p k
-    unfolding examineIn namedBy
-    examine-finds r o y er eo = eo ∙ rw (er, ← ev, ← eb, not-false b h, ← et, ← eq, y)
+  module _ (t : List ℕ) (q : Bool) (y : not b ≡ false) (et : t ≡ mappedIn f s h v) (eq : q ≡ passesIn f s h p v t) where
+    pub examine-passes : q ≡ true → told Pass ≡ examineIn f s h p k
+    unfolding examineAt
+    examine-passes z = of-state (told Pass) (rw (← eb, not-false b y, ← et, ← eq, z))
+
+    pub examine-finds : (r : Finding) (o : Answer) → q ≡ false → toldPlace r ≡ firstFailing (designAt f s h) v → told o ≡ namedBy k r → told o ≡ examineIn f s h p k
+    unfolding examineAt namedBy
+    examine-finds r o z er eo = of-state (told o) (eo ∙ ap (named k) er ∙ rw (← eb, not-false b y, ← et, ← eq, z))
 
 -- ---- the loop
 
-module _ (f s p : List ℕ) (c : Counts) (n from : ℕ) where
+module _ (f s p : List ℕ) (h : Shape) (n from : ℕ) where
   unfoldable pub walkLeft : ℕ → theWalk.Walked Failure
-  walkLeft i = plus i (walkOn f s c p (n - i) (from + i))
+  walkLeft i = plus i (walkOn f s h p (n - i) (from + i))
 
-  pub walk-begin : walkLeft 0 ≡ walkOn f s c p n from
+  pub walk-begin : walkLeft 0 ≡ walkOn f s h p n from
   unfolding walkLeft
   walk-begin =
       let e : n - 0 ≡ n = omega arith in
       let k : from + 0 ≡ from = omega arith in
-      rw (e, k) (λ j. record { outcome = walkOn f s c p n from .outcome; count = zero-plus (walkOn f s c p n from .count) j })
+      rw (e, k) (λ j. record { outcome = walkOn f s h p n from .outcome; count = zero-plus (walkOn f s h p n from .count) j })
     where
       zero-plus : (m : ℕ) → 0 + m ≡ m
       zero-plus m = omega arith
 
-  pub walk-turn : (i : ℕ) (o : Answer) → i < n → told o ≡ examineIn f s c p (from + i) → o ≡ Pass → walkLeft i ≡ walkOn f s c p n from
-      → walkLeft (i + 1) ≡ walkOn f s c p n from
+  pub walk-turn : (i : ℕ) (o : Answer) → i < n → told o ≡ examineIn f s h p (from + i) → o ≡ Pass → walkLeft i ≡ walkOn f s h p n from
+      → walkLeft (i + 1) ≡ walkOn f s h p n from
   unfolding walkLeft walkOn
-  walk-turn i o l eo h inv = go ∙ inv
+  walk-turn i o l eo y inv = go ∙ inv
     where
       w : theWalk.Walked Failure
-      w = walkOn f s c p (n - (i + 1)) (from + (i + 1))
+      w = walkOn f s h p (n - (i + 1)) (from + (i + 1))
 
       one : (m : ℕ) → i + 1 + m ≡ i + (1 + m)
       one m = omega arith
@@ -98,20 +102,20 @@ module _ (f s p : List ℕ) (c : Counts) (n from : ℕ) where
       go =
           let e : n - i ≡ suc (n - (i + 1)) = omega arith in
           let k : suc (from + i) ≡ from + (i + 1) = omega arith in
-          rw (e, walk-goes (λ k. examineIn f s c p k) (n - (i + 1)) (from + i) (sym eo ∙ ap told h), k)
+          rw (e, walk-goes (λ k. examineIn f s h p k) (n - (i + 1)) (from + i) (sym eo ∙ ap told y), k)
           (λ j. record { outcome = w .outcome; count = one (w .count) j })
 
-  pub walk-fail : (i : ℕ) (o : Answer) (x : Said) → i < n → told o ≡ examineIn f s c p (from + i) → o ≡ Fail x → walkLeft i ≡ walkOn f s c p n from
-      → toldWalked (record { outcome = o; count = i + 1 }) ≡ walkOn f s c p n from
+  pub walk-fail : (i : ℕ) (o : Answer) (x : Said) → i < n → told o ≡ examineIn f s h p (from + i) → o ≡ Fail x → walkLeft i ≡ walkOn f s h p n from
+      → toldWalked (record { outcome = o; count = i + 1 }) ≡ walkOn f s h p n from
   unfolding walkLeft walkOn
-  walk-fail i o x l eo h inv = go ∙ inv
+  walk-fail i o x l eo y inv = go ∙ inv
     where
       go : toldWalked (record { outcome = o; count = i + 1 }) ≡ walkLeft i
       go =
           let e : n - i ≡ suc (n - (i + 1)) = omega arith in
-          rw (e, walk-stops (λ k. examineIn f s c p k) (n - (i + 1)) (from + i) _ (sym eo ∙ ap told h), h)
+          rw (e, walk-stops (λ k. examineIn f s h p k) (n - (i + 1)) (from + i) _ (sym eo ∙ ap told y), y)
 
-  pub walk-end : (i : ℕ) → i ≤ n → n ≤ i → walkLeft i ≡ walkOn f s c p n from → toldWalked (record { outcome = Pass; count = n }) ≡ walkOn f s c p n from
+  pub walk-end : (i : ℕ) → i ≤ n → n ≤ i → walkLeft i ≡ walkOn f s h p n from → toldWalked (record { outcome = Pass; count = n }) ≡ walkOn f s h p n from
   unfolding walkLeft walkOn theWalk.walk
   walk-end i l u inv = go ∙ inv
     where
@@ -128,62 +132,66 @@ unfolding theWalk.walk
 walk-alike g h zero i e = refl
 walk-alike g h (suc n) i e = rw (e i (omega arith) (omega arith), walk-alike g h n (suc i) (λ j l u. e j (omega arith) (omega arith)))
 
-module _ (f s : List ℕ) (c : Counts) (fits : Fit c) where
+module _ (f s : List ℕ) (h : Shape) (fits : Fits h) where
+  passes-held : (v : List ℕ) → passesIn f s h (planIn f s h) v (mappedIn f s h v) ≡ stateHolds (designAt f s h) v
+  unfolding mappedIn
+  passes-held v = quick-held f s h fits v
+
   -- the examination of a number is that of its state
-  pub examine-held : (k : ℕ) → k < states (designIn f s c) → examineIn f s c (planIn f s c) k ≡ examine (designIn f s c) k
-  unfolding examineIn examine
+  pub examine-held : (k : ℕ) → k < states (designAt f s h) → examineIn f s h (planIn f s h) k ≡ examine (designAt f s h) k
+  unfolding examineIn examineAt examine
   examine-held k l =
-      rw (held.state-held f s c fits k l, held.mapped-held f s c x short, held.invariant-held f s c x short, search-held f s c fits x long, quick-held f s c fits x long)
-      (ap (λ o. pick (invariantB d x) o pass) (go (stateHolds d x) refl))
+      ap (examineAt f s h (planIn f s h) k) (held.state-held f s (h .implementation) (fits .implementation) k l)
+      ∙ rw (held.invariant-held f s h x short, passes-held (padded x))
+      (ap (λ o. pick (invariantB d x) o pass) (go (stateHolds d (padded x)) refl ∙ ap (named k) (failing-alike (padded x) x (held.same-values x short) d)))
     where
       d : Design
-      d = designIn f s c
+      d = designAt f s h
 
       x : List ℕ
       x = stateAt d k
 
-      long : length x ≡ c .kind1
-      long = held.state-length f s c k
-
       short : length x ≤ 8
-      short = rw long (fits .kind1)
+      short = rw (held.state-length f s (h .implementation) k) (fits .implementation .parameters)
 
       -- a state that passes the quick test has no failure
-      go : (b : Bool) → stateHolds d x ≡ b → pick b pass (named k (firstFailing d x)) ≡ named k (firstFailing d x)
-      go true h = rw (quick-passes d x h)
-      go false h = refl
+      go : (b : Bool) → stateHolds d (padded x) ≡ b → pick b pass (named k (firstFailing d (padded x))) ≡ named k (firstFailing d (padded x))
+      go true y = rw (quick-passes d (padded x) y)
+      go false y = refl
 
-  pub start-held : startMeets f s c ≡ holds1 (designIn f s c)
-  unfolding startMeets
+  pub start-held : startMeets f s h ≡ holds1 (designAt f s h)
+  unfolding startMeets initialIn
   start-held =
-      let d : Design = designIn f s c in
+      let d : Design = designAt f s h in
       let x : List ℕ = initialState (d .impl) in
-      let short : length x ≤ 8 = rw (held.initial-length f s c) (fits .kind1) in
+      let short : length x ≤ 8 = rw (held.initial-length f s (h .implementation)) (fits .implementation .parameters) in
       rw (
-        held.initial-held f s c fits,
-        held.initial-held-spec f s c fits,
-        held.mapped-held f s c x short,
-        held.invariant-held f s c x short,
-        held.same-held (mapped d x) (initialState (d .spec)) (c .kind2) (held.mapped-length f s c x) (held.initial-length-spec f s c) (fits .kind2),
+        held.mapped-held f s h x short,
+        held.invariant-held f s h x short,
+        held.same-held (mapped d x) (initialState (d .spec)) (h .specification .parameters .count) (held.mapped-length f s h x)
+            (held.initial-length f s (h .specification)) (fits .specification .parameters),
       )
 
 -- ---- what is returned
 
 module _ (f s : List ℕ) (c : Counts) (b : Bool) (said : b ≡ countsFit c) where
-  pub start-fits : (h : Shape) (r : Bool) → b ≡ true → h ≡ shapeOf c → r ≡ startMeets f s (countsOf h) → r ≡ startIn f s c
+  pub start-fits : (h : Shape) (r : Bool) → not b ≡ false → h ≡ shapeOf c → r ≡ startMeets f s h → r ≡ startIn f s c
   unfolding startIn
   start-fits h r so eh er =
-      let all : countsFit c ≡ true = sym said ∙ so in
-      er ∙ ap (λ k. startMeets f s (countsOf k)) eh ∙ ap (startMeets f s) (counts-kept c all) ∙ start-held f s c (fit c b said so) ∙ rw all
+      let all : countsFit c ≡ true = sym said ∙ not-false b so in
+      er ∙ ap (startMeets f s) eh ∙ start-held f s (shapeOf c) (shape-fits c) ∙ ap (λ k. holds1 (designAt f s k)) (sections-kept c all) ∙ rw all
 
-  pub start-unfit : b ≡ false → false ≡ startIn f s c
+  pub start-unfit : not b ≡ true → false ≡ startIn f s c
   unfolding startIn
-  start-unfit no-fit = rw (← said, no-fit)
+  start-unfit no-fit = rw (← said, not-true b no-fit)
 
-pub start-is : (f s v t u : List ℕ) (c : Counts) (a b : Bool) → v ≡ initialIn f s 0 (c .kind1) → t ≡ mappedIn f s c v → u ≡ initialIn f s (c .kind1) (c .kind2)
-    → a ≡ invariantIn f s c v → b ≡ sameIn (c .kind2) t u → a && b ≡ startMeets f s c
+pub start-is : (f s v t u : List ℕ) (h : Shape) (a b : Bool) → v ≡ initialIn f s (h .implementation) → t ≡ mappedIn f s h v → u ≡ initialIn f s (h .specification)
+    → a ≡ invariantIn f s h v → b ≡ sameIn (h .specification .parameters .count) t u → a && b ≡ startMeets f s h
 unfolding startMeets
-start-is f s v t u c a b ev et eu ea eb = rw (ea, eb, et, eu, ev)
+start-is f s v t u h a b ev et eu ea eb = rw (ea, eb, et, eu, ev)
+
+pub fits-of : (c : Counts) (h : Shape) → h ≡ shapeOf c → Fits h
+fits-of c h eh = rw eh (shape-fits c)
 
 module _ (f s : List ℕ) (c : Counts) (m n from : ℕ) (most : m ≡ min (stateCountIn f s c) 65536) where
   -- whether the states are there
@@ -214,22 +222,22 @@ module _ (f s : List ℕ) (c : Counts) (m n from : ℕ) (most : m ≡ min (state
     unfolding walkBy
     none-so-many l k er = er ∙ rw (not-there (countsFit c) refl (omega arith))
 
-    pub walked : (h : Shape) → from ≤ m → n ≤ m - from → h ≡ shapeOf c → toldWalked r ≡ walkOn f s (countsOf h) p n from → toldWalked r ≡ walkBy f s c p n from
+    pub walked : (h : Shape) → from ≤ m → n ≤ m - from → h ≡ shapeOf c → toldWalked r ≡ walkOn f s h p n from → toldWalked r ≡ walkBy f s c p n from
     unfolding walkBy walkOn theWalk.walk
-    walked h l k eh er = er ∙ go (countsFit c) refl
+    walked h l k eh er = er ∙ ap (λ q. walkOn f s q p n from) eh ∙ go (countsFit c) refl
       where
-        go : (b : Bool) → countsFit c ≡ b → walkOn f s (countsOf h) p n from ≡ pick (statesThere f s c n from) (walkOn f s c p n from) noWalk
+        go : (b : Bool) → countsFit c ≡ b → walkOn f s (shapeOf c) p n from ≡ pick (statesThere f s c n from) (walkOn f s (shapeOf c) p n from) noWalk
         go false e =
             let z : m ≡ 0 = none-there e in
             let n0 : n ≡ 0 = omega arith in
             rw (e, n0)
-        go true e = rw (there e (omega arith)) (ap (λ q. walkOn f s q p n from) (ap countsOf eh ∙ counts-kept c e))
+        go true e = rw (there e (omega arith))
 
 -- ---- the plan, and that the walk by the plan of the arrays is the walk over the states of the design
 
-pub plan-made : (f s r : List ℕ) (c : Counts) (h : Shape) → h ≡ shapeOf c → r ≡ planIn f s (countsOf h) → r ≡ planOf f s c
+pub plan-made : (f s r : List ℕ) (c : Counts) (h : Shape) → h ≡ shapeOf c → r ≡ planIn f s h → r ≡ planOf f s c
 unfolding planOf
-plan-made f s r c h eh er = er ∙ ap (λ q. planIn f s (countsOf q)) eh
+plan-made f s r c h eh er = er ∙ ap (λ q. planIn f s q) eh
 
 module _ (f s : List ℕ) (c : Counts) (n from : ℕ) where
   pub by-plan : walkBy f s c (planOf f s c) n from ≡ walkIn f s c n from
@@ -239,13 +247,15 @@ module _ (f s : List ℕ) (c : Counts) (n from : ℕ) where
       d : Design
       d = designIn f s c
 
-      enough : countsFit c ≡ true → (b : Bool) → leb (from + n) (min (states d) 65536) ≡ b
-          → pick b (walkOn f s c (planIn f s c) n from) noWalk ≡ pick b (theWalk.walk (examine d) n from) noWalk
-      enough e false l = refl
-      enough e true l =
-          let within : from + n ≤ min (states d) 65536 = leb-true (from + n) (min (states d) 65536) l in
-          walk-alike (λ j. examineIn f s c (planIn f s c) j) (examine d) n from (λ j p u. examine-held f s c (fit c true (sym e) refl) j (omega arith))
+      h : Shape
+      h = sections c
 
-      go : (b : Bool) → countsFit c ≡ b → pick (statesThere f s c n from) (walkOn f s c (planIn f s (countsOf (shapeOf c))) n from) noWalk ≡ walkIn f s c n from
+      enough : Fits h → (b : Bool) → leb (from + n) (min (states d) 65536) ≡ b → pick b (walkOn f s h (planIn f s h) n from) noWalk ≡ pick b (theWalk.walk (examine d) n from) noWalk
+      enough fits false l = refl
+      enough fits true l =
+          let within : from + n ≤ min (states d) 65536 = leb-true (from + n) (min (states d) 65536) l in
+          walk-alike (λ j. examineIn f s h (planIn f s h) j) (examine d) n from (λ j p u. examine-held f s h fits j (omega arith))
+
+      go : (b : Bool) → countsFit c ≡ b → pick (statesThere f s c n from) (walkOn f s (shapeOf c) (planIn f s (shapeOf c)) n from) noWalk ≡ walkIn f s c n from
       go false e = rw e
-      go true e = rw (counts-kept c e, e) (enough e _ refl)
+      go true e = rw (sections-kept c e, e) (enough (fits-of c h (sym (sections-kept c e))) _ refl)

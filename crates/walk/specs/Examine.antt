@@ -1,24 +1,25 @@
--- The examination of the state with a number, and the walk over such, as the code makes them from a desk's arrays
--- and a plan p. Where the number is
--- that of a state and the plan is right, they are those of decision/specs/Examine (proofs/Walking).
+-- The examination of the state with a number, and the walk over such, as the code makes them from a desk's arrays and a plan p. Where
+-- the number is that of a state and the plan is right, they are those of decision/specs/Examine (proofs/Walking).
 use mathlib.Core.List.{List}
 use Prim.Native.Nat.{ℕ}
 use Rattle.foundation.specs.First.{Outcome, pass}
 use Rattle.foundation.specs.Walk.{Walked, walk}
 use Rattle.terms.specs.Tree.{pick}
 use Rattle.criteria.specs.Failure.{Failure}
-use Rattle.decision.specs.Examine.{named}
-use Rattle.design.specs.declared.Counts.{Counts}
+use Rattle.decision.specs.Examine.{named, firstFailing}
+use Rattle.design.specs.Loaded.{designAt}
+use Rattle.design.specs.declared.Shape.{Shape}
 use Rattle.steps.specs.Arrays.{stateIn, invariantIn, mappedIn}
-use Rattle.lowest.specs.Search.{searchIn}
 use Rattle.quick.specs.Quick.{passesIn}
 
-unfoldable pub examineIn : List ℕ → List ℕ → Counts → List ℕ → ℕ → Outcome Failure
-examineIn f s c p k =
-    let v = stateIn f s (c .kind1) k in
-    let t = mappedIn f s c v in
-    let o = named k (searchIn f s c v t) in
-    pick (invariantIn f s c v) (pick (passesIn f s c p v t) pass o) pass
+-- of the state v with the number k
+unfoldable pub examineAt : List ℕ → List ℕ → Shape → List ℕ → ℕ → List ℕ → Outcome Failure
+examineAt f s h p k v =
+    let o = named k (firstFailing (designAt f s h) v) in
+    pick (invariantIn f s h v) (pick (passesIn f s h p v (mappedIn f s h v)) pass o) pass
 
-unfoldable pub walkOn : List ℕ → List ℕ → Counts → List ℕ → ℕ → ℕ → Walked Failure
-walkOn f s c p n from = walk (λ k. examineIn f s c p k) n from
+unfoldable pub examineIn : List ℕ → List ℕ → Shape → List ℕ → ℕ → Outcome Failure
+examineIn f s h p k = examineAt f s h p k (stateIn f s (h .implementation) k)
+
+unfoldable pub walkOn : List ℕ → List ℕ → Shape → List ℕ → ℕ → ℕ → Walked Failure
+walkOn f s h p n from = walk (λ k. examineIn f s h p k) n from

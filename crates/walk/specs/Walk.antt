@@ -13,7 +13,8 @@ use Rattle.decision.specs.Tests.{holds1}
 use Rattle.decision.specs.Examine.{examine}
 use Rattle.design.specs.Loaded.{designIn}
 use Rattle.design.specs.declared.Counts.{Counts}
-use Rattle.layout.specs.Sizes.{countsFit, shapeOf, countsOf}
+use Rattle.design.specs.declared.Shape.{Shape}
+use Rattle.layout.specs.Sizes.{countsFit, shapeOf}
 use Rattle.plan.specs.Plan.{planIn}
 use Rattle.steps.specs.Arrays.{initialIn, invariantIn, mappedIn, sameIn}
 use Rattle.walk.specs.Told.{noWalk}
@@ -32,13 +33,13 @@ walkIn f s c n from = let w = walk (examine (designIn f s c)) n from in pick (st
 
 -- the plan of the arrays, and the walk by any plan
 unfoldable pub planOf : List ℕ → List ℕ → Counts → List ℕ
-planOf f s c = planIn f s (countsOf (shapeOf c))
+planOf f s c = planIn f s (shapeOf c)
 
 unfoldable pub walkBy : List ℕ → List ℕ → Counts → List ℕ → ℕ → ℕ → Walked Failure
-walkBy f s c p n from = pick (statesThere f s c n from) (walkOn f s c p n from) noWalk
+walkBy f s c p n from = pick (statesThere f s c n from) (walkOn f s (shapeOf c) p n from) noWalk
 
 -- criterion 1 as the code tries it
-unfoldable pub startMeets : List ℕ → List ℕ → Counts → Bool
-startMeets f s c =
-    let v = initialIn f s 0 (c .kind1) in
-    invariantIn f s c v && sameIn (c .kind2) (mappedIn f s c v) (initialIn f s (c .kind1) (c .kind2))
+unfoldable pub startMeets : List ℕ → List ℕ → Shape → Bool
+startMeets f s h =
+    let v = initialIn f s (h .implementation) in
+    invariantIn f s h v && sameIn (h .specification .parameters .count) (mappedIn f s h v) (initialIn f s (h .specification))

@@ -2,11 +2,11 @@
 // by a plan that is made once for the design. Every public function answers any arrays, any counts and any numbers. What a walk is, and
 // what the examination of a state, is in the crates foundation and decision.
 use design::Counts;
-use layout::Shape;
+use design::Shape;
 use lowest::Finding;
 ghost use mathlib.Core.Path.{_≡_};
 ghost use Prim.Native.Nat.{_+_, _≤_, min};
-ghost use Rattle.layout.specs.Sizes.{countsOf, stateCountIn};
+ghost use Rattle.layout.specs.Sizes.{Fits, stateCountIn};
 ghost use Rattle.walk.specs.Told.{told, toldWalked, noWalk, namedBy};
 ghost use Rattle.walk.specs.Walk.{startMeets, startIn, planOf, walkBy};
 ghost use Rattle.walk.specs.Examine.{examineIn, walkOn};
@@ -41,11 +41,10 @@ pub fn start_holds<'a>(
 ) -> bool
     ensures { λ r. ⌜ r ≡ startIn (now (fields .entry)) (now (starts .entry)) counts ⌝ }
 {
-    if layout::counts_fit(counts) {
-        start_meets(fields, starts, layout::shape_of(counts))
-    } else {
-        false
+    if !layout::counts_fit(counts) {
+        return false;
     }
+    start_meets(fields, starts, layout::shape_of(counts))
 }
 
 // The plan for a walk: what does not change from state to state.
@@ -94,12 +93,13 @@ fn walkable<'a>(fields: &'a limits::Fields, starts: &'a limits::Starts, counts: 
 
 // Criterion 1.
 fn start_meets<'a>(fields: &'a limits::Fields, starts: &'a limits::Starts, shape: Shape) -> bool
-    ensures { λ r. ⌜ r ≡ startMeets (now (fields .entry)) (now (starts .entry)) (countsOf shape) ⌝ }
+    ensures { λ r. ⌜ r ≡ startMeets (now (fields .entry)) (now (starts .entry)) shape ⌝ }
 {
-    let v = steps::initial_state(fields, starts, 0, shape.kind1);
+    let v = steps::initial_state(fields, starts, shape.implementation);
     let t = steps::mapped(fields, starts, shape, &v);
-    let u = steps::initial_state(fields, starts, shape.kind1 as u16, shape.kind2);
-    steps::invariant(fields, starts, shape, &v) & steps::same(shape.kind2, &t, &u)
+    let u = steps::initial_state(fields, starts, shape.specification);
+    let n = shape.specification.parameters.count;
+    steps::invariant(fields, starts, shape, &v) & steps::same(n, &t, &u)
 }
 
 // A walk over no state.
@@ -121,8 +121,9 @@ fn walk_on<'a>(
     from: usize,
     n: usize,
 ) -> Walked
+    requires { ⌜ Fits shape ⌝ }
     requires { ⌜ from + n ≤ 65536 ⌝ }
-    ensures { λ r. ⌜ toldWalked r ≡ walkOn (now (fields .entry)) (now (starts .entry)) (countsOf shape) (now (plan .entry)) n from ⌝ }
+    ensures { λ r. ⌜ toldWalked r ≡ walkOn (now (fields .entry)) (now (starts .entry)) shape (now (plan .entry)) n from ⌝ }
 {
     let mut i = 0;
     while i < n {
@@ -150,9 +151,10 @@ fn examine<'a>(
     plan: &[u16; ENTRIES],
     number: u16,
 ) -> Outcome
-    ensures { λ r. ⌜ told r ≡ examineIn (now (fields .entry)) (now (starts .entry)) (countsOf shape) (now (plan .entry)) number ⌝ }
+    requires { ⌜ Fits shape ⌝ }
+    ensures { λ r. ⌜ told r ≡ examineIn (now (fields .entry)) (now (starts .entry)) shape (now (plan .entry)) number ⌝ }
 {
-    let v = steps::state(fields, starts, shape.kind1, number);
+    let v = steps::state(fields, starts, shape.implementation, number);
     if !steps::invariant(fields, starts, shape, &v) {
         return Outcome::Pass;
     }
@@ -160,7 +162,7 @@ fn examine<'a>(
     if quick::passes(fields, starts, shape, plan, &v, &t) {
         return Outcome::Pass;
     }
-    named(number, lowest::lowest(fields, starts, shape, &v, &t))
+    named(number, lowest::lowest(fields, starts, shape, v))
 }
 
 // The place of failure with the number of the state.

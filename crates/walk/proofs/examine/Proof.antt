@@ -1,4 +1,4 @@
--- Inside the invariant what was found, outside nothing.
+-- Outside the invariant nothing is tried; a state that passes is not searched.
 use borrow.Author.Needs.{needs}
 use Rattle.walk.proofs.Walking as laws
 use Rattle.walk.proofs.examine.Statement.{statement}

@@ -1,4 +1,4 @@
--- With the state's number.
+-- The two cases.
 use borrow.Author.Needs.{needs}
 use Rattle.walk.proofs.Walking as laws
 use Rattle.walk.proofs.named.Statement.{statement}

@@ -1,4 +1,4 @@
--- The plan for the counts as bytes.
+-- The plan of the shape.
 use borrow.Author.Needs.{needs}
 use Rattle.walk.proofs.Walking as laws
 use Rattle.walk.proofs.plan.Statement.{statement}

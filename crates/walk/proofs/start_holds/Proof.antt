@@ -1,4 +1,4 @@
--- Criterion 1 where the counts fit.
+-- Where the counts fit.
 use borrow.Author.Needs.{needs}
 use Rattle.walk.proofs.Walking as laws
 use Rattle.walk.proofs.start_holds.Statement.{statement}
@@ -9,7 +9,7 @@ start-holds-spec =
     tie.close
     (tie.spec
     (λ c κs. search needs)
+    (λ c. search laws.start-unfit)
     (λ c κs. search needs)
     (λ c κs. search needs)
-    (λ c. search laws.start-fits)
-    (λ c. search laws.start-unfit))
+    (λ c. search laws.start-fits))

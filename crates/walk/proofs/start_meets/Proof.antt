@@ -1,4 +1,4 @@
--- Both parts of criterion 1.
+-- The invariant, and the mapped state against the specification's.
 use borrow.Author.Needs.{needs}
 use Rattle.walk.proofs.Walking as laws
 use Rattle.walk.proofs.start_meets.Statement.{statement}
@@ -10,7 +10,6 @@ start-meets-spec =
     (tie.spec
     (λ c κs. search needs)
     (λ c κs. search needs)
-    (λ c. search needs)
     (λ c κs. search needs)
     (λ c κs. search needs)
     (λ c κs. search needs)

@@ -1,5 +1,6 @@
--- The walk where the states are there, and else none.
+-- Only states that there are.
 use borrow.Author.Needs.{needs}
+use native.Mathlib.Omega.{arith}
 use Rattle.walk.proofs.Walking as laws
 use Rattle.walk.proofs.walk.Statement.{statement}
 use Rattle.walk.proofs.walk.Tie as tie
@@ -14,5 +15,5 @@ walk-spec =
     (λ c κs. search needs)
     (λ c. search laws.none-so-many)
     (λ c κs. search needs)
-    (λ c κs. search needs)
+    (λ c κs. (search laws.fits-of, omega arith))
     (λ c. search laws.walked))

@@ -3,14 +3,13 @@ use borrow.Author.Needs.{needs}
 use mathlib.Core.Path.{_≡_}
 use Prim.Native.Nat.{_-_, _≤_}
 use native.Mathlib.Omega.{arith}
-use Rattle.walk.proofs.Walking as laws
-use Rattle.layout.specs.Sizes.{countsOf}
 use Rattle.walk.specs.Examine.{walkOn}
+use Rattle.walk.proofs.Walking as laws
 use Rattle.walk.proofs.walk_on.Statement.{statement}
 use Rattle.walk.proofs.walk_on.Tie as tie
 
 abbrev Inv-loop : tie.InvT-loop
-Inv-loop fields starts shape plan from n i₀ i = (i ≤ n) × (laws.walkLeft fields starts plan (countsOf shape) n from i ≡ walkOn fields starts (countsOf shape) plan n from)
+Inv-loop fields starts shape plan from n i₀ i = (i ≤ n) × (laws.walkLeft fields starts plan shape n from i ≡ walkOn fields starts shape plan n from)
 
 abbrev μ-loop : tie.MeasureT-loop
 μ-loop fields starts shape plan from n i₀ i = n - i
