@@ -9,8 +9,6 @@ use native.Mathlib.Omega.{arith}
 use native.Mathlib.Numerals.{add-one}
 use borrow.Author.Tests.{eq-eqb, ne-eqb}
 use lib.Dec.{eqb}
-use mir.Syntax.{w64}
-use mir.Val.{Fits}
 use lib.ListN.{length, getD, drop, drop-of-length-le}
 use lib.Seq.{getD-drop, drop-cons, drop-drop}
 use Rattle.terms.specs.Tree.{Value, Formula, pick}
@@ -24,27 +22,12 @@ use Rattle.eval.specs.declared.Held.{Held}
 use Rattle.decision.specs.Admitted.{isZero}
 use Rattle.design.specs.declared.Counts.{Counts}
 use Rattle.design.specs.Loaded.{lineFrom}
-use Rattle.layout.specs.Sizes.{countsFit, Fit}
-use Rattle.layout.proofs.Sizes.{fit}
+use Rattle.design.specs.declared.Shape.{Shape}
+use Rattle.layout.specs.Sizes.{countsFit, shapeOf}
+use Rattle.layout.proofs.Sizes.{sections-kept}
 use Rattle.action_check.specs.ActionsFit.{actionsFitIn}
 use Rattle.action_check.specs.Lines as lines
 use Rattle.action_check.proofs.Lines.{was-no, was-yes, rows-fit}
-
--- ---- the counts
-
--- where they fit, the line numbers do
-module _ (c : Counts) (b : Bool) (eb : b ≡ countsFit c) (nb : not b ≡ false) where
-  all-fit : Fit c
-  all-fit = fit c b eb (was-yes b nb)
-
-  pub fits-impl : Fits w64 (c .kind1 + c .kind2)
-  fits-impl = let f = all-fit in omega arith
-
-  pub fits-spec : Fits w64 (c .kind1 + c .kind2 + c .kind3)
-  fits-spec = let f = all-fit in omega arith
-
-  pub fits-end : Fits w64 (c .kind1 + c .kind2 + c .kind3 + c .kind4)
-  fits-end = let f = all-fit in omega arith
 
 -- ---- a value's first two fields
 
@@ -182,6 +165,10 @@ module _ (fields starts : List ℕ) (c : Counts) (b : Bool) (eb : b ≡ countsFi
   pub too-many : not b ≡ true → false ≡ actionsFitIn fields starts c
   too-many n = rw (← eb, was-no b n)
 
-  pub as-rows : not b ≡ false → (r : Bool) → r ≡ lines.rowsFit fields starts (c .kind1 + c .kind2) (c .kind1 + c .kind2 + c .kind3) (c .kind1 + c .kind2 + c .kind3 + c .kind4)
-      → r ≡ actionsFitIn fields starts c
-  as-rows n r er = rw (← eb, was-yes b n) (er ∙ rows-fit fields starts c)
+  pub as-rows : (h : Shape) (r : Bool) → not b ≡ false → h ≡ shapeOf c
+      → r ≡ lines.rowsFit fields starts (h .implementation .rows .first) (h .specification .rows .first) (h .invariant) → r ≡ actionsFitIn fields starts c
+  as-rows h r n eh er =
+      let all : countsFit c ≡ true = sym eb ∙ was-yes b n in
+      rw all
+      (er ∙ ap (λ (g : Shape). lines.rowsFit fields starts (g .implementation .rows .first) (g .specification .rows .first) (g .invariant)) (eh ∙ sections-kept c all)
+      ∙ rows-fit fields starts c)

@@ -16,7 +16,7 @@ use Rattle.criteria.specs.Design.{Row}
 use Rattle.decision.specs.Admitted.{oneEachB, isZero}
 use Rattle.design.specs.declared.Counts.{Counts}
 use Rattle.design.specs.Line.{rowOf}
-use Rattle.design.specs.Loaded.{lineFrom, eachLine, implRowsAt, specRowsAt, invariantAt, designIn}
+use Rattle.design.specs.Loaded.{lineFrom, eachLine, sections, designIn}
 use Rattle.action_check.specs.ActionsFit.{visibleB, bareB, sameSpanB, actionsFit}
 use Rattle.action_check.specs.Lines.{between, actionAt, spanAt, differs, alone, bare, agrees, rowsFit}
 
@@ -100,11 +100,11 @@ module _ (fields starts : List ℕ) where
         ∙ each-between (rowOf p) line (λ r. eachB (λ o. eqb (r .action) (o .action) ⇒ eqb (r .span) (o .span)) (rows q m j)) n i
 
   -- the tests of the lines are those of the design that the arrays hold
-  pub rows-fit : (c : Counts) → rowsFit fields starts (implRowsAt c) (specRowsAt c) (invariantAt c) ≡ actionsFit (designIn fields starts c)
+  pub rows-fit : (c : Counts) → rowsFit fields starts (sections c .implementation .rows .first) (sections c .specification .rows .first) (sections c .invariant) ≡ actionsFit (designIn fields starts c)
   unfolding actionsFit
   rows-fit c =
-      let i : ℕ = implRowsAt c in
-      let j : ℕ = specRowsAt c in
+      let i : ℕ = sections c .implementation .rows .first in
+      let j : ℕ = sections c .specification .rows .first in
       and-eq (one-each (c .kind1) (c .kind3) i)
       (and-eq (one-each (c .kind2) (c .kind4) j)
       (and-eq (visible (c .kind2) (c .kind4) j)

@@ -31,14 +31,13 @@ pub fn actions_fit<'a>(
     if !layout::counts_fit(counts) {
         return false;
     }
-    let impl_rows = counts.kind1 + counts.kind2;
-    let spec_rows = impl_rows + counts.kind3;
+    let shape = layout::shape_of(counts);
     rows_fit(
         fields,
         starts,
-        impl_rows,
-        spec_rows,
-        spec_rows + counts.kind4,
+        shape.implementation.rows.first as usize,
+        shape.specification.rows.first as usize,
+        shape.invariant as usize,
     )
 }
 

@@ -10,6 +10,7 @@ use Rattle.terms.specs.Tree.{pick}
 use Rattle.criteria.specs.Failure.{Failure}
 use Rattle.design.specs.declared.Counts.{Counts}
 use Rattle.walk.specs.Told.{told, toldWalked, noWalk}
+use Rattle.layout.specs.Sizes.{shapeOf}
 use Rattle.walk.specs.Examine.{examineIn, walkOn}
 use Rattle.walk.specs.Walk.{statesThere, walkBy}
 use Rattle.walk.specs.declared.Outcome.{Outcome as Answer}
@@ -28,6 +29,6 @@ pub count-within : (f s : List ℕ) (c : Counts) (p : List ℕ) (n from : ℕ) �
 unfolding walkedBy walkBy walkOn
 count-within f s c p n from = go (statesThere f s c n from)
   where
-    go : (b : Bool) → pick b (walkOn f s c p n from) noWalk .count ≤ n
-    go true = count-most (λ k. examineIn f s c p k) n from
+    go : (b : Bool) → pick b (walkOn f s (shapeOf c) p n from) noWalk .count ≤ n
+    go true = count-most (λ k. examineIn f s (shapeOf c) p k) n from
     go false = omega arith

@@ -10,8 +10,9 @@ actions-fit-spec =
     (tie.spec
     (λ c κs. search needs)
     (λ c. search laws.too-many)
-    (λ c. search laws.fits-impl)
-    (λ c. search laws.fits-spec)
-    (λ c. search laws.fits-end)
+    (λ c κs. search needs)
+    (λ c. search needs)
+    (λ c. search needs)
+    (λ c. search needs)
     (λ c κs. search needs)
     (λ c. search laws.as-rows))
