@@ -27,13 +27,13 @@ use Rattle.layout.specs.Sizes.{countsFit, Fits, shapeOf, stateCountIn}
 use Rattle.layout.proofs.Sizes.{shape-fits, sections-kept}
 use Rattle.steps.specs.Arrays.{padded, initialIn, stateIn, invariantIn, mappedIn, sameIn}
 use Rattle.steps.proofs.States as held
-use Rattle.lowest.specs.Search.{toldPlace}
-use Rattle.lowest.specs.declared.Place.{Place}
-use Rattle.lowest.specs.declared.Finding.{Finding}
-use Rattle.lowest.specs.declared.Finding.the-variants.{Nothing, Found}
+use Rattle.lowest_failure.specs.Search.{toldPlace}
+use Rattle.lowest_failure.specs.declared.Place.{Place}
+use Rattle.lowest_failure.specs.declared.Finding.{Finding}
+use Rattle.lowest_failure.specs.declared.Finding.the-variants.{Nothing, Found}
 use Rattle.plan.specs.Plan.{planIn}
-use Rattle.quick.specs.Quick.{passesIn}
-use Rattle.quick.proofs.Decided.{quick-held}
+use Rattle.state_passes.specs.Quick.{passesIn}
+use Rattle.state_passes.proofs.Decided.{quick-held}
 use Rattle.walk.specs.Told.{told, toldWalked, noWalk, namedBy}
 use Rattle.walk.specs.Examine.{examineAt, examineIn, walkOn}
 use Rattle.walk.specs.Walk.{startIn, walkIn, statesThere, planOf, walkBy, startMeets}

@@ -4,8 +4,8 @@ use Rattle.foundation.specs.First.{Outcome, pass, fail}
 use Rattle.foundation.specs.Walk.{Walked}
 use Rattle.criteria.specs.Failure.{Failure}
 use Rattle.decision.specs.Examine.{named}
-use Rattle.lowest.specs.Search.{toldPlace}
-use Rattle.lowest.specs.declared.Finding.{Finding}
+use Rattle.lowest_failure.specs.Search.{toldPlace}
+use Rattle.lowest_failure.specs.declared.Finding.{Finding}
 use Rattle.walk.specs.declared.Outcome.{Outcome as Answer}
 use Rattle.walk.specs.declared.Outcome.the-variants.{Pass, Fail}
 use Rattle.walk.specs.declared.Walked.{Walked as WalkAnswer}

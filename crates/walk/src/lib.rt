@@ -3,7 +3,7 @@
 // what the examination of a state, is in the crates foundation and decision.
 use design::Counts;
 use design::Shape;
-use lowest::Finding;
+use lowest_failure::Finding;
 ghost use mathlib.Core.Path.{_≡_};
 ghost use Prim.Native.Nat.{_+_, _≤_, min};
 ghost use Rattle.layout.specs.Sizes.{Fits, stateCountIn};
@@ -159,10 +159,10 @@ fn examine<'a>(
         return Outcome::Pass;
     }
     let t = steps::mapped(fields, starts, shape, &v);
-    if quick::passes(fields, starts, shape, plan, &v, &t) {
+    if state_passes::passes(fields, starts, shape, plan, &v, &t) {
         return Outcome::Pass;
     }
-    named(number, lowest::lowest(fields, starts, shape, v))
+    named(number, lowest_failure::lowest(fields, starts, shape, v))
 }
 
 // The place of failure with the number of the state.

@@ -1,0 +1,212 @@
+-- What the tests of the code return is what the crate decision says of the design in the arrays; and the turns of the loops that look
+-- for an enabled internal row.
+use mathlib.Core.Path.{_≡_, refl, sym, _∙_, ap}
+use mathlib.Core.Logic.{_⊎_, inl, inr, _≢_}
+use mathlib.Core.Bool.{Bool, true, false, not, _&&_, _||_}
+use mathlib.Core.List.{List}
+use Prim.Native.Nat.{ℕ, zero, suc, _+_, _-_, _≤_, _<_}
+use native.Mathlib.Omega.{arith}
+use borrow.Author.Tests.{not-true, not-false}
+use lib.Dec.{eqb, ltb}
+use lib.ListN.{length, length-map}
+use Rattle.foundation.specs.First.{allIn}
+use Rattle.foundation.specs.Radix.{sameB}
+use Rattle.foundation.specs.Reflects.{_⇒_}
+use Rattle.foundation.proofs.All.{all-begin, all-turn, all-fail, all-end}
+use Rattle.foundation.proofs.Trial.{place-passes}
+use Rattle.criteria.specs.Design.{Design, Row, mapped}
+use Rattle.criteria.specs.Step.{nextState}
+use Rattle.criteria.specs.Rows.{noRow, rowAt, internalTest}
+use Rattle.terms.specs.Tree.{evalV}
+use Rattle.decision.specs.Tests.{enabledB, internalB, focusB, rowOf, holds2, holds3, holds4, holds5, holds6, holds7, holds8, holds9}
+use Rattle.decision.proofs.Find.{Found, Missing, find, found-partner}
+use Rattle.design.specs.Loaded.{processIn, designAt}
+use Rattle.design.specs.declared.Shape.{Shape}
+use Rattle.layout.specs.Sizes.{Fits}
+use Rattle.steps.specs.Arrays.{padded, stepOf, rowStep, rowSpan, rowWith, belowIn, sameIn, insideIn, mappedIn, measureIn}
+use Rattle.steps.specs.declared.Step.{Step}
+use Rattle.steps.proofs.States as states
+use Rattle.lowest_failure.specs.Search.{Known, quietIn, ofImpl, ofSpec}
+use Rattle.lowest_failure.specs.declared.Here.{Here}
+
+twice : (b x : Bool) → b || x ≡ not (not b) || x
+twice true x = refl
+twice false x = refl
+
+-- two tests that agree where there is a row agree behind the test whether there is one
+where-some : (j : ℕ) (a b : Bool) → (j ≢ 0 → a ≡ b) → (not (eqb j 0) ⇒ a) ≡ (not (eqb j 0) ⇒ b)
+where-some zero a b h = refl
+where-some (suc j) a b h = ap (λ (y : Bool). not (eqb (suc j) 0) ⇒ y) (h (omega arith))
+
+module _ (f s : List ℕ) (h : Shape) (here : Here) (known : Known h (designAt f s h) here) where
+  abbrev d : Design
+  d = designAt f s h
+
+  abbrev v : List ℕ
+  v = here .state
+
+  abbrev n : ℕ
+  n = h .specification .parameters .count
+
+  abbrev implAt : ℕ → Row
+  implAt k = rowAt (d .impl .rows) k
+
+  abbrev specAt : ℕ → Row
+  specAt k = rowAt (d .spec .rows) k
+
+  few : n ≤ 8
+  few = known .fits .specification .parameters
+
+  short : length (mapped d v) ≤ 8
+  short = rw (states.mapped-length f s h v) few
+
+  pub holds2-is : (b : Bool) → b ≡ belowIn f s (h .specification) (here .mapped) → b ≡ holds2 d v
+  holds2-is b eb =
+      eb ∙ ap (λ t. belowIn f s (h .specification) t) (known .mapped-is)
+      ∙ states.below-held f s (h .specification) (known .fits .specification) (mapped d v) (states.mapped-length f s h v)
+
+  -- the specification's rows at the mapped state
+  spec-step : (j e : ℕ) → rowStep f s (h .specification) j (here .mapped) e ≡ stepOf (specAt j) (mapped d v) e
+  unfolding rowStep
+  spec-step j e = ap (λ t. stepOf (specAt j) t e) (known .mapped-is) ∙ states.step-held (mapped d v) short (specAt j) e
+
+  impl-step : (j e : ℕ) (q : Step) → q ≡ rowStep f s (h .implementation) j v e → q ≡ stepOf (implAt j) v e
+  unfolding rowStep
+  impl-step j e q eq = eq
+
+  -- a row of an action that there is has a next value for each parameter
+  answer-length : (a : ℕ) → rowOf (d .spec) a ≢ 0 → length (specAt (rowOf (d .spec) a) .next) ≡ n
+  answer-length a some = go (find (d .spec .rows) a 1)
+    where
+      go : Found (d .spec .rows) a 1 ⊎ Missing (d .spec .rows) a 1 → length (specAt (rowOf (d .spec) a) .next) ≡ n
+      go (inl g) = rw (found-partner (d .spec) a g) (states.rows-length f s (h .specification) (g .at) (g .row) (g .is-row))
+      go (inr m) = absurd (some (m .number))
+
+  module _ (k e : ℕ) (r : Step) where
+    module _ (er : r ≡ rowStep f s (h .implementation) k v e) where
+      abbrev next : List ℕ
+      next = nextState (implAt k) v e
+
+      next-short : length next ≤ 8
+      next-short = states.next-short f s (h .implementation) (known .fits .implementation) k v e
+
+      pub holds3-is : (b : Bool) → b ≡ insideIn f s h (r .next) → not (r .enabled) || b ≡ ofImpl holds3 d v k e
+      unfolding ofImpl rowStep stepOf evalV
+      holds3-is b eb = rw (eb, er) (go (states.next-length f s (h .implementation) k))
+        where
+          go : (length (implAt k .next) ≡ h .implementation .parameters .count) ⊎ (implAt k ≡ noRow)
+              → not (stepOf (implAt k) v e .enabled) || insideIn f s h (padded next) ≡ holds3 d v (implAt k) e
+          go (inl m) = rw (states.inside-held f s h (known .fits) next (length-map (implAt k .next) _ ∙ m))
+          go (inr m) = rw m
+
+      pub holds4-is : (w : List ℕ) (b : Bool) → w ≡ mappedIn f s h (r .next) → b ≡ sameIn n (here .mapped) w
+          → not (r .enabled) || (not (eqb (r .action) 0) || b) ≡ ofImpl holds4 d v k e
+      unfolding ofImpl rowStep stepOf
+      holds4-is w b ew eb =
+          rw (
+            eb,
+            ew,
+            er,
+            known .mapped-is,
+            states.mapped-held f s h next next-short,
+            states.same-held (mapped d v) (mapped d next) n (states.mapped-length f s h v) (states.mapped-length f s h next) few,
+          )
+
+      pub holds5-is : (there measure : ℕ) → there ≡ measureIn f s h (r .next) → measure ≡ measureIn f s h v
+          → not (r .enabled) || (not (eqb (r .action) 0) || ltb there measure) ≡ ofImpl holds5 d v k e
+      unfolding ofImpl rowStep stepOf measureIn
+      holds5-is there measure et em = rw (et, em, er, states.measure-held f s h next next-short)
+
+      module _ (j : ℕ) (q : Step) (ej : j ≡ rowWith f s (h .specification) (r .action)) (eq : q ≡ rowStep f s (h .specification) j (here .mapped) e) where
+        pub holds6-is : not (r .enabled) || (eqb (r .action) 0 || q .enabled) ≡ ofImpl holds6 d v k e
+        unfolding ofImpl stepOf rowWith
+        holds6-is = ap (λ b. not (r .enabled) || b) (twice (eqb (r .action) 0) (q .enabled)) ∙ rw (eq, spec-step j e, ej, impl-step k e r er)
+
+        pub holds8-is : not (r .enabled) || (eqb (r .action) 0 || (eqb j 0 || eqb (r .carries) (q .carries))) ≡ ofImpl holds8 d v k e
+        unfolding ofImpl stepOf rowWith
+        holds8-is =
+            ap (λ b. not (r .enabled) || (eqb (r .action) 0 || b)) (twice (eqb j 0) (eqb (r .carries) (q .carries)))
+            ∙ ap (λ b. not (r .enabled) || b) (twice (eqb (r .action) 0) (not (not (eqb j 0)) || eqb (r .carries) (q .carries)))
+            ∙ rw (eq, spec-step j e, ej, impl-step k e r er)
+
+        pub holds9-is : (w : List ℕ) (b : Bool) → w ≡ mappedIn f s h (r .next) → b ≡ sameIn n w (q .next)
+            → not (r .enabled) || (eqb (r .action) 0 || (eqb j 0 || b)) ≡ ofImpl holds9 d v k e
+        unfolding ofImpl stepOf rowWith
+        holds9-is w b ew eb =
+            ap (λ x. not (r .enabled) || (eqb (r .action) 0 || x)) (twice (eqb j 0) b)
+            ∙ ap (λ x. not (r .enabled) || x) (twice (eqb (r .action) 0) (not (not (eqb j 0)) || b))
+            ∙ rw (eb, ew, eq, spec-step j e, ej, impl-step k e r er, states.mapped-held f s h next next-short)
+            (ap (λ x. enabledB (implAt k) v e ⇒ not (internalB (implAt k)) ⇒ x) (where-some (rowOf (d .spec) (implAt k .action)) _ _ there))
+          where
+            i : ℕ
+            i = rowOf (d .spec) (implAt k .action)
+
+            there : i ≢ 0 → sameIn n (padded (mapped d next)) (padded (nextState (specAt i) (mapped d v) e)) ≡ sameB (mapped d next) (nextState (specAt i) (mapped d v) e)
+            there some =
+                states.same-held (mapped d next) (nextState (specAt i) (mapped d v) e) n (states.mapped-length f s h next)
+                (length-map (specAt i .next) _ ∙ answer-length (implAt k .action) some) few
+
+    pub holds7-is : (j : ℕ) (q : Step) → r ≡ rowStep f s (h .specification) k (here .mapped) e → j ≡ rowWith f s (h .implementation) (r .action)
+        → q ≡ rowStep f s (h .implementation) j v e → not (here .focus) || (not (r .enabled) || q .enabled) ≡ ofSpec holds7 d v k e
+    unfolding ofSpec stepOf rowWith
+    holds7-is j q er ej eq = rw (impl-step j e q eq, ej, er, spec-step k e, known .focus-is)
+
+-- ---- focus points
+
+module _ (f s : List ℕ) (h : Shape) (v : List ℕ) where
+  abbrev design : Design
+  design = designAt f s h
+
+  module _ (k : ℕ) where
+    abbrev quietAt : ℕ → Bool
+    quietAt e = not (internalTest v (rowAt (design .impl .rows) k) e)
+
+    unfoldable pub quietLeft : ℕ → ℕ → Bool
+    quietLeft m e = allIn quietAt (m - e) e
+
+    pub quiet-begin : (m : ℕ) → m ≡ rowSpan f s (h .implementation) k → quietLeft m 0 ≡ quietIn design v k
+    unfolding quietLeft quietIn rowSpan
+    quiet-begin m em = all-begin quietAt m ∙ ap (λ m. allIn quietAt m 0) em
+
+    quiet-says : (e : ℕ) (r : Step) (b : Bool) → r ≡ rowStep f s (h .implementation) k v e → eqb (r .action) 0 && r .enabled ≡ b → quietAt e ≡ not b
+    unfolding rowStep stepOf
+    quiet-says e r b er y = ap not (sym (ap (λ (q : Step). eqb (q .action) 0 && q .enabled) er) ∙ y)
+
+    pub quiet-turn : (m e : ℕ) (r : Step) → e < m → r ≡ rowStep f s (h .implementation) k v e → eqb (r .action) 0 && r .enabled ≡ false
+        → quietLeft m e ≡ quietIn design v k → quietLeft m (e + 1) ≡ quietIn design v k
+    unfolding quietLeft
+    quiet-turn m e r l er y inv = sym (all-turn quietAt m e l (quiet-says e r false er y)) ∙ inv
+
+    pub quiet-fail : (m e : ℕ) (r : Step) → e < m → r ≡ rowStep f s (h .implementation) k v e → eqb (r .action) 0 && r .enabled ≡ true
+        → quietLeft m e ≡ quietIn design v k → false ≡ quietIn design v k
+    unfolding quietLeft
+    quiet-fail m e r l er y inv = sym (all-fail quietAt m e l (quiet-says e r true er y)) ∙ inv
+
+    pub quiet-end : (m e : ℕ) → m ≤ e → quietLeft m e ≡ quietIn design v k → true ≡ quietIn design v k
+    unfolding quietLeft
+    quiet-end m e l inv = sym (all-end quietAt m e l) ∙ inv
+
+  abbrev rows : ℕ
+  rows = h .implementation .rows .count
+
+  unfoldable pub focusLeft : ℕ → Bool
+  focusLeft k = allIn (λ x. quietIn design v x) (suc rows - k) k
+
+  pub focus-begin : focusLeft 0 ≡ focusB design v
+  unfolding focusLeft quietIn
+  focus-begin =
+      all-begin (λ x. quietIn design v x) (suc rows)
+      ∙ ap (λ m. allIn (λ k. quietIn design v k) (suc m) 0) (sym (states.rows-count f s (h .implementation)))
+      ∙ sym (place-passes (suc (length (design .impl .rows))) (λ k. rowAt (design .impl .rows) k .span) (λ k e. internalTest v (rowAt (design .impl .rows) k) e) (λ k e. (k, e)))
+
+  pub focus-turn : (k : ℕ) (b : Bool) → k ≤ rows → b ≡ quietIn design v k → not b ≡ false → focusLeft k ≡ focusB design v → focusLeft (k + 1) ≡ focusB design v
+  unfolding focusLeft
+  focus-turn k b l eb y inv = sym (all-turn (λ x. quietIn design v x) (suc rows) k (omega arith) (sym eb ∙ not-false b y)) ∙ inv
+
+  pub focus-fail : (k : ℕ) (b : Bool) → k ≤ rows → b ≡ quietIn design v k → not b ≡ true → focusLeft k ≡ focusB design v → false ≡ focusB design v
+  unfolding focusLeft
+  focus-fail k b l eb y inv = sym (all-fail (λ x. quietIn design v x) (suc rows) k (omega arith) (sym eb ∙ not-true b y)) ∙ inv
+
+  pub focus-end : (k : ℕ) → rows < k → focusLeft k ≡ focusB design v → true ≡ focusB design v
+  unfolding focusLeft
+  focus-end k l inv = sym (all-end (λ x. quietIn design v x) (suc rows) k (omega arith)) ∙ inv

@@ -1,0 +1,16 @@
+-- Criterion 9, by the law of what is returned.
+use borrow.Author.Needs.{needs}
+use Rattle.lowest_failure.proofs.Tests as laws
+use Rattle.lowest_failure.proofs.holds9.Statement.{statement}
+use Rattle.lowest_failure.proofs.holds9.Tie as tie
+
+pub holds9-spec : {M : Type 1} → statement M
+holds9-spec =
+    tie.close
+    (tie.spec
+    (λ c κs. search needs)
+    (λ c κs. search needs)
+    (λ c κs. search needs)
+    (λ c κs. search needs)
+    (λ c κs. search needs)
+    (λ c. search laws.holds9-is))

@@ -1,0 +1,554 @@
+-- By the right plan the quick test of specs/Quick is that of the crate decision for the design in the arrays, at an array v whose mapped
+-- state t holds. Where nothing in a row and its partner reads the sum value, one look does for all.
+use mathlib.Core.Path.{_≡_, refl, sym, _∙_, ap}
+use mathlib.Core.Logic.{_⊎_, inl, inr}
+use mathlib.Core.Bool.{Bool, true, false, not, _&&_, _||_, true≢false, or-true}
+use mathlib.Core.List.{List, [], _∷_}
+use Prim.Native.Nat.{ℕ, zero, suc, _+_, _-_, _≤_, _<_, min}
+use native.Mathlib.Omega.{arith}
+use borrow.Author.Tests.{eqb-true}
+use lib.Dec.{eqb, ltb, eqb·suc-zero}
+use lib.ListN.{length, getD, drop, length-map}
+use Rattle.foundation.specs.First.{allIn}
+use Rattle.foundation.specs.Nth.{eachB}
+use Rattle.foundation.specs.Radix.{sameB}
+use Rattle.foundation.specs.Reflects.{_⇒_}
+use Rattle.foundation.proofs.First.{all-alike, all-both, all-from}
+use Rattle.foundation.proofs.Nth.{each-alike}
+use Rattle.foundation.proofs.Trial.{place-passes}
+use Rattle.terms.specs.Tree.{Value, pick, evalF}
+use Rattle.terms.specs.Read.{readF}
+use Rattle.terms.proofs.Read.{place}
+use Rattle.terms.proofs.And.{and-left, and-right}
+use Rattle.sum_free.specs.SumFree.{sumFreeV, sumFreeF}
+use Rattle.sum_free.proofs.SumFree.{same-v, same-f}
+use Rattle.criteria.specs.Design.{Design, Row, State, values, mapped, measureAt}
+use Rattle.criteria.specs.Step.{nextState, dataNumber}
+use Rattle.criteria.specs.Rows.{noRow, rowAt, internalTest}
+use Rattle.criteria.proofs.Rows.{is-row-below}
+use Rattle.decision.specs.Tests.{enabledB, internalB, invariantStateB, focusB, rowOf, partner, holds2, holds7}
+use Rattle.decision.specs.Quick.{allRows, rowHolds, stateHolds}
+use Rattle.decision.proofs.Alike.{formula-alike}
+use Rattle.decision.proofs.Find.{Found, Missing, find, found-at, found-partner}
+use Rattle.design.specs.Line as line
+use Rattle.design.specs.Loaded.{lineFrom, eachLine, processIn, designAt}
+use Rattle.design.specs.declared.Process.{Process}
+use Rattle.design.specs.declared.Shape.{Shape}
+use Rattle.layout.specs.Sizes.{Fits}
+use Rattle.steps.specs.Arrays.{padded, stepOf, valuesAt, lineOf, rowWith, sameIn, measureIn}
+use Rattle.steps.specs.declared.Step.{Step}
+use Rattle.steps.proofs.Arrays.{row-there}
+use Rattle.steps.proofs.States as states
+use Rattle.conjuncts.specs.Conjuncts.{frontOf, guardIn}
+use Rattle.conjuncts.proofs.Conjuncts.{guards}
+use Rattle.conjuncts.specs.declared.Guarded.{Guarded}
+use Rattle.plan.specs.Plan.{rowBy, partnerBy, freeOf, partnerFree, looksOf, entryOf, planIn, entryAt}
+use Rattle.plan.specs.declared.Entry.{Entry}
+use Rattle.plan.proofs.Planned.{impl-entry, spec-entry}
+use Rattle.state_passes.specs.Quick.{rowFor, keptIn, answeredIn, stepIn, stepOfRow, seen, looksIn, rowIn, implIn, replyLooks, replyIn, specIn, passesIn}
+use Rattle.state_passes.specs.declared.Seen.{Seen}
+
+-- a row's condition for the sum value e, taken for 0 where it is said to be sum-free
+abbrev onIn : Row → List ℕ → Bool → ℕ → Bool
+onIn r v free e = enabledB r v (pick free 0 e)
+
+-- ---- tests of numbers, one after the other
+
+-- two tests that say the same as far as they are asked
+all-in : (g h : ℕ → Bool) (n i : ℕ) → ((j : ℕ) → i ≤ j → j < i + n → g j ≡ h j) → allIn g n i ≡ allIn h n i
+unfolding allIn
+all-in g h zero i e = refl
+all-in g h (suc n) i e = rw (e i (omega arith) (omega arith), all-in g h n (suc i) (λ j l u. e j (omega arith) (omega arith)))
+
+all-yes : (n i : ℕ) → allIn (λ _. true) n i ≡ true
+unfolding allIn
+all-yes zero i = refl
+all-yes (suc n) i = all-yes n (suc i)
+
+-- one that says the same for all numbers is asked once
+all-once : (g : ℕ → Bool) (n : ℕ) → ((j : ℕ) → g j ≡ g 0) → allIn g (min n 1) 0 ≡ allIn g n 0
+unfolding allIn
+all-once g zero h = refl
+all-once g (suc n) h = let e : min (suc n) 1 ≡ 1 = omega arith in rw e (go (g 0) refl)
+  where
+    go : (b : Bool) → g 0 ≡ b → g 0 && true ≡ g 0 && allIn g n 1
+    go true e = rw e (sym (all-in g (λ _. true) n 1 (λ j l u. h j ∙ e) ∙ all-yes n 1))
+    go false e = rw e
+
+all-looks : (g : ℕ → Bool) (free : Bool) (n : ℕ) → (free ≡ true → (j : ℕ) → g j ≡ g 0) → allIn g (looksOf free n) 0 ≡ allIn g n 0
+unfolding looksOf
+all-looks g true n h = all-once g n (h refl)
+all-looks g false n h = refl
+
+-- each of the rows in n lines, by their numbers
+each-all : (G : Row → Bool) (says : List ℕ → Row) (l : ℕ → List ℕ) (n b : ℕ) → allIn (λ i. G (says (l (b + i)))) n 0 ≡ eachB G (eachLine says l n b)
+unfolding allIn eachLine
+each-all G says l zero b = refl
+each-all G says l (suc n) b =
+    let z : b + 0 ≡ b = omega arith in
+    rw z
+    (ap (λ r. G (says (l b)) && r)
+    (all-from (λ i. G (says (l (b + i)))) n 0
+    ∙ all-in (λ i. G (says (l (b + suc i)))) (λ i. G (says (l (suc b + i)))) n 0 (λ j p u. let e : b + suc j ≡ suc b + j = omega arith in rw e)
+    ∙ each-all G says l n (suc b)))
+
+each-yes : (rows : List Row) → eachB (λ (_ : Row). true) rows ≡ true
+each-yes [] = refl
+each-yes (r ∷ rows) = each-yes rows
+
+-- each of a list of rows, by their numbers from 1
+by-numbers : (G : Row → Bool) (rows : List Row) → allIn (λ k. G (getD rows k noRow)) (length rows) 0 ≡ eachB G rows
+unfolding allIn
+by-numbers G [] = refl
+by-numbers G (r ∷ rows) = ap (λ b. G r && b) (all-from (λ k. G (getD (r ∷ rows) k noRow)) (length rows) 0 ∙ by-numbers G rows)
+
+numbered : (G : Row → Bool) (rows : List Row) → G noRow ≡ true → allIn (λ k. G (rowAt rows k)) (suc (length rows)) 0 ≡ eachB G rows
+unfolding allIn
+numbered G rows none = rw none (all-from (λ k. G (rowAt rows k)) (length rows) 0 ∙ by-numbers G rows)
+
+seen-holds : (a b : Bool) → seen a b .holds ≡ a
+seen-holds true b = refl
+seen-holds false b = refl
+
+seen-quiet : (a b : Bool) → seen a b .quiet ≡ a && b
+seen-quiet true b = refl
+seen-quiet false b = refl
+
+-- where all rows hold, what is said of the others counts
+arranged : (a b r : Bool) → seen a (a && b) .holds && (seen a (a && b) .quiet ⇒ r) ≡ a && (b ⇒ r)
+arranged true b r = refl
+arranged false b r = refl
+
+-- ---- all criteria at a row and a sum value
+
+at-once : (en i int s4 l5 q6 j0 d8 s9 : Bool) → (j0 ≡ true → q6 ≡ false)
+    → (en ⇒ (i && pick int (s4 && l5) (q6 && (d8 && s9))))
+    ≡ (en ⇒ i) && ((en ⇒ int ⇒ s4) && ((en ⇒ int ⇒ l5) && ((en ⇒ not int ⇒ q6) && ((en ⇒ not int ⇒ not j0 ⇒ d8) && (en ⇒ not int ⇒ not j0 ⇒ s9)))))
+at-once false i int s4 l5 q6 j0 d8 s9 h = refl
+at-once true false int s4 l5 q6 j0 d8 s9 h = refl
+at-once true true true true true q6 j0 d8 s9 h = refl
+at-once true true true true false q6 j0 d8 s9 h = refl
+at-once true true true false l5 q6 j0 d8 s9 h = refl
+at-once true true false s4 l5 false j0 d8 s9 h = refl
+at-once true true false s4 l5 true false true s9 h = refl
+at-once true true false s4 l5 true false false s9 h = refl
+at-once true true false s4 l5 true true d8 s9 h = absurd (true≢false (h refl))
+
+-- values that do not read the sum value
+values-same : (vs : List Value) (x : State) (e : ℕ) → eachB (λ (t : Value). sumFreeV t) vs ≡ true → values vs x e ≡ values vs x 0
+values-same [] x e h = refl
+values-same (t ∷ vs) x e h =
+    rw (same-v t x e 0 (and-left (sumFreeV t) (eachB (λ (t : Value). sumFreeV t) vs) h), values-same vs x e (and-right (sumFreeV t) (eachB (λ (t : Value). sumFreeV t) vs) h))
+
+-- a row does for a sum value what it does for 0
+record AsForZero (r : Row) (x : State) (e : ℕ) : Type 0 where
+  on : enabledB r x e ≡ enabledB r x 0
+  number : dataNumber r x e ≡ dataNumber r x 0
+  next : nextState r x e ≡ nextState r x 0
+
+as-for-zero : (r : Row) (x : State) (e : ℕ) → freeOf true r ≡ true → AsForZero r x e
+unfolding freeOf
+as-for-zero r x e h =
+    let rest : Bool = eachB (λ (t : Value). sumFreeV t) (r .next) in
+    let k = and-right (sumFreeF (r .condition)) (sumFreeV (r .carries) && rest) h in
+    record {
+      on = same-f (r .condition) x e 0 (and-left (sumFreeF (r .condition)) (sumFreeV (r .carries) && rest) h);
+      number = same-v (r .carries) x e 0 (and-left (sumFreeV (r .carries)) rest k);
+      next = values-same (r .next) x e (and-right (sumFreeV (r .carries)) rest k);
+    }
+
+condition-free : (r : Row) → freeOf false r ≡ true → sumFreeF (r .condition) ≡ true
+unfolding freeOf
+condition-free r h = and-left (sumFreeF (r .condition)) true h
+
+-- a condition taken for 0 where it does not read the sum value is the condition
+on-held : (r : Row) (x : State) (e : ℕ) → onIn r x (sumFreeF (r .condition)) e ≡ enabledB r x e
+on-held r x e = go (sumFreeF (r .condition)) refl
+  where
+    go : (b : Bool) → sumFreeF (r .condition) ≡ b → evalF (r .condition) x (pick b 0 e) ≡ enabledB r x e
+    go true h = same-f (r .condition) x 0 e h
+    go false h = refl
+
+-- ---- the conjuncts in front of a condition
+
+module _ (f s : List ℕ) (h : Shape) (v t : List ℕ) (l : ℕ) where
+  abbrev front : List ℕ → Guarded
+  front z = guardIn f z 0 (frontOf f (l + 3) 32) (l + 3) 32
+
+  abbrev rest : List ℕ → ℕ → Bool
+  rest z e = evalF (readF (front z .depth) (drop (front z .at) f) .tree) z e
+
+  -- the condition of the row in the line that starts at l
+  on-guarded : (z : List ℕ) (n e : ℕ) → enabledB (line.rowOf n (drop l f)) z e ≡ front z .holds && rest z e
+  on-guarded z n e = rw (place f l 3 refl) (guards f z e 32 (l + 3) .says)
+
+  module _ (en : Entry) where
+    module _ (m : ℕ) where
+      abbrev row : Row
+      row = line.rowOf (h .implementation .parameters .count) (drop l f)
+
+      -- its step, by where the data stand
+      step-by-place : (g : Guarded) (e : ℕ) → stepIn f s h (rowFor g en (internalB row)) (l + 3 + readF 32 (drop (l + 3) f) .used) v t m e ≡ stepOfRow f s h row (en .partner) v t m e
+      unfolding stepIn stepOfRow valuesAt
+      step-by-place g e = rw (place f l 3 refl, place f (l + 3) _ refl, place f (l + 3 + _) _ refl)
+
+      guarded-row : pick (front v .holds) (looksIn f s h (rowFor (front v) en (internalB row)) v t m) (seen true true)
+          ≡ seen (allIn (λ e. onIn row v (en .free) e ⇒ stepOfRow f s h row (en .partner) v t m e) (en .looks) 0)
+          (not (internalB row) || allIn (λ e. not (onIn row v (en .free) e)) (en .looks) 0)
+      unfolding looksIn
+      guarded-row = go (front v .holds) refl
+        where
+          held : ℕ → Bool
+          held e = onIn row v (en .free) e ⇒ stepOfRow f s h row (en .partner) v t m e
+
+          off : ℕ → Bool
+          off e = not (onIn row v (en .free) e)
+
+          go : (b : Bool) → front v .holds ≡ b → pick b (looksIn f s h (rowFor (front v) en (internalB row)) v t m) (seen true true)
+              ≡ seen (allIn held (en .looks) 0) (not (internalB row) || allIn off (en .looks) 0)
+          go true y =
+              let on : (e : ℕ) → rest v (pick (en .free) 0 e) ≡ onIn row v (en .free) e =
+              λ e. sym (on-guarded v (h .implementation .parameters .count) (pick (en .free) 0 e) ∙ ap (λ b. b && rest v (pick (en .free) 0 e)) y) in
+              let step : (e : ℕ) → stepIn f s h (rowFor (front v) en (internalB row)) (front v .at + readF (front v .depth) (drop (front v .at) f) .used) v t m e
+              ≡ stepOfRow f s h row (en .partner) v t m e =
+              λ e. ap (λ k. stepIn f s h (rowFor (front v) en (internalB row)) k v t m e) (sym (guards f v e 32 (l + 3) .ends y)) ∙ step-by-place (front v) e in
+              λ i. seen (all-alike _ held (en .looks) 0 (λ e k. on e k ⇒ step e k) i) (not (internalB row) || all-alike _ off (en .looks) 0 (λ e. ap not (on e)) i)
+          go false y =
+              let none : (e : ℕ) → onIn row v (en .free) e ≡ false =
+              λ e. on-guarded v (h .implementation .parameters .count) (pick (en .free) 0 e) ∙ ap (λ b. b && rest v (pick (en .free) 0 e)) y in
+              sym
+              (rw (
+                all-alike held (λ _. true) (en .looks) 0 (λ e. ap (λ b. b ⇒ stepOfRow f s h row (en .partner) v t m e) (none e)),
+                all-alike off (λ _. true) (en .looks) 0 (λ e. ap not (none e)),
+                all-yes (en .looks) 0,
+                or-true (not (internalB row)),
+              ))
+
+    abbrev back : Row
+    back = line.rowOf (h .specification .parameters .count) (drop l f)
+
+    abbrev enabledBack : ℕ → Bool
+    enabledBack e = enabledB (partnerBy f s (h .implementation) (en .partner)) v e
+
+    guarded-reply : pick (front t .holds) (replyLooks f s (h .implementation) (rowFor (front t) en false) v t) true
+        ≡ allIn (λ e. onIn back t (en .free) e ⇒ enabledBack e) (en .looks) 0
+    unfolding replyLooks
+    guarded-reply = go (front t .holds) refl
+      where
+        held : ℕ → Bool
+        held e = onIn back t (en .free) e ⇒ enabledBack e
+
+        on : (e : ℕ) → onIn back t (en .free) e ≡ front t .holds && rest t (pick (en .free) 0 e)
+        on e = on-guarded t (h .specification .parameters .count) (pick (en .free) 0 e)
+
+        go : (b : Bool) → front t .holds ≡ b → pick b (replyLooks f s (h .implementation) (rowFor (front t) en false) v t) true ≡ allIn held (en .looks) 0
+        go true y = all-alike _ held (en .looks) 0 (λ e. ap (λ b. b ⇒ enabledBack e) (sym (on e ∙ ap (λ b. b && rest t (pick (en .free) 0 e)) y)))
+        go false y =
+            sym (all-alike held (λ _. true) (en .looks) 0 (λ e. ap (λ b. b ⇒ enabledBack e) (on e ∙ ap (λ b. b && rest t (pick (en .free) 0 e)) y)) ∙ all-yes (en .looks) 0)
+
+-- ---- the rows of a process
+
+module _ (f s : List ℕ) (p : Process) where
+  abbrev lineAt : ℕ → List ℕ
+  lineAt i = lineFrom f s (p .rows .first + i)
+
+  abbrev rowIs : ℕ → Row
+  rowIs i = line.rowOf (p .parameters .count) (lineAt i)
+
+  row-line : (i : ℕ) → lineOf s p (i + 1) ≡ getD s (p .rows .first + i) 0
+  unfolding lineOf
+  row-line i = let e : p .rows .first + (i + 1) - 1 ≡ p .rows .first + i = omega arith in rw e
+
+  row-by : (i : ℕ) → rowBy f s p (i + 1) ≡ rowIs i
+  unfolding rowBy
+  row-by i = rw (row-line i)
+
+  -- the partner of an action, by its number
+  partner-by : (a : ℕ) → partnerBy f s p (rowOf (processIn f s p) a) ≡ partner (processIn f s p) a
+  unfolding partnerBy rowBy lineOf
+  partner-by a = go (rowOf (processIn f s p) a) refl (find (processIn f s p .rows) a 1)
+    where
+      go : (j : ℕ) → rowOf (processIn f s p) a ≡ j → Found (processIn f s p .rows) a 1 ⊎ Missing (processIn f s p .rows) a 1 → partnerBy f s p j ≡ rowAt (processIn f s p .rows) j
+      go zero e g = refl
+      go (suc j) e (inl g) =
+          let below = is-row-below (g .is-row) in
+          let at = found-at (processIn f s p) a g in
+          let n = states.rows-count f s p in
+          rw (eqb·suc-zero j) (sym (row-there f s p (suc j) (omega arith) (omega arith)))
+      go (suc j) e (inr m) = absurd (let z = m .number in omega arith)
+
+-- ---- the design
+
+module _ (f s : List ℕ) (h : Shape) (fits : Fits h) (v : State) where
+  abbrev d : Design
+  d = designAt f s h
+
+  abbrev y : List ℕ
+  y = mapped d v
+
+  abbrev t : List ℕ
+  t = padded y
+
+  abbrev n1 : ℕ
+  n1 = h .implementation .parameters .count
+
+  abbrev n2 : ℕ
+  n2 = h .specification .parameters .count
+
+  short : length y ≤ 8
+  short = rw (states.mapped-length f s h v) (fits .specification .parameters)
+
+  no-row : (a e : ℕ) → rowOf (d .spec) a ≡ 0 → enabledB (partner (d .spec) a) y e ≡ false
+  unfolding evalF
+  no-row a e z = rw z
+
+  -- ---- a row of the implementation
+
+  module _ (r : Row) (long : length (r .next) ≡ n1) where
+    abbrev j : ℕ
+    j = rowOf (d .spec) (r .action)
+
+    abbrev q : Row
+    q = partner (d .spec) (r .action)
+
+    module _ (e : ℕ) where
+      abbrev n : List ℕ
+      n = nextState r v e
+
+      n-length : length n ≡ n1
+      n-length = length-map (r .next) _ ∙ long
+
+      n-short : length n ≤ 8
+      n-short = rw n-length (fits .implementation .parameters)
+
+      abbrev answers : Bool
+      answers = enabledB q y e && (eqb (dataNumber r v e) (dataNumber q y e) && sameB (mapped d n) (nextState q y e))
+
+      answered-held : answeredIn f s (h .specification) j (dataNumber r v e) (padded (mapped d n)) t e ≡ answers
+      unfolding answeredIn stepOf
+      answered-held =
+          rw (partner-by f s (h .specification) (r .action))
+          (ap (λ (z : Step). z .enabled && (eqb (dataNumber r v e) (z .carries) && sameIn n2 (padded (mapped d n)) (z .next))) (states.step-held y short q e)
+          ∙ go (find (d .spec .rows) (r .action) 1))
+        where
+          go : Found (d .spec .rows) (r .action) 1 ⊎ Missing (d .spec .rows) (r .action) 1
+              → enabledB q y e && (eqb (dataNumber r v e) (dataNumber q y e) && sameIn n2 (padded (mapped d n)) (padded (nextState q y e))) ≡ answers
+          go (inr m) = rw (no-row (r .action) e (m .number))
+          go (inl g) =
+              let long-next : length (nextState q y e) ≡ n2 =
+              length-map (q .next) _ ∙ ap (λ (z : Row). length (z .next)) (found-partner (d .spec) (r .action) g)
+              ∙ states.rows-length f s (h .specification) (g .at) (g .row) (g .is-row) in
+              rw (states.same-held (mapped d n) (nextState q y e) n2 (states.mapped-length f s h n) long-next (fits .specification .parameters))
+
+      step-held : stepOfRow f s h r j v t (measureAt d v) e ≡ invariantStateB d n && pick (internalB r) (sameB y (mapped d n) && ltb (measureAt d n) (measureAt d v)) answers
+      unfolding stepOfRow keptIn
+      step-held =
+          rw (
+            states.inside-held f s h fits n n-length,
+            states.mapped-held f s h n n-short,
+            states.measure-held f s h n n-short,
+            states.same-held y (mapped d n) n2 (states.mapped-length f s h v) (states.mapped-length f s h n) (fits .specification .parameters),
+            answered-held,
+          )
+
+      row-held : (enabledB r v e ⇒ stepOfRow f s h r j v t (measureAt d v) e) ≡ rowHolds d v r e
+      row-held =
+          rw step-held
+          (at-once (enabledB r v e) (invariantStateB d n) (internalB r) (sameB y (mapped d n)) (ltb (measureAt d n) (measureAt d v)) (enabledB q y e) (eqb j 0)
+          (eqb (dataNumber r v e) (dataNumber q y e)) (sameB (mapped d n) (nextState q y e)) (λ z. no-row (r .action) e (eqb-true j 0 z)))
+
+    -- one look does for all
+    abbrev free : Bool
+    free = freeOf true r && freeOf true q
+
+    row-once : free ≡ true → (e : ℕ) → rowHolds d v r e ≡ rowHolds d v r 0
+    row-once z e =
+        let a : AsForZero r v e = as-for-zero r v e (and-left (freeOf true r) (freeOf true q) z) in
+        let b : AsForZero q y e = as-for-zero q y e (and-right (freeOf true r) (freeOf true q) z) in
+        rw (a .on, a .number, a .next, b .on, b .number, b .next)
+
+    quiet-once : free ≡ true → (e : ℕ) → not (enabledB r v e) ≡ not (enabledB r v 0)
+    quiet-once z e = let a : AsForZero r v e = as-for-zero r v e (and-left (freeOf true r) (freeOf true q) z) in rw (a .on)
+
+    abbrev looks : ℕ
+    looks = looksOf free (r .span)
+
+    abbrev allHold : Bool
+    allHold = allIn (λ e. rowHolds d v r e) (r .span) 0
+
+    abbrev allQuiet : Bool
+    allQuiet = allIn (λ e. not (internalTest v r e)) (r .span) 0
+
+    all-held : allIn (λ e. onIn r v (sumFreeF (r .condition)) e ⇒ stepOfRow f s h r j v t (measureAt d v) e) looks 0 ≡ allHold
+    all-held =
+        all-alike _ (λ e. rowHolds d v r e) looks 0 (λ e. ap (λ b. b ⇒ stepOfRow f s h r j v t (measureAt d v) e) (on-held r v e) ∙ row-held e)
+        ∙ all-looks (λ e. rowHolds d v r e) free (r .span) row-once
+
+    quiet-held : not (internalB r) || allIn (λ e. not (onIn r v (sumFreeF (r .condition)) e)) looks 0 ≡ allQuiet
+    quiet-held =
+        ap (λ b. not (internalB r) || b)
+        (all-alike _ (λ e. not (enabledB r v e)) looks 0 (λ e. ap not (on-held r v e)) ∙ all-looks (λ e. not (enabledB r v e)) free (r .span) quiet-once)
+        ∙ go (internalB r) refl
+      where
+        go : (b : Bool) → internalB r ≡ b → not b || allIn (λ e. not (enabledB r v e)) (r .span) 0 ≡ allQuiet
+        go true z = all-alike (λ e. not (enabledB r v e)) (λ e. not (internalTest v r e)) (r .span) 0 (λ e. ap (λ b. not (b && enabledB r v e)) (sym z))
+        go false z = sym (all-alike (λ e. not (internalTest v r e)) (λ _. true) (r .span) 0 (λ e. ap (λ b. not (b && enabledB r v e)) z) ∙ all-yes (r .span) 0)
+
+  -- ---- the rows of the implementation by the plan
+
+  abbrev p : List ℕ
+  p = planIn f s h
+
+  abbrev rows : ℕ
+  rows = h .implementation .rows .count
+
+  abbrev implRow : ℕ → Row
+  implRow i = rowIs f s (h .implementation) i
+
+  impl-long : (i : ℕ) → length (implRow i .next) ≡ n1
+  impl-long i = states.in-length n1 _
+
+  abbrev implEntry : ℕ → Entry
+  implEntry i = record {
+    partner = j (implRow i) (impl-long i);
+    looks = looks (implRow i) (impl-long i);
+    free = sumFreeF (implRow i .condition);
+    front = frontOf f (getD s (h .implementation .rows .first + i) 0 + 3) 32;
+  }
+
+  impl-plan : (i : ℕ) → i < rows → entryAt p i ≡ implEntry i
+  unfolding entryOf partnerFree rowWith
+  impl-plan i l =
+      let few = fits .implementation .rows in
+      impl-entry f s h i (omega arith) l
+      ∙ rw (partner-by f s (h .specification) (rowBy f s (h .implementation) (i + 1) .action), row-by f s (h .implementation) i, row-line f s (h .implementation) i)
+
+  abbrev holdsAt : ℕ → Bool
+  holdsAt i = allHold (implRow i) (impl-long i)
+
+  abbrev quietAt : ℕ → Bool
+  quietAt i = allQuiet (implRow i) (impl-long i)
+
+  abbrev seenAt : ℕ → Seen
+  seenAt i = rowIn f s h (i + 1) (entryAt p i) v t (measureIn f s h v)
+
+  row-seen : (i : ℕ) → i < rows → seenAt i ≡ seen (holdsAt i) (quietAt i)
+  unfolding rowIn measureIn
+  row-seen i l =
+      rw (impl-plan i l, row-by f s (h .implementation) i, row-line f s (h .implementation) i)
+      (guarded-row f s h v t (getD s (h .implementation .rows .first + i) 0) (implEntry i) (measureAt d v)
+      ∙ rw (all-held (implRow i) (impl-long i), quiet-held (implRow i) (impl-long i)))
+
+  abbrev rowsHold : Bool
+  rowsHold = allIn holdsAt rows 0
+
+  abbrev rowsQuiet : Bool
+  rowsQuiet = allIn quietAt rows 0
+
+  impl-held : implIn f s h p v t (measureIn f s h v) ≡ seen rowsHold (rowsHold && rowsQuiet)
+  unfolding implIn
+  impl-held =
+      rw (
+        all-in (λ i. seenAt i .holds) holdsAt rows 0 (λ i z u. ap (λ (g : Seen). g .holds) (row-seen i (omega arith)) ∙ seen-holds (holdsAt i) (quietAt i)),
+        all-in (λ i. seenAt i .quiet) (λ i. holdsAt i && quietAt i) rows 0 (λ i z u. ap (λ (g : Seen). g .quiet) (row-seen i (omega arith)) ∙ seen-quiet (holdsAt i) (quietAt i)),
+        all-both holdsAt quietAt rows 0,
+      )
+
+  rows-held : rowsHold ≡ allRows (d .impl .rows) (rowHolds d v)
+  rows-held = each-all (λ z. allIn (λ e. rowHolds d v z e) (z .span) 0) (line.rowOf n1) (lineFrom f s) rows (h .implementation .rows .first)
+
+  focus-held : rowsQuiet ≡ focusB d v
+  unfolding allIn
+  focus-held =
+      each-all (λ z. allIn (λ e. not (internalTest v z e)) (z .span) 0) (line.rowOf n1) (lineFrom f s) rows (h .implementation .rows .first)
+      ∙ sym (place-passes (suc (length (d .impl .rows))) (λ k. rowAt (d .impl .rows) k .span) (λ k e. internalTest v (rowAt (d .impl .rows) k) e) (λ k e. (k, e))
+      ∙ numbered (λ z. allIn (λ e. not (internalTest v z e)) (z .span) 0) (d .impl .rows) none)
+    where
+      none : allIn (λ e. not (internalTest v noRow e)) 0 0 ≡ true
+      none = refl
+
+  -- ---- the rows of the specification by the plan
+
+  abbrev specRow : ℕ → Row
+  specRow i = rowIs f s (h .specification) i
+
+  module _ (w : Row) where
+    abbrev other : Row
+    other = partner (d .impl) (w .action)
+
+    abbrev replies : ℕ → Bool
+    replies e = enabledB w y e ⇒ enabledB other v e
+
+    abbrev otherFree : Bool
+    otherFree = freeOf false w && freeOf false other
+
+    replied-held : (e : ℕ) → (onIn w t (sumFreeF (w .condition)) e ⇒ enabledB (partnerBy f s (h .implementation) (rowOf (d .impl) (w .action))) v e) ≡ replies e
+    replied-held e =
+        rw (partner-by f s (h .implementation) (w .action), formula-alike t y (states.same-values y short) (w .condition) (pick (sumFreeF (w .condition)) 0 e))
+        (ap (λ b. b ⇒ enabledB other v e) (on-held w y e))
+
+    replies-once : otherFree ≡ true → (e : ℕ) → replies e ≡ replies 0
+    replies-once z e =
+        rw (
+          same-f (w .condition) y e 0 (condition-free w (and-left (freeOf false w) (freeOf false other) z)),
+          same-f (other .condition) v e 0 (condition-free other (and-right (freeOf false w) (freeOf false other) z)),
+        )
+
+    reply-held : allIn (λ e. onIn w t (sumFreeF (w .condition)) e ⇒ enabledB (partnerBy f s (h .implementation) (rowOf (d .impl) (w .action))) v e) (looksOf otherFree (w .span)) 0
+        ≡ allIn replies (w .span) 0
+    reply-held = all-alike _ replies (looksOf otherFree (w .span)) 0 replied-held ∙ all-looks replies otherFree (w .span) replies-once
+
+  abbrev specEntry : ℕ → Entry
+  specEntry i = record {
+    partner = rowOf (d .impl) (specRow i .action);
+    looks = looksOf (otherFree (specRow i)) (specRow i .span);
+    free = sumFreeF (specRow i .condition);
+    front = frontOf f (getD s (h .specification .rows .first + i) 0 + 3) 32;
+  }
+
+  spec-plan : (i : ℕ) → i < h .specification .rows .count → entryAt p (32 + i) ≡ specEntry i
+  unfolding entryOf partnerFree rowWith
+  spec-plan i l =
+      let few = fits .specification .rows in
+      spec-entry f s h i (omega arith) l
+      ∙ rw (partner-by f s (h .implementation) (rowBy f s (h .specification) (i + 1) .action), row-by f s (h .specification) i, row-line f s (h .specification) i)
+
+  row-replied : (i : ℕ) → i < h .specification .rows .count → replyIn f s h (i + 1) (entryAt p (32 + i)) v t ≡ allIn (replies (specRow i)) (specRow i .span) 0
+  unfolding replyIn
+  row-replied i l =
+      rw (spec-plan i l, row-line f s (h .specification) i)
+      (guarded-reply f s h v t (getD s (h .specification .rows .first + i) 0) (specEntry i) ∙ reply-held (specRow i))
+
+  abbrev sevens : Bool
+  sevens = allRows (d .spec .rows) (λ z e. enabledB z y e ⇒ enabledB (partner (d .impl) (z .action)) v e)
+
+  spec-held : specIn f s h p v t ≡ sevens
+  unfolding specIn
+  spec-held =
+      all-in (λ i. replyIn f s h (i + 1) (entryAt p (32 + i)) v t) (λ i. allIn (replies (specRow i)) (specRow i .span) 0) (h .specification .rows .count) 0
+      (λ i z u. row-replied i (omega arith))
+      ∙ each-all (λ z. allIn (λ e. enabledB z y e ⇒ enabledB (partner (d .impl) (z .action)) v e) (z .span) 0) (line.rowOf n2) (lineFrom f s) (h .specification .rows .count)
+      (h .specification .rows .first)
+
+  -- criterion 7 at a focus point, and nothing elsewhere
+  sevens-held : (focusB d v ⇒ sevens) ≡ allRows (d .spec .rows) (holds7 d v)
+  sevens-held = go (focusB d v)
+    where
+      go : (b : Bool) → (b ⇒ sevens) ≡ allRows (d .spec .rows) (λ z e. b ⇒ enabledB z y e ⇒ enabledB (partner (d .impl) (z .action)) v e)
+      go true = refl
+      go false = sym (each-alike _ (λ _. true) (d .spec .rows) (λ z. all-yes (z .span) 0) ∙ each-yes (d .spec .rows))
+
+  -- ---- the state
+
+  pub quick-held : passesIn f s h (planIn f s h) v t ≡ stateHolds d v
+  unfolding passesIn
+  quick-held =
+      rw (
+        states.below-held f s (h .specification) (fits .specification) y (states.mapped-length f s h v),
+        impl-held,
+        spec-held,
+        focus-held,
+        rows-held,
+        ← sevens-held,
+      )
+      (ap (λ b. holds2 d v && b) (arranged (allRows (d .impl .rows) (rowHolds d v)) (focusB d v) sevens))

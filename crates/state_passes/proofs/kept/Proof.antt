@@ -1,0 +1,15 @@
+-- The mapping, then the measure.
+use borrow.Author.Needs.{needs}
+use Rattle.state_passes.proofs.Seeing as laws
+use Rattle.state_passes.proofs.kept.Statement.{statement}
+use Rattle.state_passes.proofs.kept.Tie as tie
+
+pub kept-spec : {M : Type 1} → statement M
+kept-spec =
+    tie.close
+    (tie.spec
+    (λ c κs. search needs)
+    (λ c κs. search needs)
+    (λ c κs. search needs)
+    (λ c. search laws.kept-lowers)
+    (λ c. search laws.kept-not))

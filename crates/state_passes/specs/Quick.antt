@@ -1,0 +1,118 @@
+-- The quick test of a state as the code makes it, by any plan p: f the fields, s the starts of lines, h the shape; v the state, t its
+-- mapped state, m its measure. By the right plan it is that of decision/specs/Quick (proofs/Decided).
+use mathlib.Core.Bool.{Bool, true, false, not, _&&_, _||_}
+use mathlib.Core.List.{List}
+use Prim.Native.Nat.{ℕ, _+_}
+use lib.Dec.{eqb, ltb}
+use lib.ListN.{drop}
+use Rattle.foundation.specs.First.{allIn}
+use Rattle.foundation.specs.Reflects.{_⇒_}
+use Rattle.terms.specs.Tree.{Formula, pick, evalV, evalF}
+use Rattle.terms.specs.Read.{Read, readV, readF}
+use Rattle.eval.specs.Answer.{answerF}
+use Rattle.eval.specs.declared.Held.{Held}
+use Rattle.criteria.specs.Design as design
+use Rattle.criteria.specs.Step.{nextState, dataNumber}
+use Rattle.decision.specs.Tests.{enabledB, internalB}
+use Rattle.design.specs.declared.Process.{Process}
+use Rattle.design.specs.declared.Shape.{Shape}
+use Rattle.steps.specs.Arrays.{padded, valuesAt, lineOf, belowIn, sameIn, insideIn, mappedIn, measureIn}
+use Rattle.conjuncts.specs.Conjuncts.{guardIn}
+use Rattle.conjuncts.specs.declared.Guarded.{Guarded}
+use Rattle.plan.specs.Plan.{rowBy, partnerBy, entryAt}
+use Rattle.plan.specs.declared.Entry.{Entry}
+use Rattle.state_passes.specs.declared.Seen.{Seen}
+use Rattle.state_passes.specs.declared.Row.{Row}
+
+-- ---- a row that is looked at
+
+abbrev pub rowFor : Guarded → Entry → Bool → Row
+rowFor g e b = record { at = g .at; depth = g .depth; free = e .free; looks = e .looks; internal = b; partner = e .partner }
+
+-- what is left of its condition; whether that holds for the sum value e, taken for 0 where it is said to be sum-free
+abbrev pub left : List ℕ → Row → Read Formula
+left f row = readF (row .depth) (drop (row .at) f)
+
+abbrev pub onAt : List ℕ → Row → List ℕ → ℕ → Bool
+onAt f row v e = evalF (left f row .tree) v (pick (row .free) 0 e)
+
+-- the same where `first` is known for the sum value 0
+unfoldable pub knownIn : List ℕ → Row → List ℕ → Held → ℕ → Held
+knownIn f row v first e = pick (row .free || eqb e 0) first (answerF (row .at) v e (left f row))
+
+-- ---- a step
+
+-- an internal step to x keeps the mapping and lowers the measure
+unfoldable pub keptIn : List ℕ → List ℕ → Shape → List ℕ → List ℕ → ℕ → Bool
+keptIn f s h x t m = sameIn (h .specification .parameters .count) t (mappedIn f s h x) && ltb (measureIn f s h x) m
+
+-- row j of the specification makes the same step: enabled, the data number w, to y
+unfoldable pub answeredIn : List ℕ → List ℕ → Process → ℕ → ℕ → List ℕ → List ℕ → ℕ → Bool
+answeredIn f s p j w y t e =
+    let q = partnerBy f s p j in
+    enabledB q t e && (eqb w (dataNumber q t e) && sameIn (p .parameters .count) y (padded (nextState q t e)))
+
+-- a step to x with the data number w, of an internal row or of one whose partner is j
+abbrev pub stepTo : List ℕ → List ℕ → Shape → Bool → ℕ → List ℕ → ℕ → ℕ → List ℕ → ℕ → Bool
+stepTo f s h b j t m w x e = insideIn f s h x && pick b (keptIn f s h x t m) (answeredIn f s (h .specification) j w (mappedIn f s h x) t e)
+
+-- of a row whose data stand at a place
+unfoldable pub stepIn : List ℕ → List ℕ → Shape → Row → ℕ → List ℕ → List ℕ → ℕ → ℕ → Bool
+stepIn f s h row at v t m e =
+    let r = readV 32 (drop at f) in
+    stepTo f s h (row .internal) (row .partner) t m (evalV (r .tree) v e) (padded (valuesAt f (at + r .used) (h .implementation .parameters .count) v e)) e
+
+-- of a row of the design
+unfoldable pub stepOfRow : List ℕ → List ℕ → Shape → design.Row → ℕ → List ℕ → List ℕ → ℕ → ℕ → Bool
+stepOfRow f s h r j v t m e = stepTo f s h (internalB r) j t m (dataNumber r v e) (padded (nextState r v e)) e
+
+-- ---- the rows of the implementation
+
+-- of rows that do not all hold nothing more is said
+abbrev pub seen : Bool → Bool → Seen
+seen h q = pick h (record { holds = true; quiet = q }) (record { holds = false; quiet = false })
+
+-- one look, and all
+unfoldable pub lookIn : List ℕ → List ℕ → Shape → Row → Held → List ℕ → List ℕ → ℕ → ℕ → Seen
+lookIn f s h row first v t m e =
+    let o = knownIn f row v first e in
+    record { holds = o .holds ⇒ stepIn f s h row (o .next) v t m e; quiet = not (o .holds) }
+
+unfoldable pub looksIn : List ℕ → List ℕ → Shape → Row → List ℕ → List ℕ → ℕ → Seen
+looksIn f s h row v t m =
+    let past = row .at + left f row .used in
+    seen (allIn (λ e. onAt f row v e ⇒ stepIn f s h row past v t m e) (row .looks) 0) (not (row .internal) || allIn (λ e. not (onAt f row v e)) (row .looks) 0)
+
+-- row k, by an entry of a plan
+unfoldable pub rowIn : List ℕ → List ℕ → Shape → ℕ → Entry → List ℕ → List ℕ → ℕ → Seen
+rowIn f s h k e v t m =
+    let front = guardIn f v 0 (e .front) (lineOf s (h .implementation) k + 3) 32 in
+    pick (front .holds) (looksIn f s h (rowFor front e (internalB (rowBy f s (h .implementation) k))) v t m) (seen true true)
+
+unfoldable pub implIn : List ℕ → List ℕ → Shape → List ℕ → List ℕ → List ℕ → ℕ → Seen
+implIn f s h p v t m =
+    let row : ℕ → Seen = λ i. rowIn f s h (i + 1) (entryAt p i) v t m in
+    seen (allIn (λ i. row i .holds) (h .implementation .rows .count) 0) (allIn (λ i. row i .quiet) (h .implementation .rows .count) 0)
+
+-- ---- the rows of the specification
+
+unfoldable pub repliedIn : List ℕ → List ℕ → Process → Row → Held → List ℕ → List ℕ → ℕ → Bool
+repliedIn f s p row first v t e = knownIn f row t first e .holds ⇒ enabledB (partnerBy f s p (row .partner)) v e
+
+unfoldable pub replyLooks : List ℕ → List ℕ → Process → Row → List ℕ → List ℕ → Bool
+replyLooks f s p row v t = allIn (λ e. onAt f row t e ⇒ enabledB (partnerBy f s p (row .partner)) v e) (row .looks) 0
+
+unfoldable pub replyIn : List ℕ → List ℕ → Shape → ℕ → Entry → List ℕ → List ℕ → Bool
+replyIn f s h k e v t =
+    let front = guardIn f t 0 (e .front) (lineOf s (h .specification) k + 3) 32 in
+    pick (front .holds) (replyLooks f s (h .implementation) (rowFor front e false) v t) true
+
+unfoldable pub specIn : List ℕ → List ℕ → Shape → List ℕ → List ℕ → List ℕ → Bool
+specIn f s h p v t = allIn (λ i. replyIn f s h (i + 1) (entryAt p (32 + i)) v t) (h .specification .rows .count) 0
+
+-- ---- the state
+
+unfoldable pub passesIn : List ℕ → List ℕ → Shape → List ℕ → List ℕ → List ℕ → Bool
+passesIn f s h p v t =
+    let rows = implIn f s h p v t (measureIn f s h v) in
+    belowIn f s (h .specification) t && (rows .holds && (rows .quiet ⇒ specIn f s h p v t))
