@@ -1,5 +1,5 @@
 -- Of any table: a kind's number is at most the last (`known-within`). Of the table of a whole text: each kind has a rank of its own, its
--- number (`rank-own`, `rank-none`).
+-- number (`rank-own`, `rank-none`), which is not 0 (`rank-some`).
 use Prim.Native.Nat.{ℕ, zero, suc, _≤_, _<_, max}
 use mathlib.Core.Path.{_≡_, refl}
 use mathlib.Core.Bool.{Bool, true, false, cond}
@@ -35,3 +35,9 @@ pub rank-none : (k : ℕ) → 7 < k → entryIn wholeText k .rank ≡ 0
 unfolding entryIn
 rank-none k h =
     rw (ne-eqb k 1 (omega arith), ne-eqb k 2 (omega arith), ne-eqb k 3 (omega arith), ne-eqb k 4 (omega arith), ne-eqb k 5 (omega arith), ne-eqb k 6 (omega arith), ne-eqb k 7 (omega arith))
+
+-- a kind's number is not 0
+pub rank-some : (k : ℕ) → 1 ≤ entryIn wholeText k .most → 1 ≤ entryIn wholeText k .rank
+unfolding entryIn lastIn
+rank-some zero h = absurd (omega arith)
+rank-some (suc k) h = let l = known-within wholeText (suc k) h in let r = rank-own (suc k) l in omega arith

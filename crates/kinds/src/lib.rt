@@ -47,18 +47,90 @@ pub fn entry_at(kind: u16) -> Entry
     ensures { λ r. ⌜ r ≡ entryIn wholeText kind ⌝ }
 {
     match kind {
-        1 => line(1, 1, limits::MAX_PARAMETERS, 3, Role::Parameter, Follow::Nothing, Process::Implementation),
-        2 => line(2, 1, limits::MAX_PARAMETERS, 3, Role::Parameter, Follow::Nothing, Process::Specification),
-        3 => line(3, 0, limits::MAX_ROWS, 3, Role::Row, Follow::RowTerms, Process::Implementation),
-        4 => line(4, 0, limits::MAX_ROWS, 3, Role::Row, Follow::RowTerms, Process::Specification),
-        5 => line(5, 1, 1, 1, Role::Other, Follow::Formula, Process::Implementation),
-        6 => line(6, 1, 1, 1, Role::Other, Follow::Mapped, Process::Implementation),
-        7 => line(7, 1, 1, 1, Role::Other, Follow::Value, Process::Implementation),
-        _ => line(0, 0, 0, 0, Role::Other, Follow::Nothing, Process::Implementation),
+        1 => line(
+            1,
+            1,
+            limits::MAX_PARAMETERS,
+            3,
+            Role::Parameter,
+            Follow::Nothing,
+            Process::Implementation,
+        ),
+        2 => line(
+            2,
+            1,
+            limits::MAX_PARAMETERS,
+            3,
+            Role::Parameter,
+            Follow::Nothing,
+            Process::Specification,
+        ),
+        3 => line(
+            3,
+            0,
+            limits::MAX_ROWS,
+            3,
+            Role::Row,
+            Follow::RowTerms,
+            Process::Implementation,
+        ),
+        4 => line(
+            4,
+            0,
+            limits::MAX_ROWS,
+            3,
+            Role::Row,
+            Follow::RowTerms,
+            Process::Specification,
+        ),
+        5 => line(
+            5,
+            1,
+            1,
+            1,
+            Role::Other,
+            Follow::Formula,
+            Process::Implementation,
+        ),
+        6 => line(
+            6,
+            1,
+            1,
+            1,
+            Role::Other,
+            Follow::Mapped,
+            Process::Implementation,
+        ),
+        7 => line(
+            7,
+            1,
+            1,
+            1,
+            Role::Other,
+            Follow::Value,
+            Process::Implementation,
+        ),
+        _ => line(
+            0,
+            0,
+            0,
+            0,
+            Role::Other,
+            Follow::Nothing,
+            Process::Implementation,
+        ),
     }
 }
 
-fn line(rank: u16, fewest: usize, most: usize, fixed: usize, role: Role, terms: Follow, process: Process) -> Entry
+fn line(
+    rank: u16,
+    fewest: usize,
+    most: usize,
+    fixed: usize,
+    role: Role,
+    terms: Follow,
+    process: Process,
+) -> Entry
     ensures { λ r. ⌜ r ≡ record { rank = rank; fewest = fewest; most = most; fixed = fixed; role = role; terms = terms; process = process } ⌝ }
 {
     Entry {
