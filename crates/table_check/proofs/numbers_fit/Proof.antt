@@ -1,13 +1,13 @@
--- `loader::numbers_fit` asks each line in turn.
+-- `table_check::numbers_fit` asks each line in turn.
 use Prim.Native.Nat.{_-_, _≤_}
 use mathlib.Core.Path.{_≡_}
 use native.Mathlib.Omega.{arith}
 use borrow.Author.Needs.{needs}
 use Rattle.design.specs.Tests.{eachLineIs, numbersFit}
 use Rattle.design.specs.Loaded.{heldLines}
-use Rattle.loader.proofs.Lines as lines
-use Rattle.loader.proofs.numbers_fit.Statement.{statement}
-use Rattle.loader.proofs.numbers_fit.Tie as tie
+use Rattle.table_check.proofs.Lines as lines
+use Rattle.table_check.proofs.numbers_fit.Statement.{statement}
+use Rattle.table_check.proofs.numbers_fit.Tie as tie
 
 abbrev Inv-loop : tie.InvT-loop
 Inv-loop fields starts n i₀ i =

@@ -1,8 +1,8 @@
--- `loader::line_field` is a field of a line that a desk's arrays hold.
+-- `table_check::line_field` is a field of a line that a desk's arrays hold.
 use borrow.Author.Needs.{needs}
-use Rattle.loader.proofs.Lines as lines
-use Rattle.loader.proofs.line_field.Statement.{statement}
-use Rattle.loader.proofs.line_field.Tie as tie
+use Rattle.table_check.proofs.Lines as lines
+use Rattle.table_check.proofs.line_field.Statement.{statement}
+use Rattle.table_check.proofs.line_field.Tie as tie
 
 pub line-field-spec : {M : Type 1} → statement M
 line-field-spec =

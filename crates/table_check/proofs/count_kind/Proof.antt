@@ -1,13 +1,13 @@
--- `loader::count_kind` counts the lines of a kind: those passed and those still ahead are all of them.
+-- `table_check::count_kind` counts the lines of a kind: those passed and those still ahead are all of them.
 use Prim.Native.Nat.{_+_, _-_, _≤_}
 use mathlib.Core.Path.{_≡_}
 use native.Mathlib.Omega.{arith}
 use borrow.Author.Needs.{needs}
 use Rattle.design.specs.Lines.{countOf}
 use Rattle.design.specs.Loaded.{heldLines}
-use Rattle.loader.proofs.Lines as lines
-use Rattle.loader.proofs.count_kind.Statement.{statement}
-use Rattle.loader.proofs.count_kind.Tie as tie
+use Rattle.table_check.proofs.Lines as lines
+use Rattle.table_check.proofs.count_kind.Statement.{statement}
+use Rattle.table_check.proofs.count_kind.Tie as tie
 
 abbrev Inv-loop : tie.InvT-loop
 Inv-loop fields starts n kind count₀ i₀ count i =

@@ -1,8 +1,8 @@
--- `loader::line_length` is the length of a line that a desk's arrays hold.
+-- `table_check::line_length` is the length of a line that a desk's arrays hold.
 use borrow.Author.Needs.{needs}
-use Rattle.loader.proofs.Lines as lines
-use Rattle.loader.proofs.line_length.Statement.{statement}
-use Rattle.loader.proofs.line_length.Tie as tie
+use Rattle.table_check.proofs.Lines as lines
+use Rattle.table_check.proofs.line_length.Statement.{statement}
+use Rattle.table_check.proofs.line_length.Tie as tie
 
 pub line-length-spec : {M : Type 1} → statement M
 line-length-spec =

@@ -1,8 +1,8 @@
--- `loader::layout_fits` is the test of fault 4.
+-- `table_check::layout_fits` is the test of fault 4.
 use borrow.Author.Needs.{needs}
-use Rattle.loader.proofs.Lines as lines
-use Rattle.loader.proofs.layout_fits.Statement.{statement}
-use Rattle.loader.proofs.layout_fits.Tie as tie
+use Rattle.table_check.proofs.Lines as lines
+use Rattle.table_check.proofs.layout_fits.Statement.{statement}
+use Rattle.table_check.proofs.layout_fits.Tie as tie
 
 pub layout-fits-spec : {M : Type 1} → statement M
 layout-fits-spec =
