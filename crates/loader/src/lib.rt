@@ -5,18 +5,15 @@ use design::Counts;
 use reader::Field;
 use reader::LineReader;
 ghost use mathlib.Core.Path.{_≡_};
-ghost use mathlib.Core.Bool.{cond, _&&_};
-ghost use lib.Dec.{leb};
 ghost use Prim.Native.Nat.{_+_, _<_, _≤_};
-ghost use lib.ListN.{length, getD};
+ghost use lib.ListN.{length};
 ghost use lib.Seq.{sets};
 ghost use Rattle.reader.specs.Line.{fieldsOf};
 ghost use Rattle.reader.specs.Text.{fieldsByLine, columnsFault};
-ghost use Rattle.design.specs.Lines.{kindOf, countOf, countsOf};
-ghost use Rattle.design.specs.Loaded.{lineAt, heldLines};
+ghost use Rattle.design.specs.Lines.{kindOf};
+ghost use Rattle.design.specs.Tests.{eachLineIs};
 ghost use Rattle.loader.specs.Filled.{Filled, stored};
 ghost use Rattle.loader.specs.Load.{lineTest, tableFault, loadedOf, refusedBy, Holds};
-ghost use Rattle.design.specs.Tests.{climbs, countsFit, layoutFits, eachLineIs, isParameter, isRow, lengthFitsBy, lengthFits, numbersFitBy, numbersFit};
 
 // A text's fault, or 0; then the arrays hold the text's lines.
 pub struct Loaded {
