@@ -15,7 +15,7 @@ use Rattle.foundation.proofs.Reflects.{by-and, by-iff, by-eqb, says-yes, is-so}
 use Rattle.foundation.proofs.First.{by-all}
 use Rattle.kinds.specs.Kinds.{Table, wholeText, entryIn, lastIn, hasTerms}
 use Rattle.kinds.specs.declared.Entry.{Entry}
-use Rattle.kinds.proofs.Table.{known-within, rank-own, rank-none, rank-some}
+use Rattle.kinds.proofs.Table.{known-within, rank-own, rank-none, rank-most, rank-some}
 use Rattle.design.specs.Lines.{kindOf, ofKind, countOf}
 use Rattle.design.specs.Faults.{entryOf, Falls, here, later, ofRank, Allowed, Fault4, unknown, falling, wrong-count, not-exactly, too-few}
 use Rattle.design.specs.Tests.{climbs, eachLineIs, countFitsBy, countFits, countsFit, lengthFitsBy, lengthFits, layoutFits}
@@ -260,13 +260,6 @@ module _ (table : Table) where
 
 -- ---- the kinds of a whole text: each has a rank of its own, its number
 
-rank-most : (k : ℕ) → entryIn wholeText k .rank ≤ 7
-rank-most k = go (leb k 7) refl
-  where
-    go : (b : Bool) → leb k 7 ≡ b → entryIn wholeText k .rank ≤ 7
-    go true e = let l = leb-true k 7 e in let r = rank-own k l in omega arith
-    go false e = let r = rank-none k (leb-false k 7 e) in omega arith
-
 rank-is : (j k : ℕ) → 1 ≤ k → k ≤ 7 → eqb (entryIn wholeText j .rank) k ≡ eqb j k
 rank-is j k a b = go (leb j 7) refl
   where
@@ -274,7 +267,7 @@ rank-is j k a b = go (leb j 7) refl
     go true e = rw (rank-own j (leb-true j 7 e))
     go false e = let l = leb-false j 7 e in rw (rank-none j l, ne-eqb j k (omega arith)) (ne-eqb 0 k (omega arith))
 
-rank-kind : (k : ℕ) → 1 ≤ k → k ≤ 7 → (lines : List (List ℕ)) → ofRank wholeText k lines ≡ ofKind k lines
+pub rank-kind : (k : ℕ) → 1 ≤ k → k ≤ 7 → (lines : List (List ℕ)) → ofRank wholeText k lines ≡ ofKind k lines
 unfolding ofRank ofKind
 rank-kind k a b [] = refl
 rank-kind k a b (line ∷ lines) = rw (rank-is (kindOf line) k a b, rank-kind k a b lines)

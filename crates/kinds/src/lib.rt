@@ -6,7 +6,7 @@ ghost use Rattle.kinds.specs.Kinds.{wholeText, entryIn, hasTerms, ownOf}
 // What a kind of line is.
 pub struct Entry {
     // Its place in the order of kinds: lines never fall in rank.
-    pub rank: u16,
+    pub rank: usize,
     // How many lines of its rank a text has; of what is no kind, none.
     pub fewest: usize,
     pub most: usize,
@@ -39,8 +39,10 @@ pub enum Process {
     Specification,
 }
 
-// The highest number of a kind.
+// The highest number of a kind, and how many ranks there are, from 0 on, which is that of no kind.
 pub const LAST_KIND: u16 = 7;
+
+pub const RANKS: usize = 8;
 
 // The entry of a kind.
 pub fn entry_at(kind: u16) -> Entry
@@ -123,7 +125,7 @@ pub fn entry_at(kind: u16) -> Entry
 }
 
 fn line(
-    rank: u16,
+    rank: usize,
     fewest: usize,
     most: usize,
     fixed: usize,

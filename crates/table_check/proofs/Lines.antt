@@ -1,15 +1,15 @@
 -- What the functions on one line of a desk's arrays answer (design/specs/Loaded, `lineAt`), and what a turn of each loop over lines
 -- keeps: what is still to be looked at, from here, gives the whole.
-use Prim.Native.Nat.{ℕ, suc, _+_, _-_, _^_, _≤_, _<_, min}
+use Prim.Native.Nat.{ℕ, zero, suc, _+_, _-_, _*_, _^_, _≤_, _<_, min}
 use mathlib.Core.Path.{_≡_, refl, sym, ap, _∙_}
 use mathlib.Core.Bool.{Bool, true, false, cond, not, _&&_}
 use mathlib.Core.List.{List, [], _∷_}
 use native.Mathlib.Omega.{arith}
 use native.Mathlib.Numerals.{add-one}
-use borrow.Author.Tests.{ne-eqb, le-leb, lt-leb, not-true, not-false}
+use borrow.Author.Tests.{eqb-true, eqb-false, ne-eqb, le-leb, lt-leb, not-true, not-false}
 use lib.Dec.{eqb, ltb, leb}
-use lib.ListN.{length, getD, drop, length-take, length-drop, List·getD-eq-default}
-use lib.Seq.{getD-take, getD-drop}
+use lib.ListN.{length, getD, drop, set, length-set, replicate, length-replicate, length-take, length-drop, List·getD-eq-default}
+use lib.Seq.{getD-take, getD-drop, getD-set-same, getD-set-other}
 use mir.Syntax.{w64}
 use mir.Val.{Fits}
 use Rattle.foundation.specs.First.{allIn}
@@ -17,10 +17,13 @@ use Rattle.kinds.specs.Kinds.{wholeText, entryIn, lastIn, hasTerms}
 use Rattle.kinds.specs.declared.Entry.{Entry}
 use Rattle.kinds.specs.declared.Role.{Role}
 use Rattle.kinds.specs.declared.Role.the-variants as role
-use Rattle.design.specs.Lines.{ofKind, countOf, countsOf}
+use Rattle.kinds.proofs.Table.{rank-most}
+use Rattle.design.specs.Lines.{countOf, countsOf}
 use Rattle.design.specs.Faults.{ofRank}
 use Rattle.design.specs.Loaded.{lineFrom, lineAt, eachLine, heldLines}
-use Rattle.design.specs.Tests.{climbs, countFits, countsFit, layoutFits, eachLineIs, lengthFits, numbersFitBy, numbersFit}
+use Rattle.design.specs.Tests.{climbs, countFitsBy, countFits, countsFit, layoutFits, eachLineIs, lengthFits, numbersFitBy, numbersFit}
+use Rattle.design.proofs.Fault4.{rank-kind}
+use Rattle.table_check.specs.Tally.{Tallied, kindFits, tallyFits}
 
 -- ---- one line
 
@@ -100,40 +103,79 @@ module _ (fields starts : List ℕ) (n i lowest : ℕ) (inv : climbs wholeText l
   unfolding climbs
   climb-end h = rw (no-lines fields starts n i h) at inv
 
--- ---- lines of a rank are counted, and those of a kind
+-- ---- lines are counted by rank
+
+module _ (k : ℕ) (e : Entry) (ee : e ≡ entryIn wholeText k) where
+  pub rank-below : e .rank < 8
+  rank-below = let m = rank-most k in rw ee (omega arith)
+
+  pub rank-place : Fits w64 (e .rank * 8)
+  rank-place = let m = rank-below in record { fits = omega arith }
+
+-- the counts of the lines passed, and those still ahead, are all of them
+pub record Passed (fields starts : List ℕ) (n i : ℕ) (tally : List ℕ) : Type 0 where
+  pub long : length tally ≡ 8
+  pub small : (r : ℕ) → getD tally r 0 ≤ i
+  pub whole : (r : ℕ) → r < 8
+      → getD tally r 0 + length (ofRank wholeText r (linesFrom fields starts n i)) ≡ length (ofRank wholeText r (heldLines fields starts n))
 
 -- one line more, or none
-one-counted : (count one : ℕ) (is : Bool) (line : List ℕ) (more : List (List ℕ)) (whole : ℕ) → one ≡ cond is 1 0
-    → count + length (cond is (line ∷ more) more) ≡ whole → count + one + length more ≡ whole
-one-counted count one true line more whole e v = omega arith
-one-counted count one false line more whole e v = omega arith
+one-more-line : (count m : ℕ) (is : Bool) (line : List ℕ) (later : List (List ℕ)) (all : ℕ) → m ≡ cond is (count + 1) count
+    → count + length (cond is (line ∷ later) later) ≡ all → m + length later ≡ all
+one-more-line count m true line later all e v = omega arith
+one-more-line count m false line later all e v = omega arith
 
-module _ (fields starts : List ℕ) (n rank i count : ℕ)
-    (inv : count + length (ofRank wholeText rank (linesFrom fields starts n i)) ≡ length (ofRank wholeText rank (heldLines fields starts n))) where
-  pub rank-turn : i < n → (k one : ℕ) → k ≡ getD (lineAt fields starts i) 0 0 → (e : Entry) → e ≡ entryIn wholeText k → one ≡ cond (eqb (e .rank) rank) 1 0
-      → count + one + length (ofRank wholeText rank (linesFrom fields starts n (i + 1))) ≡ length (ofRank wholeText rank (heldLines fields starts n))
-  unfolding ofRank
-  rank-turn h k one ek e ee eo =
-      one-counted count one (eqb (e .rank) rank) (lineAt fields starts i) _ _ eo (rw (next-line fields starts n i h, ← ek, ← ee) at inv)
+zero-at : (n r : ℕ) → getD {A = ℕ} (replicate n 0) r 0 ≡ 0
+zero-at zero r = refl
+zero-at (suc n) zero = refl
+zero-at (suc n) (suc r) = zero-at n r
 
-  pub rank-end : n ≤ i → count ≡ length (ofRank wholeText rank (heldLines fields starts n))
-  unfolding ofRank
-  rank-end h = let v = rw (no-lines fields starts n i h) at inv in omega arith
+module _ (fields starts : List ℕ) (n : ℕ) where
+  pub tally-start : (tally : List ℕ) → tally ≡ replicate 8 0 → Passed fields starts n 0 tally
+  tally-start tally e =
+      rw e
+      (record {
+        long = length-replicate {A = ℕ} 8 0;
+        small = λ r. let z = zero-at 8 r in omega arith;
+        whole = λ r h. rw (zero-at 8 r, all-lines fields starts n) (omega arith);
+      })
 
-module _ (fields starts : List ℕ) (n kind i count : ℕ) (inv : count + countOf kind (linesFrom fields starts n i) ≡ countOf kind (heldLines fields starts n)) where
-  pub count-turn : i < n → (k one : ℕ) → k ≡ getD (lineAt fields starts i) 0 0 → one ≡ cond (eqb k kind) 1 0
-      → count + one + countOf kind (linesFrom fields starts n (i + 1)) ≡ countOf kind (heldLines fields starts n)
-  unfolding ofKind
-  count-turn h k one ek eo =
-      one-counted count one (eqb k kind) (lineAt fields starts i) _ _ eo (rw (next-line fields starts n i h, ← ek) at inv)
+  module _ (i : ℕ) (tally : List ℕ) (p : Passed fields starts n i tally) where
+    module _ (k : ℕ) (ek : k ≡ getD (lineAt fields starts i) 0 0) (e : Entry) (ee : e ≡ entryIn wholeText k) where
+      within : e .rank < length tally
+      within = let b = rank-below k e ee in let l = p .long in omega arith
 
-  pub count-end : n ≤ i → count ≡ countOf kind (heldLines fields starts n)
-  unfolding ofKind
-  count-end h = let v = rw (no-lines fields starts n i h) at inv in omega arith
+      pub one-more-fits : n < 2 ^ 64 → i < n → Fits w64 (getD tally (e .rank) 0 + 1)
+      one-more-fits h l = let s = p .small (e .rank) in record { fits = omega arith }
 
-pub counts-all : (lines : List (List ℕ)) (a b c d : ℕ) → a ≡ countOf 1 lines → b ≡ countOf 2 lines → c ≡ countOf 3 lines → d ≡ countOf 4 lines
-    → record { kind1 = a; kind2 = b; kind3 = c; kind4 = d } ≡ countsOf lines
-counts-all lines a b c d ea eb ec ed = rw (ea, eb, ec, ed)
+      abbrev next : List ℕ
+      next = set tally (e .rank) (getD tally (e .rank) 0 + 1)
+
+      next-at : (r : ℕ) → getD next r 0 ≡ cond (eqb (e .rank) r) (getD tally r 0 + 1) (getD tally r 0)
+      next-at r = go (eqb (e .rank) r) refl
+        where
+          go : (is : Bool) → eqb (e .rank) r ≡ is → getD next r 0 ≡ cond is (getD tally r 0 + 1) (getD tally r 0)
+          go true q = rw (← eqb-true (e .rank) r q) (getD-set-same tally (e .rank) _ 0 within)
+          go false q = getD-set-other tally (e .rank) r _ 0 (λ x. eqb-false (e .rank) r q (sym x))
+
+      small-by : (is : Bool) (m count : ℕ) → m ≡ cond is (count + 1) count → count ≤ i → m ≤ i + 1
+      small-by true m count e l = omega arith
+      small-by false m count e l = omega arith
+
+      pub tally-turn : i < n → Passed fields starts n (i + 1) next
+      unfolding ofRank
+      tally-turn h =
+          record {
+            long = length-set tally (e .rank) _ ∙ p .long;
+            small = λ r. small-by (eqb (e .rank) r) (getD next r 0) (getD tally r 0) (next-at r) (p .small r);
+            whole = λ r l.
+                one-more-line (getD tally r 0) (getD next r 0) (eqb (e .rank) r) (lineAt fields starts i) _ _ (next-at r)
+                (rw (next-line fields starts n i h, ← ek, ← ee) at (p .whole r l));
+          }
+
+    pub tally-end : n ≤ i → Tallied (heldLines fields starts n) tally
+    unfolding ofRank
+    tally-end h = record { of-rank = λ r l. let v = rw (no-lines fields starts n i h) at (p .whole r l) in omega arith }
 
 -- ---- each line passes a test
 
@@ -153,34 +195,47 @@ module _ (test : List ℕ → Bool) (fields starts : List ℕ) (n i : ℕ) (inv 
 
 -- ---- each kind
 
-module _ (lines : List (List ℕ)) (k : ℕ) (inv : allIn (countFits wholeText lines) (8 - k) k ≡ countsFit wholeText lines) where
-  module _ (h : k ≤ 7) (r : Bool) (er : r ≡ countFits wholeText lines k) where
+module _ (tally : List ℕ) (k : ℕ) (inv : allIn (kindFits tally) (8 - k) k ≡ tallyFits tally) where
+  module _ (h : k ≤ 7) (r : Bool) (er : r ≡ kindFits tally k) where
     one-more : 8 - k ≡ suc (8 - (k + 1))
     one-more = omega arith
 
-    pub kind-stop : r ≡ false → false ≡ countsFit wholeText lines
+    pub kind-stop : r ≡ false → false ≡ tallyFits tally
     unfolding allIn
     kind-stop e = rw (one-more, ← er, e) at inv
 
-    pub kind-turn : r ≡ true → allIn (countFits wholeText lines) (8 - (k + 1)) (k + 1) ≡ countsFit wholeText lines
+    pub kind-turn : r ≡ true → allIn (kindFits tally) (8 - (k + 1)) (k + 1) ≡ tallyFits tally
     unfolding allIn
     kind-turn e = rw (one-more, ← er, e, ← add-one k) at inv
 
-  pub kind-end : 7 < k → true ≡ countsFit wholeText lines
+  pub kind-end : 7 < k → true ≡ tallyFits tally
   unfolding allIn
   kind-end h = let z : 8 - k ≡ 0 = omega arith in rw z at inv
 
-pub kind-start : (lines : List (List ℕ)) → allIn (countFits wholeText lines) (8 - 0) 0 ≡ countsFit wholeText lines
+pub kind-start : (tally : List ℕ) → allIn (kindFits tally) (8 - 0) 0 ≡ tallyFits tally
 unfolding lastIn
-kind-start lines = refl
+kind-start tally = refl
 
-module _ (lines : List (List ℕ)) (k : ℕ) (e : Entry) (ee : e ≡ entryIn wholeText k) where
-  pub count-none : e .most ≡ 0 → true ≡ countFits wholeText lines k
-  count-none z = rw (← ee, z)
+module _ (tally : List ℕ) (k : ℕ) (e : Entry) (ee : e ≡ entryIn wholeText k) where
+  pub kind-none : e .most ≡ 0 → true ≡ kindFits tally k
+  kind-none z = rw (← ee, z)
 
-  pub count-some : (e .most ≡ 0 → ⊥) → (n : ℕ) → n ≡ length (ofRank wholeText (e .rank) lines)
-      → (leb (e .fewest) n && leb n (e .most)) ≡ countFits wholeText lines k
-  count-some z n en = rw (← ee, ne-eqb (e .most) 0 z, ← en)
+  pub kind-some : (e .most ≡ 0 → ⊥) → (leb (e .fewest) (getD tally (e .rank) 0) && leb (getD tally (e .rank) 0) (e .most)) ≡ kindFits tally k
+  kind-some z = rw (← ee, ne-eqb (e .most) 0 z)
+
+-- the counts are those of the lines
+module _ (lines : List (List ℕ)) (tally : List ℕ) (t : Tallied lines tally) where
+  same-counts : (k : ℕ) → kindFits tally k ≡ countFits wholeText lines k
+  same-counts k = ap (countFitsBy (entryIn wholeText k)) (t .of-rank (entryIn wholeText k .rank) (let m = rank-most k in omega arith))
+
+  pub tally-counts : (r : Bool) → r ≡ tallyFits tally → r ≡ countsFit wholeText lines
+  tally-counts r er = er ∙ ap (λ (f : ℕ → Bool). allIn f (suc (lastIn wholeText)) 0) (λ i k. same-counts k i)
+
+  pub kinds-counted : record { kind1 = getD tally 1 0; kind2 = getD tally 2 0; kind3 = getD tally 3 0; kind4 = getD tally 4 0 } ≡ countsOf lines
+  kinds-counted = rw (of 1 (omega arith) (omega arith), of 2 (omega arith) (omega arith), of 3 (omega arith) (omega arith), of 4 (omega arith) (omega arith))
+    where
+      of : (k : ℕ) → 1 ≤ k → k ≤ 7 → getD tally k 0 ≡ countOf k lines
+      of k a b = t .of-rank k (omega arith) ∙ ap length (rank-kind k a b lines)
 
 -- ---- one line, by the entry of its kind
 

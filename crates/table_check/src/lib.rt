@@ -4,14 +4,15 @@
 use design::Counts;
 use kinds::Role;
 ghost use mathlib.Core.Path.{_≡_};
-ghost use mathlib.Core.Bool.{cond};
-ghost use Prim.Native.Nat.{_≤_};
-ghost use lib.ListN.{length, getD};
+ghost use lib.ListN.{length, getD, replicate};
 ghost use Rattle.kinds.specs.Kinds.{wholeText};
-ghost use Rattle.design.specs.Lines.{countOf, countsOf};
-ghost use Rattle.design.specs.Faults.{ofRank};
+ghost use Rattle.design.specs.Lines.{countsOf};
 ghost use Rattle.design.specs.Loaded.{lineAt, heldLines};
-ghost use Rattle.design.specs.Tests.{climbs, countFits, countsFit, layoutFits, eachLineIs, lengthFits, numbersFitBy, numbersFit};
+ghost use Rattle.design.specs.Tests.{climbs, countsFit, layoutFits, eachLineIs, lengthFits, numbersFitBy, numbersFit};
+ghost use Rattle.table_check.specs.Tally.{Tallied, kindFits, tallyFits};
+
+// How many lines there are of each rank.
+type Tally = [usize; kinds::RANKS];
 
 // Whether the first n lines have known kinds that do not fall, as many of each as there may be, and the fields that they need.
 pub fn layout_fits<'a>(fields: &'a [u16], starts: &'a [u16], n: usize) -> bool
@@ -45,11 +46,13 @@ pub fn numbers_fit<'a>(fields: &'a [u16], starts: &'a [u16], n: usize) -> bool
 pub fn counts_of<'a>(fields: &'a limits::Fields, starts: &'a limits::Starts, n: usize) -> Counts
     ensures { λ r. ⌜ r ≡ countsOf (heldLines (now (fields .entry)) (now (starts .entry)) n) ⌝ }
 {
+    let mut tally = [0usize; kinds::RANKS];
+    count_ranks(fields, starts, n, &mut tally);
     Counts {
-        kind1: count_kind(fields, starts, n, 1),
-        kind2: count_kind(fields, starts, n, 2),
-        kind3: count_kind(fields, starts, n, 3),
-        kind4: count_kind(fields, starts, n, 4),
+        kind1: tally[1],
+        kind2: tally[2],
+        kind3: tally[3],
+        kind4: tally[4],
     }
 }
 
@@ -77,9 +80,32 @@ fn kinds_climb<'a>(fields: &'a [u16], starts: &'a [u16], n: usize) -> bool
 fn counts_fit<'a>(fields: &'a [u16], starts: &'a [u16], n: usize) -> bool
     ensures { λ r. ⌜ r ≡ countsFit wholeText (heldLines (now (fields .entry)) (now (starts .entry)) n) ⌝ }
 {
+    let mut tally = [0usize; kinds::RANKS];
+    count_ranks(fields, starts, n, &mut tally);
+    tally_fits(&tally)
+}
+
+// How many of the first n lines are of each rank.
+fn count_ranks<'a>(fields: &'a [u16], starts: &'a [u16], n: usize, tally: &mut Tally)
+    requires { ⌜ now tally ≡ replicate 8 0 ⌝ }
+    ensures { λ _. ⌜ Tallied (heldLines (now (fields .entry)) (now (starts .entry)) n) (now (tally .exit)) ⌝ }
+{
+    let mut i = 0;
+    while i < n {
+        let entry = kinds::entry_at(line_field(fields, starts, i, 0));
+        let rank = entry.rank;
+        tally[rank] = tally[rank] + 1;
+        i += 1;
+    }
+}
+
+// Whether there are as many lines of each kind's rank as there may be.
+fn tally_fits(tally: &Tally) -> bool
+    ensures { λ r. ⌜ r ≡ tallyFits (now (tally .entry)) ⌝ }
+{
     let mut kind = 0;
     while kind <= kinds::LAST_KIND {
-        if count_fits(fields, starts, n, kind) {
+        if kind_fits(tally, kind) {
             kind += 1;
         } else {
             return false;
@@ -89,29 +115,16 @@ fn counts_fit<'a>(fields: &'a [u16], starts: &'a [u16], n: usize) -> bool
 }
 
 // Whether there are no fewer and no more lines of a kind's rank; of what is no kind there are none.
-fn count_fits<'a>(fields: &'a [u16], starts: &'a [u16], n: usize, kind: u16) -> bool
-    ensures { λ r. ⌜ r ≡ countFits wholeText (heldLines (now (fields .entry)) (now (starts .entry)) n) kind ⌝ }
+fn kind_fits(tally: &Tally, kind: u16) -> bool
+    ensures { λ r. ⌜ r ≡ kindFits (now (tally .entry)) kind ⌝ }
 {
     let entry = kinds::entry_at(kind);
     if entry.most == 0 {
         return true;
     }
-    let count = count_rank(fields, starts, n, entry.rank);
+    let rank = entry.rank;
+    let count = tally[rank];
     (entry.fewest <= count) & (count <= entry.most)
-}
-
-// How many of the first n lines are of a rank.
-fn count_rank<'a>(fields: &'a [u16], starts: &'a [u16], n: usize, rank: u16) -> usize
-    ensures { λ r. ⌜ r ≡ length (ofRank wholeText rank (heldLines (now (fields .entry)) (now (starts .entry)) n)) ⌝ }
-{
-    let mut count = 0;
-    let mut i = 0;
-    while i < n {
-        let entry = kinds::entry_at(line_field(fields, starts, i, 0));
-        count += one_if(entry.rank == rank);
-        i += 1;
-    }
-    count
 }
 
 // Whether each of the first n lines has as many fields as its kind asks for.
@@ -166,19 +179,6 @@ fn in_bounds(role: Role, first: u16, second: u16) -> bool
     }
 }
 
-// How many of the first n lines are of a kind.
-fn count_kind<'a>(fields: &'a [u16], starts: &'a [u16], n: usize, kind: u16) -> usize
-    ensures { λ r. ⌜ r ≡ countOf kind (heldLines (now (fields .entry)) (now (starts .entry)) n) ⌝ }
-{
-    let mut count = 0;
-    let mut i = 0;
-    while i < n {
-        count += one_if(line_field(fields, starts, i, 0) == kind);
-        i += 1;
-    }
-    count
-}
-
 // How many fields line i has.
 fn line_length<'a>(fields: &'a [u16], starts: &'a [u16], i: usize) -> usize
     ensures { λ r. ⌜ r ≡ length (lineAt (now (fields .entry)) (now (starts .entry)) i) ⌝ }
@@ -211,10 +211,4 @@ fn line_field<'a>(fields: &'a [u16], starts: &'a [u16], i: usize, j: usize) -> u
     } else {
         0
     }
-}
-
-fn one_if(b: bool) -> usize
-    ensures { λ r. ⌜ (r ≡ cond b 1 0) × (r ≤ 1) ⌝ }
-{
-    if b { 1 } else { 0 }
 }
