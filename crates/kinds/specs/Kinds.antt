@@ -14,16 +14,16 @@ use Rattle.kinds.specs.declared.Follow.the-variants.{Nothing, RowTerms, 
 use Rattle.kinds.specs.declared.Process.{Process}
 use Rattle.kinds.specs.declared.Process.the-variants.{Implementation, Specification}
 
--- a line of the table, from its rank on
+-- what a kind of line is: rank, fewest and most lines, fields before the terms, what these say, what terms follow, and whose parameters
+-- they read
 abbrev pub entry : ℕ → ℕ → ℕ → ℕ → Role → Follow → Process → Entry
 entry r l u n role terms p = record { rank = r; fewest = l; most = u; fixed = n; role = role; terms = terms; process = p }
 
--- a kind's number, and what it is
+-- a kind's number, and what it is, for each kind that a call takes
 abbrev pub Table : Type 0
 Table = List (ℕ × Entry)
 
--- The kinds of a whole text. A call that takes other kinds has a table of its own.
---  kind        rank, lines, fields before the terms
+-- the kinds of a whole text, in 01's order; a call that takes other kinds has a table of its own
 abbrev pub wholeText : Table
 wholeText =
     (1, entry 1 1 maxParameters 3 Parameter Nothing Implementation)

@@ -1,20 +1,21 @@
 // The table of kinds (01, "Design text"): each entry stands here once for code, and once in specs/Kinds for definitions. Code is proved
 // against definitions, so an entry that moves on one side alone is refused.
 ghost use mathlib.Core.Path.{_≡_};
-ghost use Rattle.kinds.specs.Kinds.{wholeText, entryIn, hasTerms, ownOf};
+ghost use Rattle.limits.specs.Limits.{maxParameters, maxRows};
+ghost use Rattle.kinds.specs.Kinds.{entry, wholeText, noKind, entryIn, hasTerms, ownOf};
+ghost use Rattle.kinds.specs.declared.Role.the-variants.{Parameter, Row, Other};
+ghost use Rattle.kinds.specs.declared.Follow.the-variants.{Nothing, RowTerms};
+ghost use Rattle.kinds.specs.declared.Process.the-variants.{Implementation};
 
-// What a kind of line is.
+// What a kind of line is: its rank in the order of kinds, the fewest and the most lines of that rank, how many fields stand before the
+// terms, the kind included, what these say, what terms follow, and whose parameters they read.
 pub struct Entry {
-    // Its place in the order of kinds: lines never fall in rank.
     pub rank: usize,
-    // How many lines of its rank a text has; of what is no kind, none.
     pub fewest: usize,
     pub most: usize,
-    // How many fields stand before the terms, the kind included.
     pub fixed: usize,
     pub role: Role,
     pub terms: Follow,
-    // Whose parameters the terms read.
     pub process: Process,
 }
 
@@ -39,7 +40,7 @@ pub enum Process {
     Specification,
 }
 
-// The highest number of a kind, and how many ranks there are, from 0 on, which is that of no kind.
+// The highest number of a kind, and how many ranks there are, from 0 on: 0 is that of no kind.
 pub const LAST_KIND: u16 = 7;
 
 pub const RANKS: usize = 8;
@@ -49,100 +50,74 @@ pub fn entry_at(kind: u16) -> Entry
     ensures { λ r. ⌜ r ≡ entryIn wholeText kind ⌝ }
 {
     match kind {
-        1 => line(
-            1,
-            1,
-            limits::MAX_PARAMETERS,
-            3,
-            Role::Parameter,
-            Follow::Nothing,
-            Process::Implementation,
-        ),
-        2 => line(
-            2,
-            1,
-            limits::MAX_PARAMETERS,
-            3,
-            Role::Parameter,
-            Follow::Nothing,
-            Process::Specification,
-        ),
-        3 => line(
-            3,
-            0,
-            limits::MAX_ROWS,
-            3,
-            Role::Row,
-            Follow::RowTerms,
-            Process::Implementation,
-        ),
-        4 => line(
-            4,
-            0,
-            limits::MAX_ROWS,
-            3,
-            Role::Row,
-            Follow::RowTerms,
-            Process::Specification,
-        ),
-        5 => line(
-            5,
-            1,
-            1,
-            1,
-            Role::Other,
-            Follow::Formula,
-            Process::Implementation,
-        ),
-        6 => line(
-            6,
-            1,
-            1,
-            1,
-            Role::Other,
-            Follow::Mapped,
-            Process::Implementation,
-        ),
-        7 => line(
-            7,
-            1,
-            1,
-            1,
-            Role::Other,
-            Follow::Value,
-            Process::Implementation,
-        ),
-        _ => line(
-            0,
-            0,
-            0,
-            0,
-            Role::Other,
-            Follow::Nothing,
-            Process::Implementation,
-        ),
+        1 => parameter(1, Process::Implementation),
+        2 => parameter(2, Process::Specification),
+        3 => row(3, Process::Implementation),
+        4 => row(4, Process::Specification),
+        5 => single(5, Follow::Formula),
+        6 => single(6, Follow::Mapped),
+        7 => single(7, Follow::Value),
+        _ => none(),
     }
 }
 
-fn line(
-    rank: usize,
-    fewest: usize,
-    most: usize,
-    fixed: usize,
-    role: Role,
-    terms: Follow,
-    process: Process,
-) -> Entry
-    ensures { λ r. ⌜ r ≡ record { rank = rank; fewest = fewest; most = most; fixed = fixed; role = role; terms = terms; process = process } ⌝ }
+// Size and initial value.
+fn parameter(rank: usize, process: Process) -> Entry
+    ensures { λ r. ⌜ r ≡ entry rank 1 maxParameters 3 Parameter Nothing process ⌝ }
 {
     Entry {
         rank,
-        fewest,
-        most,
-        fixed,
-        role,
-        terms,
+        fewest: 1,
+        most: limits::MAX_PARAMETERS,
+        fixed: 3,
+        role: Role::Parameter,
+        terms: Follow::Nothing,
         process,
+    }
+}
+
+// Action and span, then the terms of a row.
+fn row(rank: usize, process: Process) -> Entry
+    ensures { λ r. ⌜ r ≡ entry rank 0 maxRows 3 Row RowTerms process ⌝ }
+{
+    Entry {
+        rank,
+        fewest: 0,
+        most: limits::MAX_ROWS,
+        fixed: 3,
+        role: Role::Row,
+        terms: Follow::RowTerms,
+        process,
+    }
+}
+
+// One line with nothing but terms, over the implementation's parameters.
+fn single(rank: usize, terms: Follow) -> Entry
+    ensures { λ r. ⌜ r ≡ entry rank 1 1 1 Other terms Implementation ⌝ }
+{
+    Entry {
+        rank,
+        fewest: 1,
+        most: 1,
+        fixed: 1,
+        role: Role::Other,
+        terms,
+        process: Process::Implementation,
+    }
+}
+
+// No kind.
+fn none() -> Entry
+    ensures { λ r. ⌜ r ≡ noKind ⌝ }
+{
+    Entry {
+        rank: 0,
+        fewest: 0,
+        most: 0,
+        fixed: 0,
+        role: Role::Other,
+        terms: Follow::Nothing,
+        process: Process::Implementation,
     }
 }
 
