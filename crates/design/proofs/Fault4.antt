@@ -11,7 +11,7 @@ use borrow.Author.Tests.{ne-eqb, eqb-true, eqb-false, le-leb, leb-true, leb-fals
 use lib.Dec.{eqb, leb}
 use lib.ListN.{length}
 use Rattle.foundation.specs.Reflects.{Reflects, so, not-so}
-use Rattle.foundation.proofs.Reflects.{by-and, by-iff, by-eqb, says-yes, is-so}
+use Rattle.foundation.proofs.Reflects.{by-and, by-iff, by-eqb, is-so}
 use Rattle.foundation.proofs.First.{by-all}
 use Rattle.kinds.specs.Kinds.{Table, wholeText, entryIn, lastIn, hasTerms}
 use Rattle.kinds.specs.declared.Entry.{Entry}

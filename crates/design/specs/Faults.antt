@@ -1,6 +1,6 @@
 -- The faults of a text (01, "Turned down by the input", 1 to 7), a definition for each; which is the lowest; and what a design text
--- is. Faults 1 to 3 are of the text's columns (crate reader); 4 to 7 are of the lines' fields and of the design that they say. Each
--- is a statement on its own: no order of looking for them is in here.
+-- is. Faults 1 to 3 are of the text's columns (crate reader); 4 to 6 are of the lines' fields, by the table of kinds (crate kinds), and 7
+-- of the design that they say. Each is a statement on its own: no order of looking for them is in here.
 use Prim.Native.Nat.{ℕ, _<_, _≤_}
 use mathlib.Core.Path.{_≡_}
 use mathlib.Core.Logic.{_≢_, _⊎_}
@@ -42,7 +42,7 @@ abbrev pub Allowed : Entry → ℕ → Type 0
 Allowed e n = (e .fewest ≤ n) × (n ≤ e .most)
 
 pub data Fault4 (table : Table) (lines : List (List ℕ)) : Type 0 where
-  -- "An unknown kind": one of which there is no line
+  -- "An unknown kind": one of which there may be no line
   unknown : {line : List ℕ} → List·Memᴰ line lines → entryOf table line .most ≡ 0 → Fault4 table lines
   -- "a falling kind"
   falling : Falls table lines → Fault4 table lines

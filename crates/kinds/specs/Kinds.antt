@@ -35,6 +35,13 @@ wholeText =
     ∷ (7, entry 7 1 1 1 Other Value Implementation)
     ∷ []
 
+-- its highest number, and how many ranks it has, from 0 on: 0 is that of no kind
+abbrev pub lastKind : ℕ
+lastKind = 7
+
+abbrev pub ranks : ℕ
+ranks = 8
+
 -- what is no kind: there are no lines of it
 abbrev pub noKind : Entry
 noKind = entry 0 0 0 0 Other Nothing Implementation
@@ -44,7 +51,7 @@ unfoldable pub entryIn : Table → ℕ → Entry
 entryIn [] k = noKind
 entryIn (e ∷ table) k = cond (eqb k (e .0)) (e .1) (entryIn table k)
 
--- the highest number
+-- the highest number of a table
 unfoldable pub lastIn : Table → ℕ
 lastIn [] = 0
 lastIn (e ∷ table) = max (e .0) (lastIn table)

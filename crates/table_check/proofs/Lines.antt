@@ -13,7 +13,7 @@ use lib.Seq.{getD-take, getD-drop, getD-set-same, getD-set-other}
 use mir.Syntax.{w64}
 use mir.Val.{Fits}
 use Rattle.foundation.specs.First.{allIn}
-use Rattle.kinds.specs.Kinds.{wholeText, entryIn, lastIn, hasTerms}
+use Rattle.kinds.specs.Kinds.{wholeText, lastKind, ranks, entryIn, lastIn, hasTerms}
 use Rattle.kinds.specs.declared.Entry.{Entry}
 use Rattle.kinds.specs.declared.Role.{Role}
 use Rattle.kinds.specs.declared.Role.the-variants as role
@@ -106,7 +106,7 @@ module _ (fields starts : List ℕ) (n i lowest : ℕ) (inv : climbs wholeText l
 -- ---- lines are counted by rank
 
 module _ (k : ℕ) (e : Entry) (ee : e ≡ entryIn wholeText k) where
-  pub rank-below : e .rank < 8
+  pub rank-below : e .rank < ranks
   rank-below = let m = rank-most k in rw ee (omega arith)
 
   pub rank-place : Fits w64 (e .rank * 8)
@@ -114,9 +114,9 @@ module _ (k : ℕ) (e : Entry) (ee : e ≡ entryIn wholeText k) where
 
 -- the counts of the lines passed, and those still ahead, are all of them
 pub record Passed (fields starts : List ℕ) (n i : ℕ) (tally : List ℕ) : Type 0 where
-  pub long : length tally ≡ 8
+  pub long : length tally ≡ ranks
   pub small : (r : ℕ) → getD tally r 0 ≤ i
-  pub whole : (r : ℕ) → r < 8
+  pub whole : (r : ℕ) → r < ranks
       → getD tally r 0 + length (ofRank wholeText r (linesFrom fields starts n i)) ≡ length (ofRank wholeText r (heldLines fields starts n))
 
 -- one line more, or none
@@ -131,13 +131,13 @@ zero-at (suc n) zero = refl
 zero-at (suc n) (suc r) = zero-at n r
 
 module _ (fields starts : List ℕ) (n : ℕ) where
-  pub tally-start : (tally : List ℕ) → tally ≡ replicate 8 0 → Passed fields starts n 0 tally
+  pub tally-start : (tally : List ℕ) → tally ≡ replicate ranks 0 → Passed fields starts n 0 tally
   tally-start tally e =
       rw e
       (record {
-        long = length-replicate {A = ℕ} 8 0;
-        small = λ r. let z = zero-at 8 r in omega arith;
-        whole = λ r h. rw (zero-at 8 r, all-lines fields starts n) (omega arith);
+        long = length-replicate {A = ℕ} ranks 0;
+        small = λ r. let z = zero-at ranks r in omega arith;
+        whole = λ r h. rw (zero-at ranks r, all-lines fields starts n) (omega arith);
       })
 
   module _ (i : ℕ) (tally : List ℕ) (p : Passed fields starts n i tally) where
@@ -195,24 +195,24 @@ module _ (test : List ℕ → Bool) (fields starts : List ℕ) (n i : ℕ) (inv 
 
 -- ---- each kind
 
-module _ (tally : List ℕ) (k : ℕ) (inv : allIn (kindFits tally) (8 - k) k ≡ tallyFits tally) where
-  module _ (h : k ≤ 7) (r : Bool) (er : r ≡ kindFits tally k) where
-    one-more : 8 - k ≡ suc (8 - (k + 1))
+module _ (tally : List ℕ) (k : ℕ) (inv : allIn (kindFits tally) (suc lastKind - k) k ≡ tallyFits tally) where
+  module _ (h : k ≤ lastKind) (r : Bool) (er : r ≡ kindFits tally k) where
+    one-more : suc lastKind - k ≡ suc (suc lastKind - (k + 1))
     one-more = omega arith
 
     pub kind-stop : r ≡ false → false ≡ tallyFits tally
     unfolding allIn
     kind-stop e = rw (one-more, ← er, e) at inv
 
-    pub kind-turn : r ≡ true → allIn (kindFits tally) (8 - (k + 1)) (k + 1) ≡ tallyFits tally
+    pub kind-turn : r ≡ true → allIn (kindFits tally) (suc lastKind - (k + 1)) (k + 1) ≡ tallyFits tally
     unfolding allIn
     kind-turn e = rw (one-more, ← er, e, ← add-one k) at inv
 
-  pub kind-end : 7 < k → true ≡ tallyFits tally
+  pub kind-end : lastKind < k → true ≡ tallyFits tally
   unfolding allIn
-  kind-end h = let z : 8 - k ≡ 0 = omega arith in rw z at inv
+  kind-end h = let z : suc lastKind - k ≡ 0 = omega arith in rw z at inv
 
-pub kind-start : (tally : List ℕ) → allIn (kindFits tally) (8 - 0) 0 ≡ tallyFits tally
+pub kind-start : (tally : List ℕ) → allIn (kindFits tally) (suc lastKind - 0) 0 ≡ tallyFits tally
 unfolding lastIn
 kind-start tally = refl
 

@@ -5,12 +5,12 @@ use mathlib.Core.Bool.{Bool}
 use mathlib.Core.List.{List}
 use lib.ListN.{length, getD}
 use Rattle.foundation.specs.First.{allIn}
-use Rattle.kinds.specs.Kinds.{wholeText, entryIn, lastIn}
+use Rattle.kinds.specs.Kinds.{wholeText, ranks, entryIn, lastIn}
 use Rattle.design.specs.Faults.{ofRank}
 use Rattle.design.specs.Tests.{countFitsBy}
 
 pub record Tallied (lines : List (List ℕ)) (tally : List ℕ) : Type 0 where
-  pub of-rank : (r : ℕ) → r < 8 → getD tally r 0 ≡ length (ofRank wholeText r lines)
+  pub of-rank : (r : ℕ) → r < ranks → getD tally r 0 ≡ length (ofRank wholeText r lines)
 
 -- the count of a kind's rank fits
 abbrev pub kindFits : List ℕ → ℕ → Bool

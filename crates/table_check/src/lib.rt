@@ -5,7 +5,7 @@ use design::Counts;
 use kinds::Role;
 ghost use mathlib.Core.Path.{_≡_};
 ghost use lib.ListN.{length, getD, replicate};
-ghost use Rattle.kinds.specs.Kinds.{wholeText};
+ghost use Rattle.kinds.specs.Kinds.{wholeText, ranks};
 ghost use Rattle.design.specs.Lines.{countsOf};
 ghost use Rattle.design.specs.Loaded.{lineAt, heldLines};
 ghost use Rattle.design.specs.Tests.{climbs, countsFit, layoutFits, eachLineIs, lengthFits, numbersFitBy, numbersFit};
@@ -87,7 +87,7 @@ fn counts_fit<'a>(fields: &'a [u16], starts: &'a [u16], n: usize) -> bool
 
 // How many of the first n lines are of each rank.
 fn count_ranks<'a>(fields: &'a [u16], starts: &'a [u16], n: usize, tally: &mut Tally)
-    requires { ⌜ now tally ≡ replicate 8 0 ⌝ }
+    requires { ⌜ now tally ≡ replicate ranks 0 ⌝ }
     ensures { λ _. ⌜ Tallied (heldLines (now (fields .entry)) (now (starts .entry)) n) (now (tally .exit)) ⌝ }
 {
     let mut i = 0;
