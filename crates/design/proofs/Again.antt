@@ -13,7 +13,8 @@ use Rattle.design.specs.Lines.{kindOf, ofKind, theLine, countOf, designO
 use Rattle.design.specs.Faults.{Terms}
 use Rattle.design.specs.Print.{printValues, parameterLine, rowLine, printLines}
 use Rattle.design.proofs.Each.{EachLine}
-use Rattle.design.proofs.Fault4.{Layout, in-order, Counted, counted, Exactly, exactly-1, exactly-2, least-3, least-4}
+use Rattle.design.proofs.Fault4.{Layout}
+use Rattle.design.proofs.WholeText.{in-order, Counted, counted, Exactly, exactly-1, exactly-2, least-3, least-4}
 use Rattle.design.proofs.Same.{Made, nth-among, of-kind, exactly, at-least, row-terms, spec-terms, invariant-terms, mapping-terms, measure-terms}
 use Rattle.design.proofs.Terms.{FirstValue, FirstFormula, first-value, first-formula, no-terms, value-read, value-after, formula-read, formula-after}
 

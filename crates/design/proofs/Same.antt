@@ -15,7 +15,8 @@ use Rattle.design.specs.Lines.{kindOf, ofKind, theLine, countOf, countsO
 use Rattle.design.specs.Faults.{HasTerms, Terms, LineTerms}
 use Rattle.design.specs.Loaded.{lineFrom, eachLine, fieldsHeld, startsHeld, designIn}
 use Rattle.design.proofs.Each.{EachLine, each-cons}
-use Rattle.design.proofs.Fault4.{Layout, in-order, Counted, counted, Exactly, AtLeast, exact-length, least-length, exactly-1, exactly-2, least-3, least-4, least-5, least-6, least-7}
+use Rattle.design.proofs.Fault4.{Layout}
+use Rattle.design.proofs.WholeText.{in-order, Counted, counted, Exactly, AtLeast, exact-length, least-length, exactly-1, exactly-2, least-3, least-4, least-5, least-6, least-7}
 use Rattle.design.proofs.Loaded.{each-same, each-map, line-then, later-fields}
 use Rattle.design.proofs.Terms.{parameter-same, row-same, invariant-same, mapping-same, measure-same}
 

@@ -1,5 +1,5 @@
 -- Of any table: a kind's number is at most the last (`known-within`). Of the table of a whole text: each kind has a rank of its own, its
--- number (`rank-own`, `rank-none`), at most 7 and not 0 (`rank-most`, `rank-some`).
+-- number (`rank-own`, `rank-none`), at most the last and not 0 (`rank-most`, `rank-some`).
 use Prim.Native.Nat.{ℕ, zero, suc, _≤_, _<_, max}
 use mathlib.Core.Path.{_≡_, refl}
 use mathlib.Core.Bool.{Bool, true, false, cond}
@@ -7,7 +7,7 @@ use mathlib.Core.List.{[], _∷_}
 use native.Mathlib.Omega.{arith}
 use borrow.Author.Tests.{eqb-true, ne-eqb, leb-true, leb-false}
 use lib.Dec.{eqb, leb}
-use Rattle.kinds.specs.Kinds.{Table, wholeText, entryIn, lastIn}
+use Rattle.kinds.specs.Kinds.{Table, wholeText, lastKind, entryIn, lastIn}
 
 pub known-within : (table : Table) (k : ℕ) → 1 ≤ entryIn table k .most → k ≤ lastIn table
 unfolding entryIn lastIn
@@ -19,7 +19,7 @@ known-within (e ∷ table) k h = go (eqb k (e .0)) refl h (known-within table k)
     go true q h ih = let x = eqb-true k (e .0) q in omega arith
     go false q h ih = let y = ih h in omega arith
 
-pub rank-own : (k : ℕ) → k ≤ 7 → entryIn wholeText k .rank ≡ k
+pub rank-own : (k : ℕ) → k ≤ lastKind → entryIn wholeText k .rank ≡ k
 unfolding entryIn
 rank-own zero h = refl
 rank-own (suc zero) h = refl
@@ -31,17 +31,17 @@ rank-own (suc (suc (suc (suc (suc (suc zero)))))) h = refl
 rank-own (suc (suc (suc (suc (suc (suc (suc zero))))))) h = refl
 rank-own (suc (suc (suc (suc (suc (suc (suc (suc k)))))))) h = absurd (omega arith)
 
-pub rank-none : (k : ℕ) → 7 < k → entryIn wholeText k .rank ≡ 0
+pub rank-none : (k : ℕ) → lastKind < k → entryIn wholeText k .rank ≡ 0
 unfolding entryIn
 rank-none k h =
     rw (ne-eqb k 1 (omega arith), ne-eqb k 2 (omega arith), ne-eqb k 3 (omega arith), ne-eqb k 4 (omega arith), ne-eqb k 5 (omega arith), ne-eqb k 6 (omega arith), ne-eqb k 7 (omega arith))
 
-pub rank-most : (k : ℕ) → entryIn wholeText k .rank ≤ 7
-rank-most k = go (leb k 7) refl
+pub rank-most : (k : ℕ) → entryIn wholeText k .rank ≤ lastKind
+rank-most k = go (leb k lastKind) refl
   where
-    go : (b : Bool) → leb k 7 ≡ b → entryIn wholeText k .rank ≤ 7
-    go true e = let l = leb-true k 7 e in let r = rank-own k l in omega arith
-    go false e = let r = rank-none k (leb-false k 7 e) in omega arith
+    go : (b : Bool) → leb k lastKind ≡ b → entryIn wholeText k .rank ≤ lastKind
+    go true e = let l = leb-true k lastKind e in let r = rank-own k l in omega arith
+    go false e = let r = rank-none k (leb-false k lastKind e) in omega arith
 
 -- a kind's number is not 0
 pub rank-some : (k : ℕ) → 1 ≤ entryIn wholeText k .most → 1 ≤ entryIn wholeText k .rank

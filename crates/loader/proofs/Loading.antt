@@ -13,7 +13,8 @@ use Rattle.kinds.specs.Kinds.{wholeText}
 use Rattle.design.specs.Lines.{ofKind, countsOf}
 use Rattle.design.specs.Loaded.{heldLines, fieldsHeld, startsHeld}
 use Rattle.design.specs.declared.Counts.{Counts}
-use Rattle.design.proofs.Fault4.{Layout, by-layout, layout-of, in-order, counted}
+use Rattle.design.proofs.Fault4.{Layout, by-layout, layout-of}
+use Rattle.design.proofs.WholeText.{in-order, counted}
 use Rattle.design.proofs.Loaded.{lines-held}
 use Rattle.loader.specs.Filled.{Filled}
 use Rattle.loader.specs.Load.{tableFault, faultOf, refusedBy, loadedOf, Holds}

@@ -16,7 +16,8 @@ use Rattle.design.specs.Faults.{DesignText}
 use Rattle.design.specs.Loaded.{fieldsHeld, startsHeld, designIn}
 use Rattle.design.specs.Tests.{layoutFits, boundsFit}
 use Rattle.design.proofs.Each.{by-each-line}
-use Rattle.design.proofs.Fault4.{Layout, by-layout, layout-of, counted}
+use Rattle.design.proofs.Fault4.{Layout, by-layout, layout-of}
+use Rattle.design.proofs.WholeText.{counted}
 use Rattle.design.proofs.Same.{Made, design-held}
 use Rattle.layout.specs.Sizes.{countsFit}
 use Rattle.line_check.proofs.LineFits.{by-line}

@@ -22,7 +22,8 @@ use Rattle.design.specs.Faults.{sizeOf}
 use Rattle.design.specs.Loaded.{heldLines, fieldsHeld, startsHeld}
 use Rattle.design.specs.Tests.{eachLineIs, layoutFits, numbersFit, boundsFit}
 use Rattle.design.specs.declared.Counts.{Counts}
-use Rattle.design.proofs.Fault4.{Layout, by-layout, layout-of, counted}
+use Rattle.design.proofs.Fault4.{Layout, by-layout, layout-of}
+use Rattle.design.proofs.WholeText.{counted}
 use Rattle.design.proofs.Each.{by-each-line}
 use Rattle.design.proofs.Loaded.{lines-held}
 use Rattle.design.proofs.Same.{Made, parameters1, design-held}

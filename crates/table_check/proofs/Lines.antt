@@ -22,7 +22,7 @@ use Rattle.design.specs.Lines.{countOf, countsOf}
 use Rattle.design.specs.Faults.{ofRank}
 use Rattle.design.specs.Loaded.{lineFrom, lineAt, eachLine, heldLines}
 use Rattle.design.specs.Tests.{climbs, countFitsBy, countFits, countsFit, layoutFits, eachLineIs, lengthFits, numbersFitBy, numbersFit}
-use Rattle.design.proofs.Fault4.{rank-kind}
+use Rattle.design.proofs.WholeText.{rank-kind}
 use Rattle.table_check.specs.Tally.{Tallied, kindFits, tallyFits}
 
 -- ---- one line
@@ -234,7 +234,7 @@ module _ (lines : List (List ℕ)) (tally : List ℕ) (t : Tallied lines tally) 
   pub kinds-counted : record { kind1 = getD tally 1 0; kind2 = getD tally 2 0; kind3 = getD tally 3 0; kind4 = getD tally 4 0 } ≡ countsOf lines
   kinds-counted = rw (of 1 (omega arith) (omega arith), of 2 (omega arith) (omega arith), of 3 (omega arith) (omega arith), of 4 (omega arith) (omega arith))
     where
-      of : (k : ℕ) → 1 ≤ k → k ≤ 7 → getD tally k 0 ≡ countOf k lines
+      of : (k : ℕ) → 1 ≤ k → k ≤ lastKind → getD tally k 0 ≡ countOf k lines
       of k a b = t .of-rank k (omega arith) ∙ ap length (rank-kind k a b lines)
 
 -- ---- one line, by the entry of its kind
