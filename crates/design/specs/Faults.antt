@@ -42,7 +42,7 @@ abbrev pub Allowed : Entry → ℕ → Type 0
 Allowed e n = (e .fewest ≤ n) × (n ≤ e .most)
 
 pub data Fault4 (table : Table) (lines : List (List ℕ)) : Type 0 where
-  -- "An unknown kind": one of which there may be no line
+  -- "An unknown kind": the table allows no line of it
   unknown : {line : List ℕ} → List·Memᴰ line lines → entryOf table line .most ≡ 0 → Fault4 table lines
   -- "a falling kind"
   falling : Falls table lines → Fault4 table lines
@@ -52,7 +52,7 @@ pub data Fault4 (table : Table) (lines : List (List ℕ)) : Type 0 where
   -- "a kind 1 or 2 line without exactly three fields": these have no terms
   not-exactly : {line : List ℕ} → List·Memᴰ line lines → hasTerms (entryOf table line .terms) ≡ false → length line ≢ entryOf table line .fixed
       → Fault4 table lines
-  -- "a row line with fewer than three"
+  -- "a row line with fewer than three"; a line of kinds 5 to 7 needs but its kind
   too-few : {line : List ℕ} → List·Memᴰ line lines → hasTerms (entryOf table line .terms) ≡ true → length line < entryOf table line .fixed
       → Fault4 table lines
 

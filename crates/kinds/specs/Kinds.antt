@@ -23,7 +23,8 @@ entry r l u n role terms p = record { rank = r; fewest = l; most = u; fixed = n;
 abbrev pub Table : Type 0
 Table = List (ℕ × Entry)
 
--- the kinds of a whole text, in 01's order; a call that takes other kinds has a table of its own
+-- The kinds of a whole text, in 01's order; a call that takes other kinds has a table of its own. So kind 3 has rank 3 and "0 to 32" lines,
+-- and after kind, action and span stand a row's terms, over the implementation's parameters.
 abbrev pub wholeText : Table
 wholeText =
     (1, entry 1 1 maxParameters 3 Parameter Nothing Implementation)

@@ -2,11 +2,11 @@
 use Prim.Native.Nat.{ℕ, suc, _+_, _-_, _*_, _<_, _≤_}
 use mathlib.Core.Path.{_≡_, refl, sym, ap, _∙_}
 use mathlib.Core.Bool.{Bool, true, false, not}
-use mathlib.Core.List.{List, _∷_}
+use mathlib.Core.List.{List, [], _∷_}
 use native.Mathlib.Omega.{arith}
 use native.Mathlib.Numerals.{one-add}
 use borrow.Author.Tests.{not-true, not-false}
-use lib.ListN.{drop}
+use lib.ListN.{drop, drop-of-length-le}
 use lib.Seq.{drop-drop}
 use Rattle.terms.specs.Tree as tree
 use Rattle.terms.specs.Tree.{okV, okF}
@@ -34,12 +34,6 @@ module _ (part : List ℕ) (f : Field) (ef : f ≡ fieldAt part 0) where
 
   pub ended-no : (x : ℕ) → f ≡ Number x → false ≡ nothing (fieldsOf part)
   ended-no x e = rw (first-field part x (sym ef ∙ e))
-
-  pub after-none : f ≡ Malformed → fieldsOf part ≡ drop 1 (fieldsOf part)
-  after-none e = rw (no-field part (sym ef ∙ e))
-
-  pub after-first : (x : ℕ) → f ≡ Number x → (r : List ℕ) → r ≡ drop (6 * 1) part → fieldsOf r ≡ drop 1 (fieldsOf part)
-  after-first x e r er = rw (first-field part x (sym ef ∙ e), er)
 
 -- ---- a term, and what follows it
 
@@ -132,8 +126,18 @@ module _ (n m : ℕ) (part : List ℕ) (terms : Follow) (r : Bool) where
 -- ---- the fields before them
 
 module _ (part left : List ℕ) (i n : ℕ) (inv : fieldsOf left ≡ drop i (fieldsOf part)) where
-  pub after-turn : (after : List ℕ) → fieldsOf after ≡ drop 1 (fieldsOf left) → fieldsOf after ≡ drop (i + 1) (fieldsOf part)
-  after-turn after ea = ea ∙ (ap (drop 1) inv ∙ drop-drop 1 i (fieldsOf part))
+  module _ (go : i < n) (f : Field) (ef : f ≡ fieldAt left 0) where
+    pub after-none : f ≡ Malformed → fieldsOf left ≡ drop n (fieldsOf part)
+    after-none e =
+        let none : fieldsOf left ≡ [] = no-field left (sym ef ∙ e) in
+        let gone : drop (n - i) (fieldsOf left) ≡ [] = ap (drop (n - i)) none ∙ drop-of-length-le {A = ℕ} [] {i = n - i} (omega arith) in
+        let all : i + (n - i) ≡ n = omega arith in
+        none ∙ sym (ap (λ j. drop j (fieldsOf part)) (sym all) ∙ sym (drop-drop (n - i) i (fieldsOf part)) ∙ ap (drop (n - i)) (sym inv) ∙ gone)
+
+    pub after-turn : (x : ℕ) → f ≡ Number x → (after : List ℕ) → after ≡ drop (6 * 1) left → fieldsOf after ≡ drop (i + 1) (fieldsOf part)
+    after-turn x e after ea =
+        let one : fieldsOf after ≡ drop 1 (fieldsOf left) = rw (first-field left x (sym ef ∙ e), ea) in
+        one ∙ (ap (drop 1) inv ∙ drop-drop 1 i (fieldsOf part))
 
   pub after-end : i ≤ n → n ≤ i → fieldsOf left ≡ drop n (fieldsOf part)
   after-end a b = let e : i ≡ n = omega arith in inv ∙ ap (λ j. drop j (fieldsOf part)) e

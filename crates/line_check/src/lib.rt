@@ -79,27 +79,20 @@ fn ended(part: &[u8]) -> bool
     false // a field is left: the line ends late
 }
 
-// What is left of a part after n fields; of a part with fewer, a part with none.
+// What is left of a part after n fields; of a part with fewer, what stands after its last.
 fn after_fields(part: &[u8], n: usize) -> &[u8]
     ensures { λ r. ⌜ fieldsOf (now r) ≡ drop n (fieldsOf (now (part .entry))) ⌝ }
 {
     let mut left = part;
     let mut i = 0;
     while i < n {
-        let after = after_field(left);
+        let first = reader::field_at(left, 0);
+        let Field::Number(_) = first else {
+            return left;
+        };
+        let after = reader::rest(left, 1);
         left = after;
         i += 1;
     }
     left
-}
-
-// What is left of a part after its first field; a part with no field as it is.
-fn after_field(part: &[u8]) -> &[u8]
-    ensures { λ r. ⌜ fieldsOf (now r) ≡ drop 1 (fieldsOf (now (part .entry))) ⌝ }
-{
-    let first = reader::field_at(part, 0);
-    let Field::Number(_) = first else {
-        return part;
-    };
-    reader::rest(part, 1)
 }
