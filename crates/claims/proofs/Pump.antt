@@ -24,8 +24,9 @@ use Rattle.pump.specs.Table.{given, Case, cases, Right}
 use Rattle.pump.proofs.Reports.{ten-reports}
 use Rattle.design.specs.Line.{valuesIn}
 use Rattle.design.specs.Lines.{ofKind, designOf, designText}
+use Rattle.kinds.specs.Kinds.{entryIn, lastIn}
 use Rattle.design.specs.Tests.{climbs, eachLineIs, layoutFits, boundsFit}
-use Rattle.design.specs.Faults.{DesignText}
+use Rattle.design.specs.Faults.{ofRank, DesignText}
 use Rattle.design.specs.Print.{printLines}
 use Rattle.line_check.specs.LineFits.{termsFit, lineFits}
 use Rattle.action_check.specs.ActionsFit.{actionsFit}
@@ -43,7 +44,7 @@ Loaded [] = Unit {0}
 Loaded (c ∷ cs) = ((faultOf (textFor c) ≡ 0) × (designOf (fieldsByLine (textFor c)) ≡ c .table)) × Loaded cs
 
 loaded : Loaded cases
-unfolding cases columnOf columnsOf digitOf shownAfter sameBytes fieldOf written fieldsFrom fieldsOf linesOf lastOf countAll textOf isLine anyLine fault2 fault3 linesFault columnsFault printV printF evalV valueMark formulaMark valuesIn ofKind designOf climbs eachLineIs layoutFits boundsFit termsFit lineFits actionsFit tableFault faultOf readV okV depthV allIn
+unfolding cases columnOf columnsOf digitOf shownAfter sameBytes fieldOf written fieldsFrom fieldsOf linesOf lastOf countAll textOf isLine anyLine fault2 fault3 linesFault columnsFault printV printF evalV valueMark formulaMark valuesIn ofKind designOf entryIn lastIn ofRank climbs eachLineIs layoutFits boundsFit termsFit lineFits actionsFit tableFault faultOf readV okV depthV allIn
 loaded = ((refl, refl), ((refl, refl), ((refl, refl), ((refl, refl), ((refl, refl), ((refl, refl), ((refl, refl), ((refl, refl), ((refl, refl), ((refl, refl), tt))))))))))
 
 -- ---- what is reported

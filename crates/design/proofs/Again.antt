@@ -1,20 +1,21 @@
 -- The lines of a text without faults 4 and 6 are the printing of their design (`lines-again`): the other way round than Printed.
 use Prim.Native.Nat.{ℕ, zero, suc, _≤_}
-use mathlib.Core.Path.{_≡_, refl, sym, ap, _∙_, subst}
-use mathlib.Core.Logic.{inl, inr}
+use mathlib.Core.Path.{_≡_, refl, sym, ap, _∙_}
 use mathlib.Core.Bool.{Bool, true}
 use mathlib.Core.List.{List, [], _∷_, _++_, map, append-nil, List·Memᴰ, List·Memᴰ·head, List·Memᴰ·tail}
 use native.Mathlib.Omega.{arith}
 use lib.ListN.{length, getD, drop}
 use Rattle.terms.specs.Read.{leaf}
 use Rattle.terms.specs.Print.{printV, printF}
+use Rattle.kinds.specs.Kinds.{wholeText, Sort, value, formula, nValues}
 use Rattle.design.specs.Line.{valueIn, formulaIn, valuesIn, parameterOf, rowOf, invariantOf, mappingOf, measureOf}
 use Rattle.design.specs.Lines.{kindOf, ofKind, theLine, countOf, designOf}
-use Rattle.design.specs.Faults.{IsParameter, IsRow, Sort, value, formula, Terms, nValues, LineTerms}
+use Rattle.design.specs.Faults.{Terms}
 use Rattle.design.specs.Print.{printValues, parameterLine, rowLine, printLines}
 use Rattle.design.proofs.Each.{EachLine}
-use Rattle.design.proofs.Fault4.{Layout, in-order}
-use Rattle.design.proofs.Same.{Made, nth-among, of-kind, row-terms, spec-terms, invariant-terms, mapping-terms, measure-terms}
+use Rattle.design.proofs.Fault4.{Layout}
+use Rattle.design.proofs.WholeText.{in-order, Counted, counted, Exactly, exactly-1, exactly-2, least-3, least-4}
+use Rattle.design.proofs.Same.{Made, nth-among, of-kind, exactly, at-least, row-terms, spec-terms, invariant-terms, mapping-terms, measure-terms}
 use Rattle.design.proofs.Terms.{FirstValue, FirstFormula, first-value, first-formula, no-terms, value-read, value-after, formula-read, formula-after}
 
 -- ---- terms: what is read of them and printed again
@@ -95,12 +96,9 @@ joined a b c x y z p q r = rw (← p, ← q, ← r)
 
 -- ---- all lines
 
-module _ (lines : List (List ℕ)) (lay : Layout lines) (made : Made lines) where
+module _ (lines : List (List ℕ)) (lay : Layout wholeText lines) (made : Made lines) where
   abbrev k : ℕ → List (List ℕ)
   k i = ofKind i lines
-
-  made-of : (i : ℕ) (line : List ℕ) → 3 ≤ i → List·Memᴰ line (k i) → LineTerms (countOf 1 lines) (countOf 2 lines) line (kindOf line)
-  made-of i line l m = let o = of-kind i lines line m in made line (o .1) (rw (o .0) l)
 
   -- the only line of a kind
   one-of : (i : ℕ) → countOf i lines ≡ 1 → theLine i lines ∷ [] ≡ k i
@@ -109,44 +107,22 @@ module _ (lines : List (List ℕ)) (lay : Layout lines) (made : Made lines) wher
   among : (i : ℕ) → countOf i lines ≡ 1 → List·Memᴰ (theLine i lines) (k i)
   among i e = nth-among (k i) 0 (omega arith)
 
-  parameters : (i : ℕ) → IsParameter i → map (parameterLine i) (map parameterOf (k i)) ≡ k i
+  parameters : (i : ℕ) → Exactly i 3 → map (parameterLine i) (map parameterOf (k i)) ≡ k i
   parameters i p =
-      again-each parameterOf (parameterLine i) (k i)
-      (λ line m. let o = of-kind i lines line m in parameter-line i line (o .0) (lay .lengths line (o .1) .0 (subst IsParameter (sym (o .0)) p)))
-
-  long-row : (i : ℕ) → IsRow i → (line : List ℕ) → List·Memᴰ line (k i) → 3 ≤ length line
-  long-row i p line m = let o = of-kind i lines line m in lay .lengths line (o .1) .1 (subst IsRow (sym (o .0)) p)
+      again-each parameterOf (parameterLine i) (k i) (λ line m. parameter-line i line (of-kind i lines line m .0) (exactly lay i 3 line m p))
 
   rows3 : map (rowLine 3) (map (rowOf (countOf 1 lines)) (k 3)) ≡ k 3
   rows3 =
       again-each (rowOf (countOf 1 lines)) (rowLine 3) (k 3)
-      (λ line m. let e = of-kind 3 lines line m .0 in row-line 3 (countOf 1 lines) line e (long-row 3 (inl refl) line m) (row-terms (made-of 3 line (omega arith) m) e))
+      (λ line m. row-line 3 (countOf 1 lines) line (of-kind 3 lines line m .0) (at-least lay 3 3 line m least-3) (row-terms lines made line m))
 
   rows4 : map (rowLine 4) (map (rowOf (countOf 2 lines)) (k 4)) ≡ k 4
   rows4 =
       again-each (rowOf (countOf 2 lines)) (rowLine 4) (k 4)
-      (λ line m. let e = of-kind 4 lines line m .0 in row-line 4 (countOf 2 lines) line e (long-row 4 (inr refl) line m) (spec-terms (made-of 4 line (omega arith) m) e))
+      (λ line m. row-line 4 (countOf 2 lines) line (of-kind 4 lines line m .0) (at-least lay 4 3 line m least-4) (spec-terms lines made line m))
 
-  one5 : countOf 5 lines ≡ 1
-  one5 =
-      let a = lay .counts 5 (omega arith) (omega arith) in
-      let l : 1 ≤ countOf 5 lines = a .0 in
-      let u : countOf 5 lines ≤ 1 = a .1 in
-      omega arith
-
-  one6 : countOf 6 lines ≡ 1
-  one6 =
-      let a = lay .counts 6 (omega arith) (omega arith) in
-      let l : 1 ≤ countOf 6 lines = a .0 in
-      let u : countOf 6 lines ≤ 1 = a .1 in
-      omega arith
-
-  one7 : countOf 7 lines ≡ 1
-  one7 =
-      let a = lay .counts 7 (omega arith) (omega arith) in
-      let l : 1 ≤ countOf 7 lines = a .0 in
-      let u : countOf 7 lines ≤ 1 = a .1 in
-      omega arith
+  one : Counted lines
+  one = counted lay
 
   -- a line of one kind from what its terms are printed as
   last-line : (i : ℕ) (e : countOf i lines ≡ 1) (fields : List ℕ) → 5 ≤ i → fields ≡ drop 1 (theLine i lines) → (i ∷ fields) ∷ [] ≡ k i
@@ -155,20 +131,14 @@ module _ (lines : List (List ℕ)) (lay : Layout lines) (made : Made lines) wher
       let kind = of-kind i lines line (among i e) .0 in
       ap (λ (r : List ℕ). r ∷ []) (ap (λ r. i ∷ r) p ∙ ap (λ j. j ∷ drop 1 line) (sym kind) ∙ one-more line (rw kind (omega arith))) ∙ one-of i e
 
-  terms-of : (i : ℕ) → countOf i lines ≡ 1 → 3 ≤ i → LineTerms (countOf 1 lines) (countOf 2 lines) (theLine i lines) (kindOf (theLine i lines))
-  terms-of i e l = made-of i (theLine i lines) l (among i e)
-
-  kind-of : (i : ℕ) → countOf i lines ≡ 1 → kindOf (theLine i lines) ≡ i
-  kind-of i e = of-kind i lines (theLine i lines) (among i e) .0
-
   last5 : (5 ∷ printF (invariantOf (theLine 5 lines))) ∷ [] ≡ k 5
-  last5 = let e = one5 in last-line 5 e _ (omega arith) (formula-print (invariant-terms (terms-of 5 e (omega arith)) (kind-of 5 e)))
+  last5 = let e = one .kind5 in last-line 5 e _ (omega arith) (formula-print (invariant-terms lines made (theLine 5 lines) (among 5 e)))
 
   last6 : (6 ∷ printValues (mappingOf (countOf 2 lines) (theLine 6 lines))) ∷ [] ≡ k 6
-  last6 = let e = one6 in last-line 6 e _ (omega arith) (values-print (countOf 2 lines) (mapping-terms (terms-of 6 e (omega arith)) (kind-of 6 e)))
+  last6 = let e = one .kind6 in last-line 6 e _ (omega arith) (values-print (countOf 2 lines) (mapping-terms lines made (theLine 6 lines) (among 6 e)))
 
   last7 : (7 ∷ printV (measureOf (theLine 7 lines))) ∷ [] ≡ k 7
-  last7 = let e = one7 in last-line 7 e _ (omega arith) (value-print (measure-terms (terms-of 7 e (omega arith)) (kind-of 7 e)))
+  last7 = let e = one .kind7 in last-line 7 e _ (omega arith) (value-print (measure-terms lines made (theLine 7 lines) (among 7 e)))
 
   pub lines-again : printLines (designOf lines) ≡ lines
   unfolding designOf
@@ -176,5 +146,5 @@ module _ (lines : List (List ℕ)) (lay : Layout lines) (made : Made lines) wher
     where
       pieces : printLines (designOf lines) ≡ k 1 ++ (k 2 ++ (k 3 ++ (k 4 ++ (k 5 ++ (k 6 ++ (k 7 ++ []))))))
       pieces =
-          rw (parameters 1 (inl refl), parameters 2 (inr refl), rows3, rows4)
+          rw (parameters 1 exactly-1, parameters 2 exactly-2, rows3, rows4)
           (ap (λ r. k 1 ++ (k 2 ++ (k 3 ++ (k 4 ++ r)))) (joined _ _ _ (k 5) (k 6) (k 7) last5 last6 last7))

@@ -1,4 +1,4 @@
--- A test of each line says whether something is so of each line (`by-each-line`); tests of numbers and of kinds.
+-- A test of each line says whether something is so of each line (`by-each-line`); tests of numbers.
 use Prim.Native.Nat.{ℕ, zero, suc, _+_, _≤_, _<_}
 use mathlib.Core.Path.{_≡_, refl}
 use mathlib.Core.Logic.{_⊎_, inl, inr}
@@ -8,10 +8,9 @@ use native.Mathlib.Omega.{arith}
 use borrow.Author.Tests.{leb-true, leb-false}
 use lib.Dec.{leb}
 use Rattle.foundation.specs.First.{allIn}
-use Rattle.foundation.specs.Reflects.{Reflects, so, not-so, _⇒_}
-use Rattle.foundation.proofs.Reflects.{by-and, by-or, by-iff, by-eqb}
-use Rattle.design.specs.Faults.{IsParameter, IsRow}
-use Rattle.design.specs.Tests.{eachLineIs, isParameter, isRow}
+use Rattle.foundation.specs.Reflects.{Reflects, so, not-so}
+use Rattle.foundation.proofs.Reflects.{by-and, by-iff}
+use Rattle.design.specs.Tests.{eachLineIs}
 
 abbrev pub EachLine : (List ℕ → Type 0) → List (List ℕ) → Type 0
 EachLine P lines = (line : List ℕ) → List·Memᴰ line lines → P line
@@ -67,11 +66,6 @@ pub one-of : (a b : Bool) → (a && b) ≡ false → (a ≡ false) ⊎ (b ≡ fa
 one-of true b h = inr h
 one-of false b h = inl refl
 
--- a test of an implication says no
-pub not-if : (a b : Bool) → (a ⇒ b) ≡ false → (a ≡ true) × (b ≡ false)
-not-if true b h = (refl, h)
-not-if false b h = absurd (true≢false h)
-
 pub by-leb : (m n : ℕ) → Reflects (m ≤ n) (leb m n)
 by-leb m n = go (leb m n) refl
   where
@@ -82,9 +76,3 @@ by-leb m n = go (leb m n) refl
 -- for i, i + 1, .., n of them
 abbrev pub AllIn : (ℕ → Type 0) → ℕ → ℕ → Type 0
 AllIn P n i = (k : ℕ) → i ≤ k → k < i + n → P k
-
-pub by-parameter : (k : ℕ) → Reflects (IsParameter k) (isParameter k)
-by-parameter k = by-or (by-eqb k 1) (by-eqb k 2)
-
-pub by-row : (k : ℕ) → Reflects (IsRow k) (isRow k)
-by-row k = by-or (by-eqb k 3) (by-eqb k 4)

@@ -1,236 +1,258 @@
--- `layoutFits` says exactly that there is no fault 4 (`by-layout`); and where there is none, the lines are those of kind 1, then
--- those of kind 2, and so on (`in-order`).
+-- `layoutFits` says exactly that there is no fault 4 (`by-layout`); and where there is none, the lines are those of rank 1, then those of
+-- rank 2, and so on (`gather`). All this for any table of kinds; WholeText has more of the table of a whole text.
 use Prim.Native.Nat.{ℕ, zero, suc, _+_, _≤_, _<_}
 use mathlib.Core.Path.{_≡_, refl, sym, ap, _∙_}
 use mathlib.Core.Logic.{_≢_, _⊎_, inl, inr}
-use mathlib.Core.Bool.{Bool, true, false, _&&_, true≢false}
+use mathlib.Core.Bool.{Bool, true, false, cond, _&&_, _||_, true≢false}
 use mathlib.Core.List.{List, [], _∷_, _++_, List·Memᴰ, List·Memᴰ·head, List·Memᴰ·tail, List·Memᴰ·not-nil}
 use native.Mathlib.Omega.{arith}
-use borrow.Author.Tests.{ne-eqb, eqb-true, eqb-false, leb-false}
+use borrow.Author.Tests.{ne-eqb, eqb-true, eqb-false, le-leb, leb-false}
 use lib.Dec.{eqb, leb}
-use lib.ListN.{length, getD}
-use Rattle.foundation.specs.Reflects.{Reflects, so, not-so, _⇒_}
-use Rattle.foundation.proofs.Reflects.{by-and, by-iff, by-if, by-eqb, says-yes, is-so}
+use lib.ListN.{length}
+use Rattle.foundation.specs.Reflects.{Reflects, so, not-so}
+use Rattle.foundation.proofs.Reflects.{by-and, by-iff, by-eqb, is-so}
 use Rattle.foundation.proofs.First.{by-all}
-use Rattle.design.specs.Lines.{kindOf, ofKind, countOf}
-use Rattle.design.specs.Faults.{IsParameter, IsRow, fewest, most, Allowed, Falls, here, later, Fault4, unknown, falling, wrong-count, not-three, too-few}
-use Rattle.design.specs.Tests.{climbs, eachLineIs, isParameter, isRow, lengthFits, countFits, countsFit, layoutFits}
-use Rattle.design.proofs.Each.{EachLine, each-cons, by-each-line, SomeLine, some-line, SomeNumber, some-number, one-of, not-if, AllIn, by-leb, by-parameter, by-row}
+use Rattle.kinds.specs.Kinds.{Table, entryIn, lastIn, hasTerms}
+use Rattle.kinds.specs.declared.Entry.{Entry}
+use Rattle.kinds.proofs.Table.{known-within}
+use Rattle.design.specs.Lines.{kindOf}
+use Rattle.design.specs.Faults.{entryOf, Falls, here, later, ofRank, Allowed, Fault4, unknown, falling, wrong-count, not-exactly, too-few}
+use Rattle.design.specs.Tests.{climbs, eachLineIs, countFitsBy, countFits, countsFit, lengthFitsBy, lengthFits, layoutFits}
+use Rattle.design.proofs.Each.{EachLine, each-cons, by-each-line, SomeLine, some-line, SomeNumber, some-number, one-of, AllIn, by-leb}
 
--- ---- kinds that climb
+-- ---- ranks that climb
 
-pub data Climbs : ℕ → List (List ℕ) → Type 0 where
-  none : {p : ℕ} → Climbs p []
-  next : {p : ℕ} {line : List ℕ} {lines : List (List ℕ)} → p ≤ kindOf line → kindOf line ≤ 7 → Climbs (kindOf line) lines → Climbs p (line ∷ lines)
+pub data Climbs (table : Table) : ℕ → List (List ℕ) → Type 0 where
+  none : {p : ℕ} → Climbs table p []
+  next : {p : ℕ} {line : List ℕ} {lines : List (List ℕ)} → 1 ≤ entryOf table line .most → p ≤ entryOf table line .rank
+      → Climbs table (entryOf table line .rank) lines → Climbs table p (line ∷ lines)
 
-climbs-parts : {p : ℕ} {line : List ℕ} {lines : List (List ℕ)} → Climbs p (line ∷ lines) → (p ≤ kindOf line) × ((kindOf line ≤ 7) × Climbs (kindOf line) lines)
-climbs-parts (next a b c) = (a, (b, c))
+-- a count that is allowed, and a line's length
+abbrev CountFits : Entry → ℕ → Type 0
+CountFits e n = e .most ≢ 0 → Allowed e n
 
-pub by-climbs : (p : ℕ) (lines : List (List ℕ)) → Reflects (Climbs p lines) (climbs p lines)
-unfolding climbs
-by-climbs p [] = so none
-by-climbs p (line ∷ lines) =
-    by-iff (λ h. next (h .0) (h .1 .0) (h .1 .1)) climbs-parts
-    (by-and (by-leb p (kindOf line)) (by-and (by-leb (kindOf line) 7) (by-climbs (kindOf line) lines)))
+abbrev LengthFits : Entry → ℕ → Type 0
+LengthFits e n = (hasTerms (e .terms) ≡ false → n ≡ e .fixed) × (hasTerms (e .terms) ≡ true → e .fixed ≤ n)
 
--- no kind is unknown and none falls
-known : {p : ℕ} {lines : List (List ℕ)} → Climbs p lines → EachLine (λ line. (p ≤ kindOf line) × (kindOf line ≤ 7)) lines
-known none = λ line m. absurd (List·Memᴰ·not-nil m)
-known {p} (next {line = l} a b c) =
-    each-cons (λ line. (p ≤ kindOf line) × (kindOf line ≤ 7)) (a, b) (λ line m. let k = known c line m in (omega arith, k .1))
-
-rising : {p : ℕ} {lines : List (List ℕ)} → Falls lines → Climbs p lines → ⊥
-rising (here h) c =
-    let first = climbs-parts c in
-    let second = climbs-parts (first .1 .1) in
-    let le = second .0 in
-    omega arith
-rising (later f) c = rising f (climbs-parts c .1 .1)
-
-climb : (p : ℕ) (lines : List (List ℕ)) → EachLine (λ line. (p ≤ kindOf line) × (kindOf line ≤ 7)) lines → (Falls lines → ⊥) → Climbs p lines
-climb p [] each f = none
-climb p (a ∷ []) each f = let k = each a (List·Memᴰ·head refl) in next (k .0) (k .1) none
-climb p (a ∷ b ∷ lines) each f =
-    let k = each a (List·Memᴰ·head refl) in
-    let up : kindOf a ≤ kindOf b = let g : kindOf b < kindOf a → ⊥ = λ h. f (here h) in omega arith in
-    let rest = climb p (b ∷ lines) (λ line m. each line (List·Memᴰ·tail m)) (λ g. f (later g)) in
-    let parts = climbs-parts rest in
-    next (k .0) (k .1) (next up (parts .1 .0) (parts .1 .1))
-
--- ---- all parts
-
-pub record Layout (lines : List (List ℕ)) : Type 0 where
-  pub kinds : Climbs 1 lines
-  pub counts : AllIn (λ k. Allowed k (countOf k lines)) 7 1
-  pub lengths : EachLine (λ line. (IsParameter (kindOf line) → length line ≡ 3) × (IsRow (kindOf line) → 3 ≤ length line)) lines
-
-by-parts : (lines : List (List ℕ)) → Reflects (Layout lines) (layoutFits lines)
-unfolding layoutFits
-by-parts lines =
-    by-iff (λ h. record { kinds = h .0; counts = h .1 .0; lengths = h .1 .1 }) (λ l. (l .kinds, (l .counts, l .lengths)))
-    (by-and (by-climbs 1 lines)
-    (by-and (by-all _ (countFits lines) (λ k. by-and (by-leb _ _) (by-leb _ _)) 7 1)
-    (by-each-line _ lengthFits (λ line. by-and
-    (by-if _ (by-parameter (kindOf line)) (λ _. by-eqb (length line) 3))
-    (by-if _ (by-row (kindOf line)) (λ _. by-leb 3 (length line)))) lines)))
-
--- no fault 4 is that layout
-free : (lines : List (List ℕ)) → Layout lines → Fault4 lines → ⊥
-free lines l (unknown {line = line} m (inl e)) = let k = known (l .kinds) line m in omega arith
-free lines l (unknown {line = line} m (inr e)) = let k = known (l .kinds) line m in omega arith
-free lines l (falling f) = rising f (l .kinds)
-free lines l (wrong-count {k = k} a b n) = n (l .counts k a b)
-free lines l (not-three {line = line} m p n) = n (l .lengths line m .0 p)
-free lines l (too-few {line = line} m r n) = let h = l .lengths line m .1 r in omega arith
-
-known-by : (k : ℕ) → ((k ≡ 0) ⊎ (7 < k) → ⊥) → (1 ≤ k) × (k ≤ 7)
-known-by k f =
-    let a : k ≡ 0 → ⊥ = λ e. f (inl e) in
-    let b : 7 < k → ⊥ = λ e. f (inr e) in
-    (omega arith, omega arith)
-
-allowed-by : (k n : ℕ) → ((Allowed k n → ⊥) → ⊥) → Allowed k n
-allowed-by k n f = go (by-and (by-leb (getD fewest k 0) n) (by-leb n (getD most k 0)))
+by-count : (e : Entry) (n : ℕ) → Reflects (CountFits e n) (countFitsBy e n)
+by-count e n = go (eqb (e .most) 0) refl (by-and (by-leb (e .fewest) n) (by-leb n (e .most)))
   where
-    go : {b : Bool} → Reflects (Allowed k n) b → Allowed k n
-    go (so p) = p
-    go (not-so p) = absurd (f p)
+    go : (b : Bool) → eqb (e .most) 0 ≡ b → {c : Bool} → Reflects (Allowed e n) c → Reflects (CountFits e n) (b || c)
+    go true q r = so (λ z. absurd (z (eqb-true (e .most) 0 q)))
+    go false q r = by-iff (λ a _. a) (λ f. f (eqb-false (e .most) 0 q)) r
 
-pub layout-of : (lines : List (List ℕ)) → (Fault4 lines → ⊥) → Layout lines
-layout-of lines f =
-    record {
-      kinds = climb 1 lines (λ line m. known-by (kindOf line) (λ e. f (unknown m e))) (λ g. f (falling g));
-      counts = λ k a b. allowed-by k (countOf k lines) (λ n. f (wrong-count a b n));
-      lengths = λ line m. (
-        λ p. let g : length line ≢ 3 → ⊥ = λ n. f (not-three m p n) in same-by (length line) g,
-        λ r. let g : length line < 3 → ⊥ = λ n. f (too-few m r n) in omega arith,
-      );
-    }
+by-length : (e : Entry) (n : ℕ) → Reflects (LengthFits e n) (lengthFitsBy e n)
+by-length e n = go (hasTerms (e .terms)) refl
   where
-    same-by : (n : ℕ) → (n ≢ 3 → ⊥) → n ≡ 3
-    same-by n g = go (by-eqb n 3)
-      where
-        go : {b : Bool} → Reflects (n ≡ 3) b → n ≡ 3
-        go (so p) = p
-        go (not-so p) = absurd (g p)
+    go : (b : Bool) → hasTerms (e .terms) ≡ b → Reflects (LengthFits e n) (cond b (leb (e .fixed) n) (eqb n (e .fixed)))
+    go true q = by-iff (λ h. (λ z. absurd (true≢false (sym q ∙ z)), λ _. h)) (λ f. f .1 q) (by-leb (e .fixed) n)
+    go false q = by-iff (λ h. (λ _. h, λ z. absurd (true≢false (sym z ∙ q)))) (λ f. f .0 q) (by-eqb n (e .fixed))
+
+module _ (table : Table) where
+  climbs-parts : {p : ℕ} {line : List ℕ} {lines : List (List ℕ)} → Climbs table p (line ∷ lines)
+      → (1 ≤ entryOf table line .most) × ((p ≤ entryOf table line .rank) × Climbs table (entryOf table line .rank) lines)
+  climbs-parts (next a b c) = (a, (b, c))
+
+  pub by-climbs : (p : ℕ) (lines : List (List ℕ)) → Reflects (Climbs table p lines) (climbs table p lines)
+  unfolding climbs
+  by-climbs p [] = so none
+  by-climbs p (line ∷ lines) =
+      by-iff (λ h. next (h .0) (h .1 .0) (h .1 .1)) climbs-parts
+      (by-and (by-leb 1 (entryOf table line .most)) (by-and (by-leb p (entryOf table line .rank)) (by-climbs (entryOf table line .rank) lines)))
+
+  -- no kind is unknown and none falls
+  known : {p : ℕ} {lines : List (List ℕ)} → Climbs table p lines → EachLine (λ line. 1 ≤ entryOf table line .most) lines
+  known none = λ line m. absurd (List·Memᴰ·not-nil m)
+  known (next a b c) = each-cons (λ line. 1 ≤ entryOf table line .most) a (known c)
+
+  rising : {p : ℕ} {lines : List (List ℕ)} → Falls table lines → Climbs table p lines → ⊥
+  rising (here h) c =
+      let first = climbs-parts c in
+      let second = climbs-parts (first .1 .1) in
+      let le = second .1 .0 in
+      omega arith
+  rising (later f) c = rising f (climbs-parts c .1 .1)
+
+  climb : (lines : List (List ℕ)) → EachLine (λ line. 1 ≤ entryOf table line .most) lines → (Falls table lines → ⊥) → Climbs table 0 lines
+  climb [] each f = none
+  climb (a ∷ []) each f = next {p = 0} {line = a} (each a (List·Memᴰ·head refl)) (omega arith) none
+  climb (a ∷ b ∷ lines) each f =
+      let up : entryOf table a .rank ≤ entryOf table b .rank = let g : entryOf table b .rank < entryOf table a .rank → ⊥ = λ h. f (here h) in omega arith in
+      let parts = climbs-parts (climb (b ∷ lines) (λ line m. each line (List·Memᴰ·tail m)) (λ g. f (later g))) in
+      next {p = 0} {line = a} (each a (List·Memᴰ·head refl)) (omega arith) (next (parts .0) up (parts .1 .1))
+
+  -- ---- all parts
+  abbrev ranked : List (List ℕ) → ℕ → ℕ
+  ranked lines k = length (ofRank table (entryIn table k .rank) lines)
+
+pub record Layout (table : Table) (lines : List (List ℕ)) : Type 0 where
+  pub kinds : Climbs table 0 lines
+  pub counts : (k : ℕ) → entryIn table k .most ≢ 0 → Allowed (entryIn table k) (length (ofRank table (entryIn table k .rank) lines))
+  pub lengths : EachLine (λ line. LengthFits (entryOf table line) (length line)) lines
+
+module _ (table : Table) (lines : List (List ℕ)) where
+  -- a kind's number is at most the last
+  all-kinds : AllIn (λ k. CountFits (entryIn table k) (ranked table lines k)) (suc (lastIn table)) 0
+      → (k : ℕ) → entryIn table k .most ≢ 0 → Allowed (entryIn table k) (ranked table lines k)
+  all-kinds h k z = let w = known-within table k (omega arith) in h k (omega arith) (omega arith) z
+
+  by-parts : Reflects (Layout table lines) (layoutFits table lines)
+  unfolding layoutFits
+  by-parts =
+      by-iff (λ h. record { kinds = h .0; counts = all-kinds (h .1 .0); lengths = h .1 .1 }) (λ l. (l .kinds, (λ k _ _. l .counts k, l .lengths)))
+      (by-and (by-climbs table 0 lines)
+      (by-and (by-all _ (countFits table lines) (λ k. by-count (entryIn table k) (ranked table lines k)) (suc (lastIn table)) 0)
+      (by-each-line _ (lengthFits table) (λ line. by-length (entryOf table line) (length line)) lines)))
+
+  -- no fault 4 is that layout
+  free : Layout table lines → Fault4 table lines → ⊥
+  free l (unknown {line = line} m e) = let k = known table (l .kinds) line m in omega arith
+  free l (falling f) = rising table f (l .kinds)
+  free l (wrong-count k z n) = n (l .counts k z)
+  free l (not-exactly {line = line} m e n) = n (l .lengths line m .0 e)
+  free l (too-few {line = line} m e n) = let h = l .lengths line m .1 e in omega arith
+
+  -- what is decided is so if it can't be otherwise
+  by-test : {P : Type 0} {b : Bool} → Reflects P b → ((P → ⊥) → ⊥) → P
+  by-test (so p) f = p
+  by-test (not-so p) f = absurd (f p)
+
+  pub layout-of : (Fault4 table lines → ⊥) → Layout table lines
+  layout-of f =
+      record {
+        kinds = climb table lines (λ line m. let g : entryOf table line .most ≡ 0 → ⊥ = λ e. f (unknown m e) in omega arith) (λ g. f (falling g));
+        counts = λ k z. by-test (by-and (by-leb (entryIn table k .fewest) (ranked table lines k)) (by-leb (ranked table lines k) (entryIn table k .most))) (λ n. f (wrong-count k z n));
+        lengths = λ line m. (
+          λ e. by-test (by-eqb (length line) (entryOf table line .fixed)) (λ n. f (not-exactly m e n)),
+          λ e. let g : length line < entryOf table line .fixed → ⊥ = λ n. f (too-few m e n) in omega arith,
+        );
+      }
+
+  pub by-layout : Reflects (Fault4 table lines → ⊥) (layoutFits table lines)
+  by-layout = by-iff free layout-of by-parts
 
 -- ---- and where the test says no, the fault is there
 
--- a kind that is below that of the line before, or above 7
-pub data Misplaced (lines : List (List ℕ)) : Type 0 where
-  falls : Falls lines → Misplaced lines
-  above : {line : List ℕ} → List·Memᴰ line lines → 7 < kindOf line → Misplaced lines
+-- a kind that is unknown, or ranks below that of the line before
+pub data Misplaced (table : Table) (lines : List (List ℕ)) : Type 0 where
+  falls : Falls table lines → Misplaced table lines
+  no-kind : {line : List ℕ} → List·Memᴰ line lines → entryOf table line .most < 1 → Misplaced table lines
 
-misplaced-later : {a : List ℕ} {lines : List (List ℕ)} → Misplaced lines → Misplaced (a ∷ lines)
-misplaced-later (falls f) = falls (later f)
-misplaced-later (above m h) = above (List·Memᴰ·tail m) h
+module _ (table : Table) where
+  misplaced-later : {a : List ℕ} {lines : List (List ℕ)} → Misplaced table lines → Misplaced table (a ∷ lines)
+  misplaced-later (falls f) = falls (later f)
+  misplaced-later (no-kind m h) = no-kind (List·Memᴰ·tail m) h
 
-after : (a : List ℕ) (lines : List (List ℕ)) → climbs (kindOf a) lines ≡ false → Misplaced (a ∷ lines)
-unfolding climbs
-after a [] h = absurd (true≢false h)
-after a (b ∷ lines) h = go (leb (kindOf a) (kindOf b)) (leb (kindOf b) 7) refl refl h (after b lines)
-  where
-    go : (x y : Bool) → leb (kindOf a) (kindOf b) ≡ x → leb (kindOf b) 7 ≡ y → (x && (y && climbs (kindOf b) lines)) ≡ false
-        → (climbs (kindOf b) lines ≡ false → Misplaced (b ∷ lines)) → Misplaced (a ∷ b ∷ lines)
-    go false y ex ey h ih = falls (here (leb-false (kindOf a) (kindOf b) ex))
-    go true false ex ey h ih = above (List·Memᴰ·tail (List·Memᴰ·head refl)) (leb-false (kindOf b) 7 ey)
-    go true true ex ey h ih = misplaced-later (ih h)
+  after : (a : List ℕ) (lines : List (List ℕ)) → climbs table (entryOf table a .rank) lines ≡ false → Misplaced table (a ∷ lines)
+  unfolding climbs
+  after a [] h = absurd (true≢false h)
+  after a (b ∷ lines) h = go (leb 1 (entryOf table b .most)) (leb (entryOf table a .rank) (entryOf table b .rank)) refl refl h (after b lines)
+    where
+      go : (x y : Bool) → leb 1 (entryOf table b .most) ≡ x → leb (entryOf table a .rank) (entryOf table b .rank) ≡ y
+          → (x && (y && climbs table (entryOf table b .rank) lines)) ≡ false
+          → (climbs table (entryOf table b .rank) lines ≡ false → Misplaced table (b ∷ lines)) → Misplaced table (a ∷ b ∷ lines)
+      go false y ex ey h ih = no-kind (List·Memᴰ·tail (List·Memᴰ·head refl)) (leb-false 1 (entryOf table b .most) ex)
+      go true false ex ey h ih = falls (here (leb-false (entryOf table a .rank) (entryOf table b .rank) ey))
+      go true true ex ey h ih = misplaced-later (ih h)
 
-misplaced-fault : {lines : List (List ℕ)} → Misplaced lines → Fault4 lines
-misplaced-fault (falls f) = falling f
-misplaced-fault (above m h) = unknown m (inr h)
+  misplaced-fault : {lines : List (List ℕ)} → Misplaced table lines → Fault4 table lines
+  misplaced-fault (falls f) = falling f
+  misplaced-fault (no-kind m h) = unknown m (omega arith)
 
-kinds-fault : (lines : List (List ℕ)) → climbs 1 lines ≡ false → Fault4 lines
-unfolding climbs
-kinds-fault [] h = absurd (true≢false h)
-kinds-fault (a ∷ lines) h = go (leb 1 (kindOf a)) (leb (kindOf a) 7) refl refl h
-  where
-    go : (x y : Bool) → leb 1 (kindOf a) ≡ x → leb (kindOf a) 7 ≡ y → (x && (y && climbs (kindOf a) lines)) ≡ false → Fault4 (a ∷ lines)
-    go false y ex ey h = let l = leb-false 1 (kindOf a) ex in unknown (List·Memᴰ·head refl) (inl (omega arith))
-    go true false ex ey h = unknown (List·Memᴰ·head refl) (inr (leb-false (kindOf a) 7 ey))
-    go true true ex ey h = misplaced-fault (after a lines h)
+  kinds-fault : (lines : List (List ℕ)) → climbs table 0 lines ≡ false → Fault4 table lines
+  unfolding climbs
+  kinds-fault [] h = absurd (true≢false h)
+  kinds-fault (a ∷ lines) h = go (leb 1 (entryOf table a .most)) refl h
+    where
+      go : (x : Bool) → leb 1 (entryOf table a .most) ≡ x → (x && (leb 0 (entryOf table a .rank) && climbs table (entryOf table a .rank) lines)) ≡ false
+          → Fault4 table (a ∷ lines)
+      go false ex h = let l = leb-false 1 (entryOf table a .most) ex in unknown (List·Memᴰ·head refl) (omega arith)
+      go true ex h = misplaced-fault (after a lines (rw (le-leb 0 (entryOf table a .rank) (omega arith)) at h))
 
-counts-fault : (lines : List (List ℕ)) → SomeNumber (countFits lines) 7 1 → Fault4 lines
-counts-fault lines s =
-    wrong-count (s .from) (s .below)
-    (λ a. true≢false (sym (is-so (by-and (by-leb (getD fewest (s .number) 0) (countOf (s .number) lines)) (by-leb (countOf (s .number) lines) (getD most (s .number) 0))) a) ∙ s .fails))
+  counts-fault : (lines : List (List ℕ)) → SomeNumber (countFits table lines) (suc (lastIn table)) 0 → Fault4 table lines
+  counts-fault lines s = go (eqb (e .most) 0) refl (s .fails)
+    where
+      e : Entry
+      e = entryIn table (s .number)
 
-length-fault : (lines : List (List ℕ)) → SomeLine lengthFits lines → Fault4 lines
-length-fault lines s = go (one-of (isParameter kind ⇒ eqb n 3) (isRow kind ⇒ leb 3 n) (s .fails))
-  where
-    kind : ℕ
-    kind = kindOf (s .line)
+      n : ℕ
+      n = ranked table lines (s .number)
 
-    n : ℕ
-    n = length (s .line)
+      go : (b : Bool) → eqb (e .most) 0 ≡ b → (b || (leb (e .fewest) n && leb n (e .most))) ≡ false → Fault4 table lines
+      go true q h = absurd (true≢false h)
+      go false q h = wrong-count (s .number) (eqb-false (e .most) 0 q) (λ a. true≢false (sym (is-so (by-and (by-leb (e .fewest) n) (by-leb n (e .most))) a) ∙ h))
 
-    go : ((isParameter kind ⇒ eqb n 3) ≡ false) ⊎ ((isRow kind ⇒ leb 3 n) ≡ false) → Fault4 lines
-    go (inl e) = let p = not-if (isParameter kind) (eqb n 3) e in not-three (s .among) (says-yes (by-parameter kind) (p .0)) (eqb-false n 3 (p .1))
-    go (inr e) = let p = not-if (isRow kind) (leb 3 n) e in too-few (s .among) (says-yes (by-row kind) (p .0)) (leb-false 3 n (p .1))
+  length-fault : (lines : List (List ℕ)) → SomeLine (lengthFits table) lines → Fault4 table lines
+  length-fault lines s = go (hasTerms (e .terms)) refl (s .fails)
+    where
+      e : Entry
+      e = entryOf table (s .line)
 
-pub has-fault4 : (lines : List (List ℕ)) → layoutFits lines ≡ false → Fault4 lines
-unfolding layoutFits
-has-fault4 lines h = go (one-of (climbs 1 lines) (countsFit lines && eachLineIs lengthFits lines) h)
-  where
-    rest : (countsFit lines ≡ false) ⊎ (eachLineIs lengthFits lines ≡ false) → Fault4 lines
-    rest (inl e) = counts-fault lines (some-number (countFits lines) 7 1 e)
-    rest (inr e) = length-fault lines (some-line lengthFits lines e)
+      n : ℕ
+      n = length (s .line)
 
-    go : (climbs 1 lines ≡ false) ⊎ ((countsFit lines && eachLineIs lengthFits lines) ≡ false) → Fault4 lines
-    go (inl e) = kinds-fault lines e
-    go (inr e) = rest (one-of (countsFit lines) (eachLineIs lengthFits lines) e)
+      go : (b : Bool) → hasTerms (e .terms) ≡ b → cond b (leb (e .fixed) n) (eqb n (e .fixed)) ≡ false → Fault4 table lines
+      go true q h = too-few (s .among) q (leb-false (e .fixed) n h)
+      go false q h = not-exactly (s .among) q (eqb-false n (e .fixed) h)
 
--- ---- the lines of each kind stand together, in the order of kinds
+  pub has-fault4 : (lines : List (List ℕ)) → layoutFits table lines ≡ false → Fault4 table lines
+  unfolding layoutFits
+  has-fault4 lines h = go (one-of (climbs table 0 lines) (countsFit table lines && eachLineIs (lengthFits table) lines) h)
+    where
+      rest : (countsFit table lines ≡ false) ⊎ (eachLineIs (lengthFits table) lines ≡ false) → Fault4 table lines
+      rest (inl e) = counts-fault lines (some-number (countFits table lines) (suc (lastIn table)) 0 e)
+      rest (inr e) = length-fault lines (some-line (lengthFits table) lines e)
 
--- those of kinds p, p + 1, .., n of them
-gathered : ℕ → ℕ → List (List ℕ) → List (List ℕ)
-gathered zero p lines = []
-gathered (suc n) p lines = ofKind p lines ++ gathered n (suc p) lines
+      go : (climbs table 0 lines ≡ false) ⊎ ((countsFit table lines && eachLineIs (lengthFits table) lines) ≡ false) → Fault4 table lines
+      go (inl e) = kinds-fault lines e
+      go (inr e) = rest (one-of (countsFit table lines) (eachLineIs (lengthFits table) lines) e)
 
-none-of : (j : ℕ) {p : ℕ} {lines : List (List ℕ)} → j < p → Climbs p lines → ofKind j lines ≡ []
-unfolding ofKind
-none-of j l none = refl
-none-of j l (next {line = line} a b c) = rw (ne-eqb (kindOf line) j (omega arith)) (none-of j (omega arith) c)
+-- ---- the lines of each rank stand together, in the order of ranks
 
--- a line more before those of its own kind and higher ones
-gathered-on : (n p : ℕ) (line : List ℕ) (lines : List (List ℕ)) → kindOf line < p → gathered n p (line ∷ lines) ≡ gathered n p lines
-unfolding gathered ofKind
-gathered-on zero p line lines h = refl
-gathered-on (suc n) p line lines h = rw (ne-eqb (kindOf line) p (omega arith), gathered-on n (suc p) line lines (omega arith))
+module _ (table : Table) where
+  -- those of ranks p, p + 1, .., n of them
+  unfoldable pub gathered : ℕ → ℕ → List (List ℕ) → List (List ℕ)
+  gathered zero p lines = []
+  gathered (suc n) p lines = ofRank table p lines ++ gathered n (suc p) lines
 
-gathered-nil : (n p : ℕ) → gathered n p [] ≡ []
-unfolding gathered ofKind
-gathered-nil zero p = refl
-gathered-nil (suc n) p = gathered-nil n (suc p)
+  none-of : (j : ℕ) {p : ℕ} {lines : List (List ℕ)} → j < p → Climbs table p lines → ofRank table j lines ≡ []
+  unfolding ofRank
+  none-of j l none = refl
+  none-of j l (next {line = line} a b c) = rw (ne-eqb (entryOf table line .rank) j (omega arith)) (none-of j (omega arith) c)
 
-gather-by : (n p : ℕ) (line : List ℕ) (lines : List (List ℕ)) (is : Bool) → eqb (kindOf line) p ≡ is → p ≤ kindOf line
-    → Climbs (kindOf line) lines
-    → gathered (suc n) p lines ≡ lines
-    → (p < kindOf line → gathered n (suc p) (line ∷ lines) ≡ line ∷ lines)
-    → gathered (suc n) p (line ∷ lines) ≡ line ∷ lines
-unfolding gathered ofKind
-gather-by n p line lines true e l c ih go =
-    let k = eqb-true (kindOf line) p e in
-    rw (e, gathered-on n (suc p) line lines (omega arith)) (ap (λ (x : List (List ℕ)). line ∷ x) ih)
-gather-by n p line lines false e l c ih go =
-    let k = eqb-false (kindOf line) p e in
-    rw (e, none-of p (omega arith) c) (go (omega arith))
+  -- a line more before those of its own rank and higher ones
+  gathered-on : (n p : ℕ) (line : List ℕ) (lines : List (List ℕ)) → entryOf table line .rank < p → gathered n p (line ∷ lines) ≡ gathered n p lines
+  unfolding gathered ofRank
+  gathered-on zero p line lines h = refl
+  gathered-on (suc n) p line lines h = rw (ne-eqb (entryOf table line .rank) p (omega arith), gathered-on n (suc p) line lines (omega arith))
 
-gather-line : (n p : ℕ) (line : List ℕ) (lines : List (List ℕ)) → p ≤ kindOf line → kindOf line ≤ 7 → 7 < p + n → Climbs (kindOf line) lines
-    → ((q m : ℕ) → q ≤ kindOf line → 7 < q + m → gathered m q lines ≡ lines)
-    → gathered n p (line ∷ lines) ≡ line ∷ lines
-gather-line zero p line lines l most u c ih = absurd (omega arith)
-gather-line (suc n) p line lines l most u c ih =
-    gather-by n p line lines _ refl l c (ih p (suc n) l u) (λ h. gather-line n (suc p) line lines h most (omega arith) c ih)
+  gathered-nil : (n p : ℕ) → gathered n p [] ≡ []
+  unfolding gathered ofRank
+  gathered-nil zero p = refl
+  gathered-nil (suc n) p = gathered-nil n (suc p)
 
-gather : {q : ℕ} {lines : List (List ℕ)} → Climbs q lines → (p n : ℕ) → p ≤ q → 7 < p + n → gathered n p lines ≡ lines
-gather none p n l u = gathered-nil n p
-gather (next {line = line} {lines = lines} a b c) p n l u = gather-line n p line lines (omega arith) b u c (λ q m h v. gather c q m h v)
+  gather-by : (n p : ℕ) (line : List ℕ) (lines : List (List ℕ)) (is : Bool) → eqb (entryOf table line .rank) p ≡ is → p ≤ entryOf table line .rank
+      → Climbs table (entryOf table line .rank) lines
+      → gathered (suc n) p lines ≡ lines
+      → (p < entryOf table line .rank → gathered n (suc p) (line ∷ lines) ≡ line ∷ lines)
+      → gathered (suc n) p (line ∷ lines) ≡ line ∷ lines
+  unfolding gathered ofRank
+  gather-by n p line lines true e l c ih go =
+      let k = eqb-true (entryOf table line .rank) p e in
+      rw (e, gathered-on n (suc p) line lines (omega arith)) (ap (λ (x : List (List ℕ)). line ∷ x) ih)
+  gather-by n p line lines false e l c ih go =
+      let k = eqb-false (entryOf table line .rank) p e in
+      rw (e, none-of p (omega arith) c) (go (omega arith))
 
-pub in-order : {lines : List (List ℕ)} → Climbs 1 lines
-    → ofKind 1 lines ++ (ofKind 2 lines ++ (ofKind 3 lines ++ (ofKind 4 lines ++ (ofKind 5 lines ++ (ofKind 6 lines ++ (ofKind 7 lines ++ [])))))) ≡ lines
-unfolding gathered
-in-order c = gather c 1 7 (omega arith) (omega arith)
+  -- where no rank is above r
+  module _ (r : ℕ) (top : (k : ℕ) → entryIn table k .rank ≤ r) where
+    gather-line : (n p : ℕ) (line : List ℕ) (lines : List (List ℕ)) → p ≤ entryOf table line .rank → r < p + n → Climbs table (entryOf table line .rank) lines
+        → ((q m : ℕ) → q ≤ entryOf table line .rank → r < q + m → gathered m q lines ≡ lines)
+        → gathered n p (line ∷ lines) ≡ line ∷ lines
+    gather-line zero p line lines l u c ih = let t = top (kindOf line) in absurd (omega arith)
+    gather-line (suc n) p line lines l u c ih =
+        gather-by n p line lines _ refl l c (ih p (suc n) l u) (λ h. gather-line n (suc p) line lines h (omega arith) c ih)
 
-pub by-layout : (lines : List (List ℕ)) → Reflects (Fault4 lines → ⊥) (layoutFits lines)
-by-layout lines = by-iff (free lines) (layout-of lines) (by-parts lines)
+    pub gather : {q : ℕ} {lines : List (List ℕ)} → Climbs table q lines → (p n : ℕ) → p ≤ q → r < p + n → gathered n p lines ≡ lines
+    gather none p n l u = gathered-nil n p
+    gather (next {line = line} {lines = lines} a b c) p n l u = gather-line n p line lines (omega arith) u c (λ q m h v. gather c q m h v)

@@ -1,5 +1,6 @@
 pub mod Each
 pub mod Fault4
+pub mod WholeText
 pub mod Fault5
 pub mod Loaded
 pub mod Terms

@@ -1,7 +1,6 @@
 -- The design that a desk's arrays hold is that of the lines put there, where these have no fault 4 and no fault 6 (`design-held`).
 use Prim.Native.Nat.{ℕ, zero, suc, _+_, _-_, _≤_, _<_}
-use mathlib.Core.Path.{_≡_, refl, sym, ap, _∙_}
-use mathlib.Core.Logic.{inl, inr}
+use mathlib.Core.Path.{_≡_, refl, sym, ap, subst, _∙_}
 use mathlib.Core.Bool.{Bool, true, false, cond}
 use mathlib.Core.List.{List, [], _∷_, _++_, map, append-assoc, List·Memᴰ, List·Memᴰ·head, List·Memᴰ·tail, List·Memᴰ·not-nil}
 use native.Mathlib.Omega.{arith}
@@ -10,12 +9,14 @@ use lib.Dec.{eqb}
 use lib.ListN.{length, getD, take, drop, length-append, List·getD-append}
 use lib.Seq.{take-append-seam, drop-append-seam, getD-append-add}
 use Rattle.reader.specs.Text.{countAll}
+use Rattle.kinds.specs.Kinds.{wholeText, entryIn, value, formula, nValues}
 use Rattle.design.specs.Line.{parameterOf, rowOf, invariantOf, mappingOf, measureOf}
 use Rattle.design.specs.Lines.{kindOf, ofKind, theLine, countOf, countsOf, designOf}
-use Rattle.design.specs.Faults.{IsParameter, IsRow, value, formula, Terms, nValues, LineTerms, of-implementation, of-specification, invariant, mapping, measure}
+use Rattle.design.specs.Faults.{HasTerms, Terms, LineTerms}
 use Rattle.design.specs.Loaded.{lineFrom, eachLine, fieldsHeld, startsHeld, designIn}
 use Rattle.design.proofs.Each.{EachLine, each-cons}
-use Rattle.design.proofs.Fault4.{Layout, in-order}
+use Rattle.design.proofs.Fault4.{Layout}
+use Rattle.design.proofs.WholeText.{in-order, Counted, counted, Exactly, AtLeast, exact-length, least-length, exactly-1, exactly-2, least-3, least-4, least-5, least-6, least-7}
 use Rattle.design.proofs.Loaded.{each-same, each-map, line-then, later-fields}
 use Rattle.design.proofs.Terms.{parameter-same, row-same, invariant-same, mapping-same, measure-same}
 
@@ -86,47 +87,52 @@ module _ (lines : List (List ℕ)) (few : length lines ≤ 83) (fit : countAll l
       let is : getD lines (length a) [] ≡ getD b 0 [] = ap (λ k. getD lines k []) (sym at) ∙ line-in lines a b c split 0 (omega arith) in
       rw (line-then lines few fit (length a) (omega arith), is) (same (getD b 0 []) (nth-among b 0 (omega arith)) (later-fields lines (length a)))
 
--- a line of kind 3 to 7 is made of its terms
+-- a line of a kind with terms is made of them
 abbrev pub Made : List (List ℕ) → Type 0
-Made lines = EachLine (λ line. 3 ≤ kindOf line → LineTerms (countOf 1 lines) (countOf 2 lines) line (kindOf line)) lines
+Made lines = EachLine (λ line. HasTerms (kindOf line) → LineTerms (countOf 1 lines) (countOf 2 lines) line (kindOf line)) lines
 
--- what the terms of a line are, by its kind
-pub row-terms : {n m k : ℕ} {line : List ℕ} → LineTerms n m line k → k ≡ 3 → Terms n true (formula ∷ value ∷ nValues n) (drop 3 line)
-row-terms (of-implementation t) e = t
-row-terms (of-specification t) e = absurd (omega arith)
-row-terms (invariant t) e = absurd (omega arith)
-row-terms (mapping t) e = absurd (omega arith)
-row-terms (measure t) e = absurd (omega arith)
+-- which these are, by the kind
+module _ (lines : List (List ℕ)) (made : Made lines) (line : List ℕ) where
+  abbrev own : ℕ
+  own = countOf 1 lines
 
-pub spec-terms : {n m k : ℕ} {line : List ℕ} → LineTerms n m line k → k ≡ 4 → Terms m true (formula ∷ value ∷ nValues m) (drop 3 line)
-spec-terms (of-implementation t) e = absurd (omega arith)
-spec-terms (of-specification t) e = t
-spec-terms (invariant t) e = absurd (omega arith)
-spec-terms (mapping t) e = absurd (omega arith)
-spec-terms (measure t) e = absurd (omega arith)
+  abbrev theirs : ℕ
+  theirs = countOf 2 lines
 
-pub invariant-terms : {n m k : ℕ} {line : List ℕ} → LineTerms n m line k → k ≡ 5 → Terms n false (formula ∷ []) (drop 1 line)
-invariant-terms (of-implementation t) e = absurd (omega arith)
-invariant-terms (of-specification t) e = absurd (omega arith)
-invariant-terms (invariant t) e = t
-invariant-terms (mapping t) e = absurd (omega arith)
-invariant-terms (measure t) e = absurd (omega arith)
+  made-of : (k : ℕ) → HasTerms k → List·Memᴰ line (ofKind k lines) → LineTerms own theirs line k
+  made-of k h m =
+      let o = of-kind k lines line m in
+      subst (LineTerms own theirs line) (o .0) (made line (o .1) (subst HasTerms (sym (o .0)) h))
 
-pub mapping-terms : {n m k : ℕ} {line : List ℕ} → LineTerms n m line k → k ≡ 6 → Terms n false (nValues m) (drop 1 line)
-mapping-terms (of-implementation t) e = absurd (omega arith)
-mapping-terms (of-specification t) e = absurd (omega arith)
-mapping-terms (invariant t) e = absurd (omega arith)
-mapping-terms (mapping t) e = t
-mapping-terms (measure t) e = absurd (omega arith)
+  pub row-terms : List·Memᴰ line (ofKind 3 lines) → Terms own true (formula ∷ value ∷ nValues own) (drop 3 line)
+  unfolding entryIn
+  row-terms m = made-of 3 refl m
 
-pub measure-terms : {n m k : ℕ} {line : List ℕ} → LineTerms n m line k → k ≡ 7 → Terms n false (value ∷ []) (drop 1 line)
-measure-terms (of-implementation t) e = absurd (omega arith)
-measure-terms (of-specification t) e = absurd (omega arith)
-measure-terms (invariant t) e = absurd (omega arith)
-measure-terms (mapping t) e = absurd (omega arith)
-measure-terms (measure t) e = t
+  pub spec-terms : List·Memᴰ line (ofKind 4 lines) → Terms theirs true (formula ∷ value ∷ nValues theirs) (drop 3 line)
+  unfolding entryIn
+  spec-terms m = made-of 4 refl m
 
-module _ (lines : List (List ℕ)) (few : length lines ≤ 83) (fit : countAll lines ≤ 4096) (lay : Layout lines) where
+  pub invariant-terms : List·Memᴰ line (ofKind 5 lines) → Terms own false (formula ∷ []) (drop 1 line)
+  unfolding entryIn
+  invariant-terms m = made-of 5 refl m
+
+  pub mapping-terms : List·Memᴰ line (ofKind 6 lines) → Terms own false (nValues theirs) (drop 1 line)
+  unfolding entryIn
+  mapping-terms m = made-of 6 refl m
+
+  pub measure-terms : List·Memᴰ line (ofKind 7 lines) → Terms own false (value ∷ []) (drop 1 line)
+  unfolding entryIn
+  measure-terms m = made-of 7 refl m
+
+-- and how many fields a line has
+module _ {lines : List (List ℕ)} (lay : Layout wholeText lines) (k n : ℕ) (line : List ℕ) (m : List·Memᴰ line (ofKind k lines)) where
+  pub exactly : Exactly k n → length line ≡ n
+  exactly x = let o = of-kind k lines line m in exact-length lay k n line (o .1) (o .0) x
+
+  pub at-least : AtLeast k n → n ≤ length line
+  at-least x = let o = of-kind k lines line m in least-length lay k n line (o .1) (o .0) x
+
+module _ (lines : List (List ℕ)) (few : length lines ≤ 83) (fit : countAll lines ≤ 4096) (lay : Layout wholeText lines) where
   -- the lines of each kind, and those before them
   abbrev k : ℕ → List (List ℕ)
   k i = ofKind i lines
@@ -164,37 +170,8 @@ module _ (lines : List (List ℕ)) (few : length lines ≤ 83) (fit : countAll l
   split7 : lines ≡ before7 ++ (k 7 ++ [])
   split7 = split6 ∙ sym (append-assoc before6 (k 6) _)
 
-  -- of a line of kind i: it is a line, its fields are counted, it is made of its terms
-  terms-of : Made lines → (i : ℕ) (line : List ℕ) → 3 ≤ i → List·Memᴰ line (k i) → LineTerms (countOf 1 lines) (countOf 2 lines) line (kindOf line)
-  terms-of made i line h m = let o = of-kind i lines line m in made line (o .1) (rw (o .0) h)
-
-  kind-of : (i : ℕ) (line : List ℕ) → List·Memᴰ line (k i) → kindOf line ≡ i
-  kind-of i line m = of-kind i lines line m .0
-
-  -- its kind is not 0, so it has a field
-  some-field : (i : ℕ) (line : List ℕ) → 1 ≤ i → List·Memᴰ line (k i) → 1 ≤ length line
-  some-field i [] h m = let e = kind-of i [] m in absurd (omega arith)
-  some-field i (b ∷ line) h m = omega arith
-
-  parameters-same : (i : ℕ) → IsParameter i → (line : List ℕ) → List·Memᴰ line (k i) → (more : List ℕ) → parameterOf (line ++ more) ≡ parameterOf line
-  parameters-same i p line m more =
-      let o = of-kind i lines line m in
-      parameter-same line more (lay .lengths line (o .1) .0 (rw (o .0) p))
-
-  long-row : (i : ℕ) → IsRow i → (line : List ℕ) → List·Memᴰ line (k i) → 3 ≤ length line
-  long-row i r line m = let o = of-kind i lines line m in lay .lengths line (o .1) .1 (rw (o .0) r)
-
-  exactly-one : (n : ℕ) → (1 ≤ n) × (n ≤ 1) → n ≡ 1
-  exactly-one n h = let a = h .0 in let b = h .1 in omega arith
-
-  one5 : length (k 5) ≡ 1
-  one5 = exactly-one (length (k 5)) (lay .counts 5 (omega arith) (omega arith))
-
-  one6 : length (k 6) ≡ 1
-  one6 = exactly-one (length (k 6)) (lay .counts 6 (omega arith) (omega arith))
-
-  one7 : length (k 7) ≡ 1
-  one7 = exactly-one (length (k 7)) (lay .counts 7 (omega arith) (omega arith))
+  one : Counted lines
+  one = counted lay
 
   -- where the lines of a kind start
   at3 : length before3 ≡ length (k 1) + length (k 2)
@@ -207,10 +184,10 @@ module _ (lines : List (List ℕ)) (few : length lines ≤ 83) (fit : countAll l
   at5 = length-append before4 (k 4) ∙ ap (λ n. n + length (k 4)) at4
 
   at6 : length before6 ≡ length (k 1) + length (k 2) + length (k 3) + length (k 4) + 1
-  at6 = length-append before5 (k 5) ∙ rw (at5, one5)
+  at6 = length-append before5 (k 5) ∙ rw (at5, one .kind5)
 
   at7 : length before7 ≡ length (k 1) + length (k 2) + length (k 3) + length (k 4) + 2
-  at7 = length-append before6 (k 6) ∙ rw (at6, one6) (omega arith)
+  at7 = length-append before6 (k 6) ∙ rw (at6, one .kind6) (omega arith)
 
   abbrev line : ℕ → List ℕ
   line i = lineFrom (fieldsHeld lines) (startsHeld lines) i
@@ -222,40 +199,40 @@ module _ (lines : List (List ℕ)) (few : length lines ≤ 83) (fit : countAll l
   m = countOf 2 lines
 
   pub parameters1 : eachLine parameterOf line n 0 ≡ map parameterOf (k 1)
-  parameters1 = block lines few fit parameterOf [] (k 1) _ split2 (parameters-same 1 (inl refl))
+  parameters1 = block lines few fit parameterOf [] (k 1) _ split2 (λ l h more. parameter-same l more (exactly lay 1 3 l h exactly-1))
 
   parameters2 : eachLine parameterOf line m n ≡ map parameterOf (k 2)
-  parameters2 = block lines few fit parameterOf (k 1) (k 2) _ split2 (parameters-same 2 (inr refl))
+  parameters2 = block lines few fit parameterOf (k 1) (k 2) _ split2 (λ l h more. parameter-same l more (exactly lay 2 3 l h exactly-2))
 
   rows3 : Made lines → eachLine (rowOf n) line (length (k 3)) (n + m) ≡ map (rowOf n) (k 3)
   rows3 made =
       ap (λ at. eachLine (rowOf n) line (length (k 3)) at) (sym at3)
       ∙ block lines few fit (rowOf n) before3 (k 3) _ split3
-      (λ l h. row-same n l (long-row 3 (inl refl) l h) (row-terms (terms-of made 3 l (omega arith) h) (kind-of 3 l h)))
+      (λ l h. row-same n l (at-least lay 3 3 l h least-3) (row-terms lines made l h))
 
   rows4 : Made lines → eachLine (rowOf m) line (length (k 4)) (n + m + length (k 3)) ≡ map (rowOf m) (k 4)
   rows4 made =
       ap (λ at. eachLine (rowOf m) line (length (k 4)) at) (sym at4)
       ∙ block lines few fit (rowOf m) before4 (k 4) _ split4
-      (λ l h. row-same m l (long-row 4 (inr refl) l h) (spec-terms (terms-of made 4 l (omega arith) h) (kind-of 4 l h)))
+      (λ l h. row-same m l (at-least lay 4 3 l h least-4) (spec-terms lines made l h))
 
   line5 : Made lines → invariantOf (line (n + m + length (k 3) + length (k 4))) ≡ invariantOf (theLine 5 lines)
   line5 made =
       ap (λ at. invariantOf (line at)) (sym at5)
-      ∙ single lines few fit invariantOf before5 (k 5) _ split5 one5
-      (λ l h. invariant-same n l (some-field 5 l (omega arith) h) (invariant-terms (terms-of made 5 l (omega arith) h) (kind-of 5 l h)))
+      ∙ single lines few fit invariantOf before5 (k 5) _ split5 (one .kind5)
+      (λ l h. invariant-same n l (at-least lay 5 1 l h least-5) (invariant-terms lines made l h))
 
   line6 : Made lines → mappingOf m (line (n + m + length (k 3) + length (k 4) + 1)) ≡ mappingOf m (theLine 6 lines)
   line6 made =
       ap (λ at. mappingOf m (line at)) (sym at6)
-      ∙ single lines few fit (mappingOf m) before6 (k 6) _ split6 one6
-      (λ l h. mapping-same n l (some-field 6 l (omega arith) h) m (mapping-terms (terms-of made 6 l (omega arith) h) (kind-of 6 l h)))
+      ∙ single lines few fit (mappingOf m) before6 (k 6) _ split6 (one .kind6)
+      (λ l h. mapping-same n l (at-least lay 6 1 l h least-6) m (mapping-terms lines made l h))
 
   line7 : Made lines → measureOf (line (n + m + length (k 3) + length (k 4) + 2)) ≡ measureOf (theLine 7 lines)
   line7 made =
       ap (λ at. measureOf (line at)) (sym at7)
-      ∙ single lines few fit measureOf before7 (k 7) _ split7 one7
-      (λ l h. measure-same n l (some-field 7 l (omega arith) h) (measure-terms (terms-of made 7 l (omega arith) h) (kind-of 7 l h)))
+      ∙ single lines few fit measureOf before7 (k 7) _ split7 (one .kind7)
+      (λ l h. measure-same n l (at-least lay 7 1 l h least-7) (measure-terms lines made l h))
 
   -- the design that the arrays hold is that of the lines
   pub design-held : Made lines → designIn (fieldsHeld lines) (startsHeld lines) (countsOf lines) ≡ designOf lines

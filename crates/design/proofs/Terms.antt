@@ -12,9 +12,10 @@ use Rattle.terms.specs.Depth.{depthV, depthF}
 use Rattle.terms.specs.Print.{printV, printF}
 use Rattle.terms.specs.Read.{leaf}
 use Rattle.terms.proofs.Printing.{print-read-v, print-read-f}
+use Rattle.kinds.specs.Kinds.{Sort, value, formula, nValues}
 use Rattle.criteria.specs.Design.{Row}
 use Rattle.design.specs.Line.{valueIn, formulaIn, valuesIn, parameterOf, rowOf, invariantOf, mappingOf, measureOf}
-use Rattle.design.specs.Faults.{Sort, value, formula, Terms, none, then-value, then-formula, nValues}
+use Rattle.design.specs.Faults.{Terms, none, then-value, then-formula}
 
 -- ---- the first term, and those after it
 

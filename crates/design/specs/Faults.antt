@@ -1,59 +1,69 @@
 -- The faults of a text (01, "Turned down by the input", 1 to 7), a definition for each; which is the lowest; and what a design text
--- is. Faults 1 to 3 are of the text's columns (crate reader); 4 to 7 are of the lines' fields and of the design that they say. Each
--- is a statement on its own: no order of looking for them is in here.
-use Prim.Native.Nat.{ℕ, zero, suc, _<_, _≤_}
+-- is. Faults 1 to 3 are of the text's columns (crate reader); 4 to 6 are of the lines' fields, by the table of kinds (crate kinds), and 7
+-- of the design that they say. Each is a statement on its own: no order of looking for them is in here.
+use Prim.Native.Nat.{ℕ, _<_, _≤_}
 use mathlib.Core.Path.{_≡_}
 use mathlib.Core.Logic.{_≢_, _⊎_}
-use mathlib.Core.Bool.{Bool, true, false}
+use mathlib.Core.Bool.{Bool, true, false, cond}
 use mathlib.Core.List.{List, [], _∷_, _++_, map, List·Memᴰ}
+use lib.Dec.{eqb}
 use lib.ListN.{length, getD, drop}
-use Rattle.limits.specs.Limits.{maxDepth, maxParameters, maxRows, maxSpan, maxStates}
+use Rattle.limits.specs.Limits.{maxDepth, maxSpan, maxStates}
 use Rattle.foundation.specs.Lowest.{First}
 use Rattle.foundation.specs.Radix.{product}
 use Rattle.terms.specs.Tree.{Value, Formula, num, okV, okF}
 use Rattle.terms.specs.Depth.{depthV, depthF}
 use Rattle.terms.specs.Print.{printV, printF}
 use Rattle.reader.specs.Text.{fieldsByLine, Fault1, Fault2, Fault3}
+use Rattle.kinds.specs.Kinds.{Table, wholeText, entryIn, Sort, value, formula, hasTerms, sortsOf, inRow, ownOf}
+use Rattle.kinds.specs.declared.Entry.{Entry}
+use Rattle.kinds.specs.declared.Role.the-variants as role
 use Rattle.criteria.specs.Design.{Design, Process, Row, RowIs}
 use Rattle.design.specs.Lines.{kindOf, ofKind, countOf, designOf}
 
--- the kinds of parameters and of rows
-abbrev pub IsParameter : ℕ → Type 0
-IsParameter k = (k ≡ 1) ⊎ (k ≡ 2)
+-- ---- 4, by the table of the kinds that a call takes
 
-abbrev pub IsRow : ℕ → Type 0
-IsRow k = (k ≡ 3) ⊎ (k ≡ 4)
-
--- ---- 4
-
--- the column "lines" of the table of kinds: the fewest and the most of each kind, from 0 (which is none) to 7
-abbrev pub fewest : List ℕ
-fewest = 0 ∷ 1 ∷ 1 ∷ 0 ∷ 0 ∷ 1 ∷ 1 ∷ 1 ∷ []
-
-abbrev pub most : List ℕ
-most = 0 ∷ maxParameters ∷ maxParameters ∷ maxRows ∷ maxRows ∷ 1 ∷ 1 ∷ 1 ∷ []
-
-abbrev pub Allowed : ℕ → ℕ → Type 0
-Allowed k n = (getD fewest k 0 ≤ n) × (n ≤ getD most k 0)
+-- what the table says of a line's kind
+abbrev pub entryOf : Table → List ℕ → Entry
+entryOf table line = entryIn table (kindOf line)
 
 -- a line's kind is below that of the line before
-pub data Falls : List (List ℕ) → Type 0 where
-  here : {a b : List ℕ} {lines : List (List ℕ)} → kindOf b < kindOf a → Falls (a ∷ b ∷ lines)
-  later : {a : List ℕ} {lines : List (List ℕ)} → Falls lines → Falls (a ∷ lines)
+pub data Falls (table : Table) : List (List ℕ) → Type 0 where
+  here : {a b : List ℕ} {lines : List (List ℕ)} → entryOf table b .rank < entryOf table a .rank → Falls table (a ∷ b ∷ lines)
+  later : {a : List ℕ} {lines : List (List ℕ)} → Falls table lines → Falls table (a ∷ lines)
 
-pub data Fault4 (lines : List (List ℕ)) : Type 0 where
-  -- "An unknown kind"
-  unknown : {line : List ℕ} → List·Memᴰ line lines → (kindOf line ≡ 0) ⊎ (7 < kindOf line) → Fault4 lines
+-- the lines of a rank
+unfoldable pub ofRank : Table → ℕ → List (List ℕ) → List (List ℕ)
+ofRank table r [] = []
+ofRank table r (line ∷ lines) = let later = ofRank table r lines in cond (eqb (entryOf table line .rank) r) (line ∷ later) later
+
+-- the column "lines": no fewer and no more lines than these
+abbrev pub Allowed : Entry → ℕ → Type 0
+Allowed e n = (e .fewest ≤ n) × (n ≤ e .most)
+
+pub data Fault4 (table : Table) (lines : List (List ℕ)) : Type 0 where
+  -- "An unknown kind": the table allows no line of it
+  unknown : {line : List ℕ} → List·Memᴰ line lines → entryOf table line .most ≡ 0 → Fault4 table lines
   -- "a falling kind"
-  falling : Falls lines → Fault4 lines
-  -- "a wrong count of lines of a kind"
-  wrong-count : {k : ℕ} → 1 ≤ k → k < 8 → (Allowed k (countOf k lines) → ⊥) → Fault4 lines
-  -- "a kind 1 or 2 line without exactly three fields"
-  not-three : {line : List ℕ} → List·Memᴰ line lines → IsParameter (kindOf line) → length line ≢ 3 → Fault4 lines
-  -- "a row line with fewer than three"
-  too-few : {line : List ℕ} → List·Memᴰ line lines → IsRow (kindOf line) → length line < 3 → Fault4 lines
+  falling : Falls table lines → Fault4 table lines
+  -- "a wrong count of lines of a kind"; kinds of one rank count as one
+  wrong-count : (k : ℕ) → entryIn table k .most ≢ 0 → (Allowed (entryIn table k) (length (ofRank table (entryIn table k .rank) lines)) → ⊥)
+      → Fault4 table lines
+  -- "a kind 1 or 2 line without exactly three fields": these have no terms
+  not-exactly : {line : List ℕ} → List·Memᴰ line lines → hasTerms (entryOf table line .terms) ≡ false → length line ≢ entryOf table line .fixed
+      → Fault4 table lines
+  -- "a row line with fewer than three"; a line of kinds 5 to 7 needs but its kind
+  too-few : {line : List ℕ} → List·Memᴰ line lines → hasTerms (entryOf table line .terms) ≡ true → length line < entryOf table line .fixed
+      → Fault4 table lines
 
 -- ---- 5. "A size, initial value, span or product of sizes out of bounds."
+
+-- the kinds of parameters and of rows
+abbrev pub IsParameter : ℕ → Type 0
+IsParameter k = entryIn wholeText k .role ≡ role.Parameter
+
+abbrev pub IsRow : ℕ → Type 0
+IsRow k = entryIn wholeText k .role ≡ role.Row
 
 abbrev pub sizeOf : List ℕ → ℕ
 sizeOf line = getD line 1 0
@@ -71,10 +81,6 @@ pub data Fault5 (lines : List (List ℕ)) : Type 0 where
 -- ---- 6. "A term with a wrong mark, a parameter that doesn't exist, a sum value outside a row, depth over 32, or a line that ends
 -- early or late." So a line is as it should be if it is its terms, one after the other, and nothing else.
 
--- what a term is asked to be
-pub data Sort : Type 0 where
-  value formula : Sort
-
 -- fields are the terms of these sorts, of n parameters, in a row or not
 pub data Terms (n : ℕ) (row : Bool) : List Sort → List ℕ → Type 0 where
   none : Terms n row [] []
@@ -83,24 +89,20 @@ pub data Terms (n : ℕ) (row : Bool) : List Sort → List ℕ → Type 0 where
   then-formula : {sorts : List Sort} {fields : List ℕ} (f : Formula) → okF f n row ≡ true → depthF f ≤ maxDepth → Terms n row sorts fields
       → Terms n row (formula ∷ sorts) (printF f ++ fields)
 
--- n values
-abbrev pub nValues : ℕ → List Sort
-nValues zero = []
-nValues (suc n) = value ∷ nValues n
+-- the terms of a kind stand on a line after its numbers, where n lines are of kind 1 and m of kind 2
+abbrev pub LineTerms : ℕ → ℕ → List ℕ → ℕ → Type 0
+LineTerms n m line k =
+    let e = entryIn wholeText k in
+    let own = ownOf (e .process) n m in
+    Terms own (inRow (e .terms)) (sortsOf (e .terms) own m) (drop (e .fixed) line)
 
--- what stands on a line after its numbers, where n lines are of kind 1 and m of kind 2
-pub data LineTerms (n m : ℕ) (line : List ℕ) : ℕ → Type 0 where
-  -- rows: "condition, data, one next value for each kind 1 line", or "the same with kind 2 lines"
-  of-implementation : Terms n true (formula ∷ value ∷ nValues n) (drop 3 line) → LineTerms n m line 3
-  of-specification : Terms m true (formula ∷ value ∷ nValues m) (drop 3 line) → LineTerms n m line 4
-  -- "parameter i .. of the row's process (the implementation's in kinds 5 to 7)"
-  invariant : Terms n false (formula ∷ []) (drop 1 line) → LineTerms n m line 5
-  mapping : Terms n false (nValues m) (drop 1 line) → LineTerms n m line 6
-  measure : Terms n false (value ∷ []) (drop 1 line) → LineTerms n m line 7
+-- a kind with terms: 3 to 7
+abbrev pub HasTerms : ℕ → Type 0
+HasTerms k = hasTerms (entryIn wholeText k .terms) ≡ true
 
--- a line of kind 3 to 7 that is not so
+-- a line of such a kind that is not so
 pub data Fault6 (lines : List (List ℕ)) : Type 0 where
-  wrong-terms : {line : List ℕ} → List·Memᴰ line lines → 3 ≤ kindOf line
+  wrong-terms : {line : List ℕ} → List·Memᴰ line lines → HasTerms (kindOf line)
       → (LineTerms (countOf 1 lines) (countOf 2 lines) line (kindOf line) → ⊥) → Fault6 lines
 
 -- ---- 7
@@ -132,7 +134,7 @@ pub data Fault (text : List ℕ) : ℕ → Type 0 where
   first : Fault1 text → Fault text 1
   second : Fault2 text → Fault text 2
   third : Fault3 text → Fault text 3
-  fourth : Fault4 (fieldsByLine text) → Fault text 4
+  fourth : Fault4 wholeText (fieldsByLine text) → Fault text 4
   fifth : Fault5 (fieldsByLine text) → Fault text 5
   sixth : Fault6 (fieldsByLine text) → Fault text 6
   seventh : Fault7 (designOf (fieldsByLine text)) → Fault text 7

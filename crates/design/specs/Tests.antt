@@ -1,58 +1,62 @@
 -- Faults 4 and 5 as tests that compute, line by line. What they decide is said in Faults; that they decide it is proved in
 -- proofs/Fault4 and proofs/Fault5.
-use Prim.Native.Nat.{ℕ}
-use mathlib.Core.Bool.{Bool, true, _&&_, _||_}
+use Prim.Native.Nat.{ℕ, suc}
+use mathlib.Core.Bool.{Bool, true, cond, _&&_, _||_}
 use mathlib.Core.List.{List, [], _∷_, map}
 use lib.Dec.{eqb, ltb, leb}
 use lib.ListN.{length, getD}
 use Rattle.limits.specs.Limits.{maxSpan, maxStates}
 use Rattle.foundation.specs.First.{allIn}
 use Rattle.foundation.specs.Radix.{product}
-use Rattle.foundation.specs.Reflects.{_⇒_}
-use Rattle.design.specs.Lines.{kindOf, ofKind, countOf}
-use Rattle.design.specs.Faults.{fewest, most, sizeOf}
-
--- kinds do not fall from p on, and are at most 7
-unfoldable pub climbs : ℕ → List (List ℕ) → Bool
-climbs p [] = true
-climbs p (line ∷ lines) = leb p (kindOf line) && (leb (kindOf line) 7 && climbs (kindOf line) lines)
+use Rattle.kinds.specs.Kinds.{Table, wholeText, entryIn, lastIn, hasTerms}
+use Rattle.kinds.specs.declared.Entry.{Entry}
+use Rattle.kinds.specs.declared.Role.{Role}
+use Rattle.kinds.specs.declared.Role.the-variants as role
+use Rattle.design.specs.Lines.{ofKind}
+use Rattle.design.specs.Faults.{entryOf, ofRank, sizeOf}
 
 -- each line passes
 unfoldable pub eachLineIs : (List ℕ → Bool) → List (List ℕ) → Bool
 eachLineIs test [] = true
 eachLineIs test (line ∷ lines) = test line && eachLineIs test lines
 
-abbrev pub isParameter : ℕ → Bool
-isParameter k = eqb k 1 || eqb k 2
-
-abbrev pub isRow : ℕ → Bool
-isRow k = eqb k 3 || eqb k 4
-
 -- ---- 4
 
-abbrev pub lengthFitsBy : ℕ → ℕ → Bool
-lengthFitsBy kind n = (isParameter kind ⇒ eqb n 3) && (isRow kind ⇒ leb 3 n)
+-- kinds are known, and do not fall in rank from p on
+unfoldable pub climbs : Table → ℕ → List (List ℕ) → Bool
+climbs table p [] = true
+climbs table p (line ∷ lines) =
+    let e = entryOf table line in leb 1 (e .most) && (leb p (e .rank) && climbs table (e .rank) lines)
 
-abbrev pub lengthFits : List ℕ → Bool
-lengthFits line = lengthFitsBy (kindOf line) (length line)
+-- as many lines as there may be; of what is no kind there are none anyway
+abbrev pub countFitsBy : Entry → ℕ → Bool
+countFitsBy e n = eqb (e .most) 0 || (leb (e .fewest) n && leb n (e .most))
 
-abbrev pub countFits : List (List ℕ) → ℕ → Bool
-countFits lines k = leb (getD fewest k 0) (countOf k lines) && leb (countOf k lines) (getD most k 0)
+abbrev pub countFits : Table → List (List ℕ) → ℕ → Bool
+countFits table lines k = let e = entryIn table k in countFitsBy e (length (ofRank table (e .rank) lines))
 
-abbrev pub countsFit : List (List ℕ) → Bool
-countsFit lines = allIn (countFits lines) 7 1
+abbrev pub countsFit : Table → List (List ℕ) → Bool
+countsFit table lines = allIn (countFits table lines) (suc (lastIn table)) 0
 
-unfoldable pub layoutFits : List (List ℕ) → Bool
-layoutFits lines = climbs 1 lines && (countsFit lines && eachLineIs lengthFits lines)
+abbrev pub lengthFitsBy : Entry → ℕ → Bool
+lengthFitsBy e n = cond (hasTerms (e .terms)) (leb (e .fixed) n) (eqb n (e .fixed))
+
+abbrev pub lengthFits : Table → List ℕ → Bool
+lengthFits table line = lengthFitsBy (entryOf table line) (length line)
+
+unfoldable pub layoutFits : Table → List (List ℕ) → Bool
+layoutFits table lines = climbs table 0 lines && (countsFit table lines && eachLineIs (lengthFits table) lines)
 
 -- ---- 5
 
--- by kind, and the two fields after it: size and initial value, or action and span
-abbrev pub numbersFitBy : ℕ → ℕ → ℕ → Bool
-numbersFitBy kind a b = (isParameter kind ⇒ leb 1 a && ltb b a) && (isRow kind ⇒ leb 1 b && leb b maxSpan)
+-- by what a line's first two fields after its kind say: size and initial value, or action and span
+abbrev pub numbersFitBy : Role → ℕ → ℕ → Bool
+numbersFitBy role.Parameter a b = leb 1 a && ltb b a
+numbersFitBy role.Row a b = leb 1 b && leb b maxSpan
+numbersFitBy role.Other a b = true
 
 abbrev pub numbersFit : List ℕ → Bool
-numbersFit line = numbersFitBy (kindOf line) (sizeOf line) (getD line 2 0)
+numbersFit line = numbersFitBy (entryOf wholeText line .role) (sizeOf line) (getD line 2 0)
 
 unfoldable pub boundsFit : List (List ℕ) → Bool
 boundsFit lines = eachLineIs numbersFit lines && leb (product (map sizeOf (ofKind 1 lines))) maxStates

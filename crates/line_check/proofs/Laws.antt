@@ -1,13 +1,15 @@
 -- What the functions return is what their contracts say: laws whose premises are what the code knows there, one fact each.
 use Prim.Native.Nat.{ℕ, suc, _+_, _-_, _*_, _<_, _≤_}
-use mathlib.Core.Path.{_≡_, refl, sym, _∙_}
-use mathlib.Core.Bool.{Bool, true, false}
-use mathlib.Core.List.{List, _∷_}
+use mathlib.Core.Path.{_≡_, refl, sym, ap, _∙_}
+use mathlib.Core.Bool.{Bool, true, false, not}
+use mathlib.Core.List.{List, [], _∷_}
 use native.Mathlib.Omega.{arith}
 use native.Mathlib.Numerals.{one-add}
-use lib.ListN.{drop}
+use borrow.Author.Tests.{not-true, not-false}
+use lib.ListN.{drop, drop-of-length-le}
 use lib.Seq.{drop-drop}
-use Rattle.terms.specs.Tree.{Value, Formula, okV, okF}
+use Rattle.terms.specs.Tree as tree
+use Rattle.terms.specs.Tree.{okV, okF}
 use Rattle.terms.specs.Read.{readV, readF}
 use Rattle.reader.specs.Line.{fieldAt, fieldsOf}
 use Rattle.reader.specs.declared.Field.{Field}
@@ -18,8 +20,11 @@ use Rattle.term_check.specs.declared.Checked.{Checked}
 use Rattle.term_check.specs.declared.Checked.the-variants.{Next, Wrong}
 use Rattle.term_check.proofs.Laws.{good-of, took-of}
 use Rattle.term_check.proofs.Passed.{passed-v, passed-f}
-use Rattle.design.specs.Faults.{Sort, value, formula, nValues}
-use Rattle.line_check.specs.LineFits.{nothing, termsFit, rowFits, lineFits}
+use Rattle.kinds.specs.Kinds.{wholeText, entryIn, Sort, value, formula, nValues, hasTerms, sortsOf, inRow, ownOf}
+use Rattle.kinds.specs.declared.Entry.{Entry}
+use Rattle.kinds.specs.declared.Follow.{Follow}
+use Rattle.kinds.specs.declared.Follow.the-variants.{Nothing, RowTerms, Formula, Mapped, Value}
+use Rattle.line_check.specs.LineFits.{nothing, termsFit, lineFits}
 
 -- ---- the first field of a part
 
@@ -29,12 +34,6 @@ module _ (part : List ℕ) (f : Field) (ef : f ≡ fieldAt part 0) where
 
   pub ended-no : (x : ℕ) → f ≡ Number x → false ≡ nothing (fieldsOf part)
   ended-no x e = rw (first-field part x (sym ef ∙ e))
-
-  pub after-none : f ≡ Malformed → fieldsOf part ≡ drop 1 (fieldsOf part)
-  after-none e = rw (no-field part (sym ef ∙ e))
-
-  pub after-first : (x : ℕ) → f ≡ Number x → (r : List ℕ) → r ≡ drop (6 * 1) part → fieldsOf r ≡ drop 1 (fieldsOf part)
-  after-first x e r er = rw (first-field part x (sym ef ∙ e), er)
 
 -- ---- a term, and what follows it
 
@@ -52,7 +51,7 @@ module _ (n : ℕ) (row : Bool) (sorts : List Sort) (part : List ℕ) where
     unfolding termsFit
     value-next k e =
         let b = passed-v n row 32 part k (sym ea ∙ e) in
-        let v-ok : Value → Bool = λ t. okV t n row in
+        let v-ok : tree.Value → Bool = λ t. okV t n row in
         rw (good-of (readV 32) v-ok (fieldsOf part) ea e, took-of (readV 32) v-ok (fieldsOf part) ea e, b .rest)
 
   module _ (a : Checked) (ea : a ≡ checkedF n row (readF 32 (fieldsOf part))) where
@@ -64,7 +63,7 @@ module _ (n : ℕ) (row : Bool) (sorts : List Sort) (part : List ℕ) where
     unfolding termsFit
     formula-next k e =
         let b = passed-f n row 32 part k (sym ea ∙ e) in
-        let f-ok : Formula → Bool = λ t. okF t n row in
+        let f-ok : tree.Formula → Bool = λ t. okF t n row in
         rw (good-of (readF 32) f-ok (fieldsOf part) ea e, took-of (readF 32) f-ok (fieldsOf part) ea e, b .rest)
 
 -- ---- values: those still to come, from here, are so exactly if all of them are
@@ -102,36 +101,55 @@ module _ (n : ℕ) (row : Bool) (part : List ℕ) (count : ℕ) (a : Checked) (e
       → b ≡ termsFit n row (nValues count) (fieldsOf after) → b ≡ termsFit n row (formula ∷ nValues count) (fieldsOf part)
   then-values k e after er b eb = eb ∙ rw er (sym (formula-next n row (nValues count) part a ea k e))
 
--- ---- a line, by its kind
+-- ---- the terms of a kind
 
-pub row : (params : ℕ) (line a b terms : List ℕ) → fieldsOf a ≡ drop 1 (fieldsOf line) → fieldsOf b ≡ drop 1 (fieldsOf a)
-    → fieldsOf terms ≡ drop 1 (fieldsOf b) → (r : Bool) → r ≡ termsFit params true (formula ∷ nValues (1 + params)) (fieldsOf terms)
-    → r ≡ rowFits params (fieldsOf line)
-row params line a b terms ea eb et r er =
-    er ∙ rw (et, eb, ea, drop-drop 1 1 (fieldsOf line), drop-drop 1 2 (fieldsOf line), one-add params)
-
-module _ (n m kind : ℕ) (line : List ℕ) where
+module _ (n m : ℕ) (part : List ℕ) (terms : Follow) (r : Bool) where
   abbrev whole : Bool
-  whole = lineFits n m (fieldsOf line) kind
+  whole = termsFit n (inRow terms) (sortsOf terms n m) (fieldsOf part)
 
-  module _ (r : Bool) where
-    pub impl-row : kind ≡ 3 → r ≡ rowFits n (fieldsOf line) → r ≡ whole
-    unfolding lineFits
-    impl-row e er = er ∙ rw e
+  pub no-terms : terms ≡ Nothing → r ≡ nothing (fieldsOf part) → r ≡ whole
+  unfolding termsFit
+  no-terms e er = er ∙ rw e
 
-    pub spec-row : kind ≡ 4 → r ≡ rowFits m (fieldsOf line) → r ≡ whole
-    unfolding lineFits
-    spec-row e er = er ∙ rw e
+  pub row-terms : terms ≡ RowTerms → r ≡ termsFit n true (formula ∷ nValues (1 + n)) (fieldsOf part) → r ≡ whole
+  row-terms e er = er ∙ rw (e, one-add n)
 
-    module _ (first : List ℕ) (ef : fieldsOf first ≡ drop 1 (fieldsOf line)) where
-      pub invariant : kind ≡ 5 → r ≡ termsFit n false (formula ∷ nValues 0) (fieldsOf first) → r ≡ whole
-      unfolding lineFits
-      invariant e er = er ∙ rw (e, ef)
+  pub a-formula : terms ≡ Formula → r ≡ termsFit n false (formula ∷ nValues 0) (fieldsOf part) → r ≡ whole
+  a-formula e er = er ∙ rw e
 
-      pub mapping : kind ≡ 6 → r ≡ termsFit n false (nValues m) (fieldsOf first) → r ≡ whole
-      unfolding lineFits
-      mapping e er = er ∙ rw (e, ef)
+  pub mapped : terms ≡ Mapped → r ≡ termsFit n false (nValues m) (fieldsOf part) → r ≡ whole
+  mapped e er = er ∙ rw e
 
-      pub measure : kind ≡ 7 → r ≡ termsFit n false (nValues 1) (fieldsOf first) → r ≡ whole
-      unfolding lineFits
-      measure e er = er ∙ rw (e, ef)
+  pub a-value : terms ≡ Value → r ≡ termsFit n false (nValues 1) (fieldsOf part) → r ≡ whole
+  a-value e er = er ∙ rw e
+
+-- ---- the fields before them
+
+module _ (part left : List ℕ) (i n : ℕ) (inv : fieldsOf left ≡ drop i (fieldsOf part)) where
+  module _ (go : i < n) (f : Field) (ef : f ≡ fieldAt left 0) where
+    pub after-none : f ≡ Malformed → fieldsOf left ≡ drop n (fieldsOf part)
+    after-none e =
+        let none : fieldsOf left ≡ [] = no-field left (sym ef ∙ e) in
+        let gone : drop (n - i) (fieldsOf left) ≡ [] = ap (drop (n - i)) none ∙ drop-of-length-le {A = ℕ} [] {i = n - i} (omega arith) in
+        let all : i + (n - i) ≡ n = omega arith in
+        none ∙ sym (ap (λ j. drop j (fieldsOf part)) (sym all) ∙ sym (drop-drop (n - i) i (fieldsOf part)) ∙ ap (drop (n - i)) (sym inv) ∙ gone)
+
+    pub after-turn : (x : ℕ) → f ≡ Number x → (after : List ℕ) → after ≡ drop (6 * 1) left → fieldsOf after ≡ drop (i + 1) (fieldsOf part)
+    after-turn x e after ea =
+        let one : fieldsOf after ≡ drop 1 (fieldsOf left) = rw (first-field left x (sym ef ∙ e), ea) in
+        one ∙ (ap (drop 1) inv ∙ drop-drop 1 i (fieldsOf part))
+
+  pub after-end : i ≤ n → n ≤ i → fieldsOf left ≡ drop n (fieldsOf part)
+  after-end a b = let e : i ≡ n = omega arith in inv ∙ ap (λ j. drop j (fieldsOf part)) e
+
+-- ---- a line
+
+module _ (n m kind : ℕ) (line : List ℕ) (e : Entry) (ee : e ≡ entryIn wholeText kind) (b : Bool) (eb : b ≡ hasTerms (e .terms)) where
+  pub of-nothing : not b ≡ true → true ≡ lineFits n m (fieldsOf line) kind
+  unfolding lineFits
+  of-nothing h = rw (← ee, ← eb, not-true b h)
+
+  pub of-terms : not b ≡ false → (part : List ℕ) → fieldsOf part ≡ drop (e .fixed) (fieldsOf line) → (own : ℕ) → own ≡ ownOf (e .process) n m
+      → (r : Bool) → r ≡ termsFit own (inRow (e .terms)) (sortsOf (e .terms) own m) (fieldsOf part) → r ≡ lineFits n m (fieldsOf line) kind
+  unfolding lineFits
+  of-terms h part ep own eo r er = rw (← ee, ← eb, not-false b h) (er ∙ rw (eo, ep))

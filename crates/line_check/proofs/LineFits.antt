@@ -1,28 +1,28 @@
 -- The test of a line (specs/LineFits) says whether fault 6 is in it:
 --   by-terms   fields are terms of these sorts and nothing else (`Terms`) exactly if the test says so: what is read was printed, and
 --              what is printed is read back;
---   by-kind    the same by the line's kind (`LineTerms`), for every kind from 3 on;
---   by-line    and for every kind, where a line of a kind below 3 has nothing to keep;
---   no-fault6, fault6-at   so fault 6 is in a text exactly if the test says no for one of its lines.
-use Prim.Native.Nat.{ℕ, _<_, _≤_}
+--   by-line    the same by the line's kind (`LineTerms`), where a line of a kind without terms has nothing to keep;
+--   no-fault6, fault6-at   so fault 6 is in a text exactly if the test says no for one of its lines;
+--   made-of    and the lines of a text without it are made of their terms.
+use Prim.Native.Nat.{ℕ, _≤_}
 use mathlib.Core.Path.{_≡_, refl, sym, ap, _∙_}
-use mathlib.Core.Logic.{_≢_}
-use mathlib.Core.Bool.{Bool, true, false, true≢false, false≢true, _&&_}
+use mathlib.Core.Bool.{Bool, true, false, true≢false, _&&_}
 use mathlib.Core.List.{List, [], _∷_, _++_, List·Memᴰ}
 use native.Mathlib.Omega.{arith}
-use borrow.Author.Tests.{lt-ltb, le-ltb, ne-eqb}
 use lib.ListN.{length, drop}
 use lib.Seq.{drop-append-seam}
 use Rattle.foundation.specs.Reflects.{Reflects, so, not-so}
-use Rattle.foundation.proofs.Reflects.{by-eqb, by-ltb, by-iff, by-and, by-value, says-yes, says-no, is-so}
+use Rattle.foundation.proofs.Reflects.{by-iff, by-and, by-if, by-value, says-yes, says-no}
 use Rattle.terms.specs.Tree.{Value, Formula, okV, okF}
 use Rattle.terms.specs.Read.{Reader, leaf, readV, readF}
 use Rattle.terms.specs.Depth.{depthV, depthF}
 use Rattle.terms.specs.Print.{printV, printF}
 use Rattle.terms.proofs.Printing.{Printed, print-read-v, print-read-f, read-print-v, read-print-f}
+use Rattle.kinds.specs.Kinds as kinds
+use Rattle.kinds.specs.Kinds.{wholeText, entryIn, Sort, hasTerms}
 use Rattle.design.specs.Lines.{kindOf, countOf}
 use Rattle.design.specs.Faults as faults
-use Rattle.design.specs.Faults.{Sort, Terms, LineTerms, Fault6}
+use Rattle.design.specs.Faults.{Terms, HasTerms, LineTerms, Fault6}
 use Rattle.line_check.specs.LineFits.{nothing, termsFit, lineFits}
 
 -- ---- terms one after the other
@@ -80,8 +80,8 @@ module _ (n : ℕ) (row : Bool) where
   -- what `Terms` says, by the first sort
   abbrev Said : List Sort → List ℕ → Type 0
   Said [] fields = fields ≡ []
-  Said (faults.value ∷ sorts) fields = First printV v-ok depthV (Terms n row sorts) fields
-  Said (faults.formula ∷ sorts) fields = First printF f-ok depthF (Terms n row sorts) fields
+  Said (kinds.value ∷ sorts) fields = First printV v-ok depthV (Terms n row sorts) fields
+  Said (kinds.formula ∷ sorts) fields = First printF f-ok depthF (Terms n row sorts) fields
 
   said : {sorts : List Sort} {fields : List ℕ} → Terms n row sorts fields → Said sorts fields
   said faults.none = refl
@@ -90,8 +90,8 @@ module _ (n : ℕ) (row : Bool) where
 
   says : (sorts : List Sort) (fields : List ℕ) → Said sorts fields → Terms n row sorts fields
   says [] fields h = rw h faults.none
-  says (faults.value ∷ sorts) fields h = rw (h .printed) (faults.then-value (h .term) (h .well-formed) (h .within) (h .later))
-  says (faults.formula ∷ sorts) fields h = rw (h .printed) (faults.then-formula (h .term) (h .well-formed) (h .within) (h .later))
+  says (kinds.value ∷ sorts) fields h = rw (h .printed) (faults.then-value (h .term) (h .well-formed) (h .within) (h .later))
+  says (kinds.formula ∷ sorts) fields h = rw (h .printed) (faults.then-formula (h .term) (h .well-formed) (h .within) (h .later))
 
   by-nothing : (fields : List ℕ) → Reflects (fields ≡ []) (nothing fields)
   by-nothing [] = so refl
@@ -100,11 +100,11 @@ module _ (n : ℕ) (row : Bool) where
   by-said : (sorts : List Sort) (fields : List ℕ) → Reflects (Said sorts fields) (termsFit n row sorts fields)
   unfolding termsFit
   by-said [] fields = by-nothing fields
-  by-said (faults.value ∷ sorts) fields =
+  by-said (kinds.value ∷ sorts) fields =
       by-first printV v-ok depthV (Terms n row sorts) (readV 32) fields
       (read-print-v n row 32 fields) (λ t ok d l. print-read-v n row t 32 ok d l)
       _ (by-iff (says sorts _) (λ h. said h) (by-said sorts _))
-  by-said (faults.formula ∷ sorts) fields =
+  by-said (kinds.formula ∷ sorts) fields =
       by-first printF f-ok depthF (Terms n row sorts) (readF 32) fields
       (read-print-f n row 32 fields) (λ t ok d l. print-read-f n row t 32 ok d l)
       _ (by-iff (says sorts _) (λ h. said h) (by-said sorts _))
@@ -114,46 +114,10 @@ module _ (n : ℕ) (row : Bool) where
 
 -- ---- a line, by its kind
 
--- by cases on what a test says
-either : {P Q : Type 0} {b : Bool} → Reflects P b → (P → Q) → ((P → ⊥) → Q) → Q
-either (so p) f g = f p
-either (not-so n) f g = g n
-
-module _ (n m : ℕ) (line : List ℕ) where
-  module _ (kind : ℕ) where
-    pub no-terms : kind < 3 → true ≡ lineFits n m line kind
-    unfolding lineFits
-    no-terms h = rw (lt-ltb kind 3 h)
-
-    pub no-kind : 3 ≤ kind → kind ≢ 3 → kind ≢ 4 → kind ≢ 5 → kind ≢ 6 → kind ≢ 7 → false ≡ lineFits n m line kind
-    unfolding lineFits
-    no-kind h h3 h4 h5 h6 h7 =
-        rw (le-ltb kind 3 h, ne-eqb kind 3 h3, ne-eqb kind 4 h4, ne-eqb kind 5 h5, ne-eqb kind 6 h6, ne-eqb kind 7 h7)
-
-  fits : {kind : ℕ} → LineTerms n m line kind → lineFits n m line kind ≡ true
+module _ (n m : ℕ) (line : List ℕ) (kind : ℕ) where
+  pub by-line : Reflects (HasTerms kind → LineTerms n m line kind) (lineFits n m line kind)
   unfolding lineFits
-  fits (faults.of-implementation h) = is-so (by-terms n true _ _) h
-  fits (faults.of-specification h) = is-so (by-terms m true _ _) h
-  fits (faults.invariant h) = is-so (by-terms n false _ _) h
-  fits (faults.mapping h) = is-so (by-terms n false _ _) h
-  fits (faults.measure h) = is-so (by-terms n false _ _) h
-
-  has-terms : (kind : ℕ) → 3 ≤ kind → lineFits n m line kind ≡ true → LineTerms n m line kind
-  unfolding lineFits
-  has-terms kind h e =
-      either (by-eqb kind 3) (λ k. rw k (faults.of-implementation (says-yes (by-terms n true _ _) (rw k at e))))
-      (λ h3. either (by-eqb kind 4) (λ k. rw k (faults.of-specification (says-yes (by-terms m true _ _) (rw k at e))))
-      (λ h4. either (by-eqb kind 5) (λ k. rw k (faults.invariant (says-yes (by-terms n false _ _) (rw k at e))))
-      (λ h5. either (by-eqb kind 6) (λ k. rw k (faults.mapping (says-yes (by-terms n false _ _) (rw k at e))))
-      (λ h6. either (by-eqb kind 7) (λ k. rw k (faults.measure (says-yes (by-terms n false _ _) (rw k at e))))
-      (λ h7. absurd (false≢true (no-kind kind h h3 h4 h5 h6 h7 ∙ e)))))))
-
-  pub by-kind : (kind : ℕ) → 3 ≤ kind → Reflects (LineTerms n m line kind) (lineFits n m line kind)
-  by-kind kind h = by-iff (has-terms kind h) (λ t. fits t) (by-value (lineFits n m line kind))
-
-  pub by-line : (kind : ℕ) → Reflects (3 ≤ kind → LineTerms n m line kind) (lineFits n m line kind)
-  by-line kind =
-      by-iff (λ e h. has-terms kind h e) (λ t. either (by-ltb kind 3) (λ h. sym (no-terms kind h)) (λ h. fits (t (omega arith)))) (by-value (lineFits n m line kind))
+  by-line = by-if _ (by-value _) (λ _. by-terms _ _ _ _)
 
 -- ---- a text
 
@@ -163,11 +127,25 @@ module _ (lines : List (List ℕ)) where
 
   -- where the test says yes for each line, fault 6 is not in the text
   pub no-fault6 : ((line : List ℕ) → List·Memᴰ line lines → Fits line) → Fault6 lines → ⊥
-  no-fault6 each (faults.wrong-terms {line = line} at h wrong) = wrong (has-terms _ _ line (kindOf line) h (each line at))
+  no-fault6 each (faults.wrong-terms {line = line} at h wrong) = wrong (says-yes (by-line _ _ line (kindOf line)) (each line at) h)
 
   -- where it says no for one, it is
   pub fault6-at : {line : List ℕ} → List·Memᴰ line lines → lineFits (countOf 1 lines) (countOf 2 lines) line (kindOf line) ≡ false → Fault6 lines
-  fault6-at {line} at e =
-      either (by-ltb (kindOf line) 3)
-      (λ h. absurd (true≢false (no-terms _ _ line (kindOf line) h ∙ e)))
-      (λ h. let k : 3 ≤ kindOf line = omega arith in faults.wrong-terms at k (says-no (by-kind _ _ line (kindOf line) k) e))
+  fault6-at {line} at e = go (hasTerms (entryIn wholeText (kindOf line) .terms)) refl
+    where
+      not-so-it-is : (HasTerms (kindOf line) → LineTerms (countOf 1 lines) (countOf 2 lines) line (kindOf line)) → ⊥
+      not-so-it-is = says-no (by-line _ _ line (kindOf line)) e
+
+      go : (b : Bool) → hasTerms (entryIn wholeText (kindOf line) .terms) ≡ b → Fault6 lines
+      go true h = faults.wrong-terms at h (λ t. not-so-it-is (λ _. t))
+      go false h = absurd (not-so-it-is (λ y. absurd (true≢false (sym y ∙ h))))
+
+  -- so a line of a text without fault 6 is made of its terms
+  pub made-of : (Fault6 lines → ⊥) → {line : List ℕ} → List·Memᴰ line lines → HasTerms (kindOf line)
+      → LineTerms (countOf 1 lines) (countOf 2 lines) line (kindOf line)
+  made-of free {line} at h = go (by-line (countOf 1 lines) (countOf 2 lines) line (kindOf line))
+    where
+      go : {b : Bool} → Reflects (HasTerms (kindOf line) → LineTerms (countOf 1 lines) (countOf 2 lines) line (kindOf line)) b
+          → LineTerms (countOf 1 lines) (countOf 2 lines) line (kindOf line)
+      go (so p) = p h
+      go (not-so p) = absurd (free (faults.wrong-terms at h (λ t. p (λ _. t))))

@@ -2,13 +2,13 @@
 -- else. What it tests is `Terms` and `LineTerms` in design/specs/Faults; that it does is in proofs/LineFits. How terms are
 -- checked on a line's bytes is in the crate term_check.
 use Prim.Native.Nat.{ℕ}
-use mathlib.Core.Bool.{Bool, true, false, cond, _&&_}
+use mathlib.Core.Bool.{Bool, true, false, _&&_}
 use mathlib.Core.List.{List, [], _∷_}
-use lib.Dec.{eqb, ltb}
 use lib.ListN.{drop}
 use Rattle.terms.specs.Tree.{okV, okF}
 use Rattle.terms.specs.Read.{readV, readF}
-use Rattle.design.specs.Faults.{Sort, value, formula, nValues}
+use Rattle.foundation.specs.Reflects.{_⇒_}
+use Rattle.kinds.specs.Kinds.{wholeText, entryIn, Sort, value, formula, hasTerms, sortsOf, inRow, ownOf}
 
 -- no field is left
 abbrev pub nothing : List ℕ → Bool
@@ -25,21 +25,9 @@ termsFit n row (value ∷ sorts) fields =
 termsFit n row (formula ∷ sorts) fields =
     let f = readF 32 fields in okF (f .tree) n row && termsFit n row sorts (drop (f .used) fields)
 
--- a row's terms: "condition, data, one next value for each" parameter of its process, after kind, action and span
-abbrev pub rowFits : ℕ → List ℕ → Bool
-rowFits n line = termsFit n true (formula ∷ value ∷ nValues n) (drop 3 line)
-
--- the terms of a line of kind 5, 6 or 7, over the implementation's n parameters, after the kind
-abbrev pub lastFits : ℕ → List Sort → List ℕ → Bool
-lastFits n sorts line = termsFit n false sorts (drop 1 line)
-
--- The terms that a line has by its kind, where n lines are of kind 1 and m of kind 2. Lines of kinds below 3 have no terms; a kind
--- above 7 is none.
+-- the terms of a kind, after its numbers, where n lines are of kind 1 and m of kind 2; a kind without terms has nothing to keep
 unfoldable pub lineFits : ℕ → ℕ → List ℕ → ℕ → Bool
 lineFits n m line kind =
-    cond (ltb kind 3) true
-    (cond (eqb kind 3) (rowFits n line)
-    (cond (eqb kind 4) (rowFits m line)
-    (cond (eqb kind 5) (lastFits n (formula ∷ []) line)
-    (cond (eqb kind 6) (lastFits n (nValues m) line)
-    (cond (eqb kind 7) (lastFits n (value ∷ []) line) false)))))
+    let e = entryIn wholeText kind in
+    let own = ownOf (e .process) n m in
+    hasTerms (e .terms) ⇒ termsFit own (inRow (e .terms)) (sortsOf (e .terms) own m) (drop (e .fixed) line)

@@ -2,39 +2,41 @@
 //
 // Each term is checked where it starts (crate term_check), and the rest of the line after it is handed on as a part. Every function
 // answers any bytes. What is tested is in specs/LineFits; that it is the absence of fault 6, in proofs/LineFits.
+use kinds::Follow;
 use reader::Field;
 use term_check::Checked;
 ghost use mathlib.Core.Path.{_≡_};
 ghost use mathlib.Core.List.{_∷_};
 ghost use lib.ListN.{drop};
 ghost use Rattle.reader.specs.Line.{fieldsOf};
-ghost use Rattle.design.specs.Faults.{formula, nValues};
-ghost use Rattle.line_check.specs.LineFits.{nothing, termsFit, rowFits, lineFits};
+ghost use Rattle.kinds.specs.Kinds.{formula, nValues, sortsOf, inRow};
+ghost use Rattle.line_check.specs.LineFits.{nothing, termsFit, lineFits};
 
-// Whether a line of this kind is as it should be, where n lines of the text are of kind 1 and m of kind 2. Lines of kinds below 3
-// have no terms; kinds above 7 are no kinds.
+// Whether a line of this kind is as it should be, where n lines of the text are of kind 1 and m of kind 2.
 pub fn line_fits(line: &[u8], kind: u16, n: u16, m: u16) -> bool
     ensures { λ r. ⌜ r ≡ lineFits n m (fieldsOf (now (line .entry))) kind ⌝ }
 {
-    if kind < 3 {
+    let entry = kinds::entry_at(kind);
+    let terms = entry.terms;
+    if !kinds::has_terms(terms) {
         return true;
     }
-    match kind {
-        3 => row_fits(line, n),
-        4 => row_fits(line, m),
-        5 => formula_then_values_fit(after_field(line), 0, n, false),
-        6 => values_fit(after_field(line), m as usize, n, false),
-        7 => values_fit(after_field(line), 1, n, false),
-        _ => false,
-    }
+    let process = entry.process;
+    let params = kinds::own(process, n, m);
+    terms_fit(after_fields(line, entry.fixed), terms, params, m)
 }
 
-// Whether kind, action and span are followed by a condition, data and a next value for each parameter, and nothing else.
-fn row_fits(line: &[u8], params: u16) -> bool
-    ensures { λ r. ⌜ r ≡ rowFits params (fieldsOf (now (line .entry))) ⌝ }
+// Whether a part is the terms that follow, of n parameters, where m lines are of kind 2, and nothing else.
+fn terms_fit(part: &[u8], terms: Follow, n: u16, m: u16) -> bool
+    ensures { λ r. ⌜ r ≡ termsFit n (inRow terms) (sortsOf terms n m) (fieldsOf (now (part .entry))) ⌝ }
 {
-    let terms = after_field(after_field(after_field(line)));
-    formula_then_values_fit(terms, 1 + params as usize, params, true)
+    match terms {
+        Follow::Nothing => ended(part),
+        Follow::RowTerms => formula_then_values_fit(part, 1 + n as usize, n, true),
+        Follow::Formula => formula_then_values_fit(part, 0, n, false),
+        Follow::Mapped => values_fit(part, m as usize, n, false),
+        Follow::Value => values_fit(part, 1, n, false),
+    }
 }
 
 // Whether a part is a formula and so many values, of so many parameters, in a row or not, and nothing else.
@@ -77,13 +79,20 @@ fn ended(part: &[u8]) -> bool
     false // a field is left: the line ends late
 }
 
-// What is left of a part after its first field; a part with no field as it is.
-fn after_field(part: &[u8]) -> &[u8]
-    ensures { λ r. ⌜ fieldsOf (now r) ≡ drop 1 (fieldsOf (now (part .entry))) ⌝ }
+// What is left of a part after n fields; of a part with fewer, what stands after its last.
+fn after_fields(part: &[u8], n: usize) -> &[u8]
+    ensures { λ r. ⌜ fieldsOf (now r) ≡ drop n (fieldsOf (now (part .entry))) ⌝ }
 {
-    let first = reader::field_at(part, 0);
-    let Field::Number(_) = first else {
-        return part;
-    };
-    reader::rest(part, 1)
+    let mut left = part;
+    let mut i = 0;
+    while i < n {
+        let first = reader::field_at(left, 0);
+        let Field::Number(_) = first else {
+            return left;
+        };
+        let after = reader::rest(left, 1);
+        left = after;
+        i += 1;
+    }
+    left
 }

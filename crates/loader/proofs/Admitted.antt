@@ -1,7 +1,6 @@
 -- The design of a design text is admitted: its sizes, initial values and spans are in bounds, and its rows keep fault 7's rules.
 use Prim.Native.Nat.{ℕ, zero, suc, _≤_, _<_}
 use mathlib.Core.Path.{refl}
-use mathlib.Core.Logic.{inl, inr}
 use mathlib.Core.List.{List, [], _∷_, map, List·Memᴰ·head, List·Memᴰ·tail, List·Memᴰ·not-nil}
 use native.Mathlib.Omega.{arith}
 use lib.ListN.{getD}
@@ -13,6 +12,7 @@ use Rattle.reader.specs.Text.{fieldsByLine, Lines}
 use Rattle.reader.specs.Text as text
 use Rattle.reader.proofs.Written.{text-lines-good}
 use Rattle.criteria.specs.Design.{Parameter, Row, Admitted}
+use Rattle.kinds.specs.Kinds.{entryIn}
 use Rattle.design.specs.Line.{parameterOf, rowOf}
 use Rattle.design.specs.Lines.{ofKind, designOf}
 use Rattle.design.specs.Faults.{IsParameter, IsRow, second, fifth, seventh, DesignText}
@@ -58,14 +58,14 @@ module _ (t : List ℕ) (d : DesignText t) where
       (λ l m. let o = of-kind k lines l m in bounds .numbers l (o .1) .1 (rw (o .0) p))
 
   pub text-admitted : Admitted (designOf lines)
-  unfolding designOf
+  unfolding designOf entryIn
   text-admitted =
       let rows = rows-admitted (designOf lines) (λ f. d 7 (seventh f)) in
       record {
-        impl-sizes = parameters 1 (inl refl);
-        spec-sizes = parameters 2 (inr refl);
-        impl-spans = spans 3 _ (inl refl);
-        spec-spans = spans 4 _ (inr refl);
+        impl-sizes = parameters 1 refl;
+        spec-sizes = parameters 2 refl;
+        impl-spans = spans 3 _ refl;
+        spec-spans = spans 4 _ refl;
         few-states = rw (sizes-same (ofKind 1 lines)) (bounds .few-states);
         impl-one-row = rows .impl-one-row;
         spec-one-row = rows .spec-one-row;

@@ -9,10 +9,12 @@ use lib.ListN.{length, replicate, length-append}
 use Rattle.foundation.proofs.Reflects.{is-not}
 use Rattle.reader.specs.Text.{fieldsByLine, columnsFault}
 use Rattle.reader.proofs.Faults.{columns-free, most-in-all}
+use Rattle.kinds.specs.Kinds.{wholeText}
 use Rattle.design.specs.Lines.{ofKind, countsOf}
 use Rattle.design.specs.Loaded.{heldLines, fieldsHeld, startsHeld}
 use Rattle.design.specs.declared.Counts.{Counts}
-use Rattle.design.proofs.Fault4.{Layout, by-layout, layout-of, in-order}
+use Rattle.design.proofs.Fault4.{Layout, by-layout, layout-of}
+use Rattle.design.proofs.WholeText.{in-order, counted}
 use Rattle.design.proofs.Loaded.{lines-held}
 use Rattle.loader.specs.Filled.{Filled}
 use Rattle.loader.specs.Load.{tableFault, faultOf, refusedBy, loadedOf, Holds}
@@ -20,7 +22,7 @@ use Rattle.loader.specs.declared.Loaded.{Loaded}
 
 -- ---- lines without fault 4 are at most 83
 
-module _ (lines : List (List ℕ)) (l : Layout lines) where
+module _ (lines : List (List ℕ)) (l : Layout wholeText lines) where
   abbrev k : ℕ → ℕ
   k i = length (ofKind i lines)
 
@@ -37,20 +39,21 @@ module _ (lines : List (List ℕ)) (l : Layout lines) where
   pub few-lines : length lines ≤ 83
   few-lines =
       let a = all-lines in
-      let h1 = l .counts 1 (omega arith) (omega arith) .1 in
-      let h2 = l .counts 2 (omega arith) (omega arith) .1 in
-      let h3 = l .counts 3 (omega arith) (omega arith) .1 in
-      let h4 = l .counts 4 (omega arith) (omega arith) .1 in
-      let h5 = l .counts 5 (omega arith) (omega arith) .1 in
-      let h6 = l .counts 6 (omega arith) (omega arith) .1 in
-      let h7 = l .counts 7 (omega arith) (omega arith) .1 in
+      let c = counted l in
+      let h1 = c .kind1 .1 in
+      let h2 = c .kind2 .1 in
+      let h3 = c .kind3 in
+      let h4 = c .kind4 in
+      let h5 = c .kind5 in
+      let h6 = c .kind6 in
+      let h7 = c .kind7 in
       omega arith
 
 -- so more have fault 4
 pub many-lines : (lines : List (List ℕ)) → 83 < length lines → tableFault lines ≡ 4
 unfolding tableFault
 many-lines lines h =
-    rw (is-not (by-layout lines) (λ free. let f = few-lines lines (layout-of lines free) in omega arith))
+    rw (is-not (by-layout wholeText lines) (λ free. let f = few-lines lines (layout-of wholeText lines free) in omega arith))
 
 -- ---- the search ends
 

@@ -13,6 +13,7 @@ use Rattle.foundation.proofs.Reflects.{says-yes, by-value}
 use Rattle.reader.specs.Text.{fieldsByLine, Fault1, Fault2, Fault3, ColumnsFault, columnsFault}
 use Rattle.reader.specs.Text as text
 use Rattle.reader.proofs.Faults.{columns-lowest, ColumnsFree, columns-free}
+use Rattle.kinds.specs.Kinds.{wholeText}
 use Rattle.design.specs.Lines.{countOf, designOf}
 use Rattle.design.specs.Faults.{Fault4, Fault5, Fault6, Fault, first, second, third, fourth, fifth, sixth, seventh, LowestFault, DesignText}
 use Rattle.design.specs.Tests.{layoutFits, boundsFit}
@@ -36,7 +37,7 @@ module _ {t : List ℕ} where
   no-3 : (Fault3 t → ⊥) → Fault t 3 → ⊥
   no-3 n (third f) = n f
 
-  no-4 : (Fault4 (fieldsByLine t) → ⊥) → Fault t 4 → ⊥
+  no-4 : (Fault4 wholeText (fieldsByLine t) → ⊥) → Fault t 4 → ⊥
   no-4 n (fourth f) = n f
 
   no-5 : (Fault5 (fieldsByLine t) → ⊥) → Fault t 5 → ⊥
@@ -69,13 +70,13 @@ module _ (t : List ℕ) (columns : ColumnsFree t) where
   of-lines f = given (past (no-1 (columns .first)) (past (no-2 (columns .second)) (past (no-3 (columns .third)) f)))
 
   -- by the four tests
-  table : (a b c d : Bool) → layoutFits lines ≡ a → boundsFit lines ≡ b → termsFitAll lines ≡ c → actionsFit (designOf lines) ≡ d
+  table : (a b c d : Bool) → layoutFits wholeText lines ≡ a → boundsFit lines ≡ b → termsFitAll lines ≡ c → actionsFit (designOf lines) ≡ d
       → Settled t (cond a (cond b (cond c (cond d 0 7) 6) 5) 4)
-  table false b c d ea eb ec ed = of-lines (here (fourth (has-fault4 lines ea)))
+  table false b c d ea eb ec ed = of-lines (here (fourth (has-fault4 wholeText lines ea)))
   table true b c d ea eb ec ed = after-4 b c d eb ec ed
     where
-      no4 : Fault4 lines → ⊥
-      no4 = says-yes (by-layout lines) ea
+      no4 : Fault4 wholeText lines → ⊥
+      no4 = says-yes (by-layout wholeText lines) ea
 
       after-4 : (b c d : Bool) → boundsFit lines ≡ b → termsFitAll lines ≡ c → actionsFit (designOf lines) ≡ d
           → Settled t (cond b (cond c (cond d 0 7) 6) 5)

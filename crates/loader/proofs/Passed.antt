@@ -10,18 +10,19 @@ use Rattle.foundation.proofs.Reflects.{says-yes}
 use Rattle.reader.specs.Text.{fieldsByLine, columnsFault}
 use Rattle.reader.proofs.Faults.{columns-free, most-in-all}
 use Rattle.criteria.specs.Design.{Admitted}
+use Rattle.kinds.specs.Kinds.{wholeText}
 use Rattle.design.specs.Lines.{kindOf, countOf, countsOf, designOf}
 use Rattle.design.specs.Faults.{DesignText}
 use Rattle.design.specs.Loaded.{fieldsHeld, startsHeld, designIn}
 use Rattle.design.specs.Tests.{layoutFits, boundsFit}
 use Rattle.design.proofs.Each.{by-each-line}
 use Rattle.design.proofs.Fault4.{Layout, by-layout, layout-of}
+use Rattle.design.proofs.WholeText.{counted}
 use Rattle.design.proofs.Same.{Made, design-held}
 use Rattle.layout.specs.Sizes.{countsFit}
 use Rattle.line_check.proofs.LineFits.{by-line}
 use Rattle.action_check.specs.ActionsFit.{actionsFit}
 use Rattle.loader.specs.Load.{lineTest, termsFitAll, tableFault, faultOf}
-use Rattle.loader.proofs.Table.{allows}
 use Rattle.loader.proofs.Loading.{few-lines}
 use Rattle.loader.proofs.Lowest.{free-exactly}
 use Rattle.loader.proofs.Admitted.{text-admitted}
@@ -46,12 +47,12 @@ module _ (text : List ℕ) (ok : faultOf text ≡ 0) where
   unfolding faultOf
   parts = columns-by (columnsFault text) (tableFault lines) _ refl ok
 
-  tests : (layoutFits lines ≡ true) × (termsFitAll lines ≡ true)
+  tests : (layoutFits wholeText lines ≡ true) × (termsFitAll lines ≡ true)
   unfolding tableFault
-  tests = tests-by (layoutFits lines) (boundsFit lines) (termsFitAll lines) (actionsFit (designOf lines)) (parts .1)
+  tests = tests-by (layoutFits wholeText lines) (boundsFit lines) (termsFitAll lines) (actionsFit (designOf lines)) (parts .1)
 
-  lay : Layout lines
-  lay = layout-of lines (says-yes (by-layout lines) (tests .0))
+  lay : Layout wholeText lines
+  lay = layout-of wholeText lines (says-yes (by-layout wholeText lines) (tests .0))
 
   made : Made lines
   made =
@@ -68,4 +69,4 @@ module _ (text : List ℕ) (ok : faultOf text ≡ 0) where
   design-in = design-held lines (few-lines lines lay) (most-in-all text (columns-free text (parts .0) .third)) lay made
 
   pub counts-allowed : countsFit (countsOf lines) ≡ true
-  counts-allowed = let q = allows lines lay in rw (le-leb _ 8 (q .kind1), le-leb _ 8 (q .kind2), le-leb _ 32 (q .kind3), le-leb _ 32 (q .kind4))
+  counts-allowed = let q = counted lay in rw (le-leb _ 8 (q .kind1 .1), le-leb _ 8 (q .kind2 .1), le-leb _ 32 (q .kind3), le-leb _ 32 (q .kind4))

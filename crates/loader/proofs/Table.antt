@@ -15,6 +15,7 @@ use Rattle.foundation.proofs.Reflects.{says-yes}
 use Rattle.reader.specs.Text.{fieldsByLine, countAll, columnsFault}
 use Rattle.reader.proofs.Faults.{columns-free, most-in-all}
 use Rattle.criteria.specs.Design.{Parameter}
+use Rattle.kinds.specs.Kinds.{wholeText}
 use Rattle.design.specs.Line.{parameterOf}
 use Rattle.design.specs.Lines.{kindOf, ofKind, countOf, countsOf, designOf}
 use Rattle.design.specs.Faults.{sizeOf}
@@ -22,6 +23,7 @@ use Rattle.design.specs.Loaded.{heldLines, fieldsHeld, startsHeld}
 use Rattle.design.specs.Tests.{eachLineIs, layoutFits, numbersFit, boundsFit}
 use Rattle.design.specs.declared.Counts.{Counts}
 use Rattle.design.proofs.Fault4.{Layout, by-layout, layout-of}
+use Rattle.design.proofs.WholeText.{counted}
 use Rattle.design.proofs.Each.{by-each-line}
 use Rattle.design.proofs.Loaded.{lines-held}
 use Rattle.design.proofs.Same.{Made, parameters1, design-held}
@@ -30,22 +32,6 @@ use Rattle.line_check.proofs.LineFits.{by-line}
 use Rattle.action_check.specs.ActionsFit.{actionsFit, actionsFitIn}
 use Rattle.action_check.proofs.ActionsFit.{in-arrays}
 use Rattle.loader.specs.Load.{lineTest, termsFitAll, tableFault, Holds}
-
--- the counts of lines that fault 4 allows
-pub record Allows (lines : List (List ℕ)) : Type 0 where
-  pub kind1 : countOf 1 lines ≤ 8
-  pub kind2 : countOf 2 lines ≤ 8
-  pub kind3 : countOf 3 lines ≤ 32
-  pub kind4 : countOf 4 lines ≤ 32
-
-pub allows : (lines : List (List ℕ)) → Layout lines → Allows lines
-allows lines l =
-    record {
-      kind1 = l .counts 1 (omega arith) (omega arith) .1;
-      kind2 = l .counts 2 (omega arith) (omega arith) .1;
-      kind3 = l .counts 3 (omega arith) (omega arith) .1;
-      kind4 = l .counts 4 (omega arith) (omega arith) .1;
-    }
 
 -- the sizes of parameters are those of their lines
 pub sizes-same : (lines : List (List ℕ)) → map (λ (q : Parameter). q .size) (map parameterOf lines) ≡ map sizeOf lines
@@ -68,20 +54,20 @@ module _ (text fields starts : List ℕ) (n : ℕ) (c : Counts) (h : Holds text 
   held : heldLines fields starts n ≡ lines
   held = rw (h .fields-held, h .starts-held, h .lines-all) (lines-held lines few fit)
 
-  module _ (a : Bool) (ea : a ≡ layoutFits (heldLines fields starts n)) where
-    layout-is : layoutFits lines ≡ a
-    layout-is = sym (ea ∙ ap layoutFits held)
+  module _ (a : Bool) (ea : a ≡ layoutFits wholeText (heldLines fields starts n)) where
+    layout-is : layoutFits wholeText lines ≡ a
+    layout-is = sym (ea ∙ ap (layoutFits wholeText) held)
 
     pub fault-4 : not a ≡ true → 4 ≡ tableFault lines
     unfolding tableFault
     fault-4 e = rw (layout-is, not-true a e)
 
     module _ (ha : not a ≡ false) where
-      four : layoutFits lines ≡ true
+      four : layoutFits wholeText lines ≡ true
       four = layout-is ∙ not-false a ha
 
-      lay : Layout lines
-      lay = layout-of lines (says-yes (by-layout lines) four)
+      lay : Layout wholeText lines
+      lay = layout-of wholeText lines (says-yes (by-layout wholeText lines) four)
 
       module _ (b : Bool) (eb : b ≡ eachLineIs numbersFit (heldLines fields starts n)) where
         numbers-are : eachLineIs numbersFit lines ≡ b
@@ -93,7 +79,7 @@ module _ (text fields starts : List ℕ) (n : ℕ) (c : Counts) (h : Holds text 
 
         module _ (hb : not b ≡ false) (m : ℕ) (em : m ≡ stateCountIn fields starts c) where
           counts-fit : countsFit (countsOf lines) ≡ true
-          counts-fit = let q = allows lines lay in rw (le-leb _ 8 (q .kind1), le-leb _ 8 (q .kind2), le-leb _ 32 (q .kind3), le-leb _ 32 (q .kind4))
+          counts-fit = let q = counted lay in rw (le-leb _ 8 (q .kind1 .1), le-leb _ 8 (q .kind2 .1), le-leb _ 32 (q .kind3), le-leb _ 32 (q .kind4))
 
           -- how many states there are
           product-is : m ≡ min (product (map sizeOf (ofKind 1 lines))) 65537
@@ -121,10 +107,10 @@ module _ (text fields starts : List ℕ) (n : ℕ) (c : Counts) (h : Holds text 
             kind2-is = ap (λ x. x .kind2) (h .counts-all)
 
             pub fits-1 : Fits w16 (c .kind1)
-            fits-1 = let q = allows lines lay .kind1 in let e = kind1-is in record { fits = omega arith }
+            fits-1 = let q = counted lay .kind1 .1 in let e = kind1-is in record { fits = omega arith }
 
             pub fits-2 : Fits w16 (c .kind2)
-            fits-2 = let q = allows lines lay .kind2 in let e = kind2-is in record { fits = omega arith }
+            fits-2 = let q = counted lay .kind2 .1 in let e = kind2-is in record { fits = omega arith }
 
             module _ (t : Bool) (et : t ≡ eachLineIs (lineTest (c .kind1) (c .kind2)) (fieldsByLine text)) where
               terms-are : termsFitAll lines ≡ t
@@ -142,11 +128,11 @@ module _ (text fields starts : List ℕ) (n : ℕ) (c : Counts) (h : Holds text 
 
                 actions-are : actionsFit (designOf lines) ≡ u
                 actions-are =
-                    let q = allows lines lay in
+                    let q = counted lay in
                     sym
                     (eu
                     ∙ rw (h .fields-held, h .starts-held, h .counts-all)
-                    (in-arrays (fieldsHeld lines) (startsHeld lines) (countsOf lines) (q .kind1) (q .kind2) (q .kind3) (q .kind4) ∙ ap actionsFit (design-held lines few fit lay made)))
+                    (in-arrays (fieldsHeld lines) (startsHeld lines) (countsOf lines) (q .kind1 .1) (q .kind2 .1) (q .kind3) (q .kind4) ∙ ap actionsFit (design-held lines few fit lay made)))
 
                 pub fault-7 : not u ≡ true → 7 ≡ tableFault lines
                 unfolding tableFault

@@ -9,6 +9,7 @@ use lib.Dec.{eqb}
 use lib.ListN.{length, replicate}
 use Rattle.limits.specs.Limits.{maxFields, maxLines, lineStarts}
 use Rattle.reader.specs.Text.{fieldsByLine, columnsFault}
+use Rattle.kinds.specs.Kinds.{wholeText}
 use Rattle.design.specs.Lines.{kindOf, countOf, countsOf, designOf}
 use Rattle.design.specs.Loaded.{fieldsHeld, startsHeld}
 use Rattle.design.specs.Tests.{eachLineIs, layoutFits, boundsFit}
@@ -27,7 +28,7 @@ termsFitAll lines = eachLineIs (lineTest (countOf 1 lines) (countOf 2 lines)) li
 -- the lowest of 4 to 7, or 0
 unfoldable pub tableFault : List (List ℕ) → ℕ
 tableFault lines =
-    cond (layoutFits lines) (cond (boundsFit lines) (cond (termsFitAll lines) (cond (actionsFit (designOf lines)) 0 7) 6) 5) 4
+    cond (layoutFits wholeText lines) (cond (boundsFit lines) (cond (termsFitAll lines) (cond (actionsFit (designOf lines)) 0 7) 6) 5) 4
 
 -- the lowest of 1 to 7, or 0
 unfoldable pub faultOf : List ℕ → ℕ

@@ -5,18 +5,15 @@ use design::Counts;
 use reader::Field;
 use reader::LineReader;
 ghost use mathlib.Core.Path.{_≡_};
-ghost use mathlib.Core.Bool.{cond, _&&_};
-ghost use lib.Dec.{leb};
 ghost use Prim.Native.Nat.{_+_, _<_, _≤_};
-ghost use lib.ListN.{length, getD};
+ghost use lib.ListN.{length};
 ghost use lib.Seq.{sets};
 ghost use Rattle.reader.specs.Line.{fieldsOf};
 ghost use Rattle.reader.specs.Text.{fieldsByLine, columnsFault};
-ghost use Rattle.design.specs.Lines.{kindOf, countOf, countsOf};
-ghost use Rattle.design.specs.Loaded.{lineAt, heldLines};
+ghost use Rattle.design.specs.Lines.{kindOf};
+ghost use Rattle.design.specs.Tests.{eachLineIs};
 ghost use Rattle.loader.specs.Filled.{Filled, stored};
 ghost use Rattle.loader.specs.Load.{lineTest, tableFault, loadedOf, refusedBy, Holds};
-ghost use Rattle.design.specs.Tests.{climbs, countsFit, layoutFits, eachLineIs, isParameter, isRow, lengthFitsBy, lengthFits, numbersFitBy, numbersFit};
 
 // A text's fault, or 0; then the arrays hold the text's lines.
 pub struct Loaded {
@@ -25,8 +22,6 @@ pub struct Loaded {
     pub starts: limits::Starts,
     pub counts: Counts,
 }
-
-const LAST_KIND: u16 = 7;
 
 // The lowest fault of a text, or the arrays that hold it.
 pub fn load(text: &[u8]) -> Loaded
@@ -42,7 +37,7 @@ pub fn load(text: &[u8]) -> Loaded
     if limits::MAX_LINES < lines {
         return refused(4);
     }
-    let counts = counts_of(&fields, &starts, lines);
+    let counts = table_check::counts_of(&fields, &starts, lines);
     let fault = table_fault(text, &fields, &starts, lines, counts);
     if fault != 0 {
         return refused(fault);
@@ -83,10 +78,10 @@ fn table_fault<'a>(
     requires { ⌜ Holds (now text) (now fields) (now starts) lines counts ⌝ }
     ensures { λ r. ⌜ r ≡ tableFault (fieldsByLine (now (text .entry))) ⌝ }
 {
-    if !layout_fits(fields, starts, lines) {
+    if !table_check::layout_fits(fields, starts, lines) {
         return 4;
     }
-    if !numbers_fit(fields, starts, lines) {
+    if !table_check::numbers_fit(fields, starts, lines) {
         return 5;
     }
     if limits::MAX_STATES < layout::state_count(fields, starts, counts) {
@@ -99,59 +94,6 @@ fn table_fault<'a>(
         return 7;
     }
     0
-}
-
-// Whether the first n lines have known kinds that do not fall, as many of each as there may be, and the fields that they need.
-fn layout_fits<'a>(fields: &'a [u16], starts: &'a [u16], n: usize) -> bool
-    ensures { λ r. ⌜ r ≡ layoutFits (heldLines (now (fields .entry)) (now (starts .entry)) n) ⌝ }
-{
-    if !kinds_climb(fields, starts, n) {
-        return false;
-    }
-    if !counts_fit(fields, starts, n) {
-        return false;
-    }
-    lengths_fit(fields, starts, n)
-}
-
-// Whether the first n lines have as many of each kind as there may be.
-fn counts_fit<'a>(fields: &'a [u16], starts: &'a [u16], n: usize) -> bool
-    ensures { λ r. ⌜ r ≡ countsFit (heldLines (now (fields .entry)) (now (starts .entry)) n) ⌝ }
-{
-    count_fits(fields, starts, n, 1, 1, limits::MAX_PARAMETERS)
-        & (count_fits(fields, starts, n, 2, 1, limits::MAX_PARAMETERS)
-            & (count_fits(fields, starts, n, 3, 0, limits::MAX_ROWS)
-                & (count_fits(fields, starts, n, 4, 0, limits::MAX_ROWS)
-                    & (count_fits(fields, starts, n, 5, 1, 1)
-                        & (count_fits(fields, starts, n, 6, 1, 1)
-                            & count_fits(fields, starts, n, 7, 1, 1))))))
-}
-
-// Whether there are no fewer and no more lines of a kind.
-fn count_fits<'a>(
-    fields: &'a [u16],
-    starts: &'a [u16],
-    n: usize,
-    kind: u16,
-    fewest: usize,
-    most: usize,
-) -> bool
-    ensures { λ r. ⌜ r ≡ leb fewest (countOf kind (heldLines (now (fields .entry)) (now (starts .entry)) n)) && leb (countOf kind (heldLines (now (fields .entry)) (now (starts .entry)) n)) most ⌝ }
-{
-    let count = count_kind(fields, starts, n, kind);
-    (fewest <= count) & (count <= most)
-}
-
-// How many of the first n lines are of kinds 1 to 4.
-fn counts_of<'a>(fields: &'a limits::Fields, starts: &'a limits::Starts, n: usize) -> Counts
-    ensures { λ r. ⌜ r ≡ countsOf (heldLines (now (fields .entry)) (now (starts .entry)) n) ⌝ }
-{
-    Counts {
-        kind1: count_kind(fields, starts, n, 1),
-        kind2: count_kind(fields, starts, n, 2),
-        kind3: count_kind(fields, starts, n, 3),
-        kind4: count_kind(fields, starts, n, 4),
-    }
 }
 
 // Whether each line is the terms of its kind, where n lines are of kind 1 and m of kind 2.
@@ -239,166 +181,4 @@ fn store(fields: &mut limits::Fields, at: usize, field: Field)
         return;
     };
     fields[at] = n;
-}
-
-// How many fields line i has.
-fn line_length<'a>(fields: &'a [u16], starts: &'a [u16], i: usize) -> usize
-    ensures { λ r. ⌜ r ≡ length (lineAt (now (fields .entry)) (now (starts .entry)) i) ⌝ }
-{
-    if starts.len() <= i {
-        return 0;
-    }
-    let start = terms::field(starts, i) as usize;
-    let end = terms::field(starts, i + 1) as usize;
-    if end <= start {
-        return 0;
-    }
-    if fields.len() <= start {
-        return 0;
-    }
-    if end <= fields.len() {
-        end - start
-    } else {
-        fields.len() - start
-    }
-}
-
-// Field j of line i, and 0 past its end.
-fn line_field<'a>(fields: &'a [u16], starts: &'a [u16], i: usize, j: usize) -> u16
-    ensures { λ r. ⌜ r ≡ getD (lineAt (now (fields .entry)) (now (starts .entry)) i) j 0 ⌝ }
-{
-    if j < line_length(fields, starts, i) {
-        let start = terms::field(starts, i) as usize;
-        terms::field(fields, start + j)
-    } else {
-        0
-    }
-}
-
-// Whether the first n lines' kinds are known and do not fall.
-fn kinds_climb<'a>(fields: &'a [u16], starts: &'a [u16], n: usize) -> bool
-    ensures { λ r. ⌜ r ≡ climbs 1 (heldLines (now (fields .entry)) (now (starts .entry)) n) ⌝ }
-{
-    let mut lowest = 1;
-    let mut i = 0;
-    while i < n {
-        let kind = line_field(fields, starts, i, 0);
-        if kind < lowest {
-            return false;
-        }
-        if LAST_KIND < kind {
-            return false;
-        }
-        lowest = kind;
-        i += 1;
-    }
-    true
-}
-
-// How many of the first n lines are of a kind.
-fn count_kind<'a>(fields: &'a [u16], starts: &'a [u16], n: usize, kind: u16) -> usize
-    ensures { λ r. ⌜ r ≡ countOf kind (heldLines (now (fields .entry)) (now (starts .entry)) n) ⌝ }
-{
-    let mut count = 0;
-    let mut i = 0;
-    while i < n {
-        count += one_if(line_field(fields, starts, i, 0) == kind);
-        i += 1;
-    }
-    count
-}
-
-// Whether each of the first n lines has as many fields as its kind asks for.
-fn lengths_fit<'a>(fields: &'a [u16], starts: &'a [u16], n: usize) -> bool
-    ensures { λ r. ⌜ r ≡ eachLineIs lengthFits (heldLines (now (fields .entry)) (now (starts .entry)) n) ⌝ }
-{
-    let mut i = 0;
-    while i < n {
-        if length_fits(fields, starts, i) {
-            i += 1;
-        } else {
-            return false;
-        }
-    }
-    true
-}
-
-// Whether each of the first n lines has its size, initial value or span in bounds.
-fn numbers_fit<'a>(fields: &'a [u16], starts: &'a [u16], n: usize) -> bool
-    ensures { λ r. ⌜ r ≡ eachLineIs numbersFit (heldLines (now (fields .entry)) (now (starts .entry)) n) ⌝ }
-{
-    let mut i = 0;
-    while i < n {
-        if line_numbers_fit(fields, starts, i) {
-            i += 1;
-        } else {
-            return false;
-        }
-    }
-    true
-}
-
-// Whether line i has as many fields as its kind asks for.
-fn length_fits<'a>(fields: &'a [u16], starts: &'a [u16], i: usize) -> bool
-    ensures { λ r. ⌜ r ≡ lengthFits (lineAt (now (fields .entry)) (now (starts .entry)) i) ⌝ }
-{
-    length_fits_kind(
-        line_field(fields, starts, i, 0),
-        line_length(fields, starts, i),
-    )
-}
-
-// Not "a kind 1 or 2 line without exactly three fields, a row line with fewer than three".
-fn length_fits_kind(kind: u16, length: usize) -> bool
-    ensures { λ r. ⌜ r ≡ lengthFitsBy kind length ⌝ }
-{
-    if is_parameter(kind) {
-        return length == 3;
-    }
-    if is_row(kind) {
-        return 3 <= length;
-    }
-    true
-}
-
-// Whether line i has its size, initial value or span in bounds.
-fn line_numbers_fit<'a>(fields: &'a [u16], starts: &'a [u16], i: usize) -> bool
-    ensures { λ r. ⌜ r ≡ numbersFit (lineAt (now (fields .entry)) (now (starts .entry)) i) ⌝ }
-{
-    numbers_fit_kind(
-        line_field(fields, starts, i, 0),
-        line_field(fields, starts, i, 1),
-        line_field(fields, starts, i, 2),
-    )
-}
-
-// "Sizes and spans are at least 1, spans at most 256, initial values below their size."
-fn numbers_fit_kind(kind: u16, first: u16, second: u16) -> bool
-    ensures { λ r. ⌜ r ≡ numbersFitBy kind first second ⌝ }
-{
-    if is_parameter(kind) {
-        return (1 <= first) & (second < first);
-    }
-    if is_row(kind) {
-        return (1 <= second) & (second <= limits::MAX_SPAN);
-    }
-    true
-}
-
-fn one_if(b: bool) -> usize
-    ensures { λ r. ⌜ (r ≡ cond b 1 0) × (r ≤ 1) ⌝ }
-{
-    if b { 1 } else { 0 }
-}
-
-fn is_parameter(kind: u16) -> bool
-    ensures { λ r. ⌜ r ≡ isParameter kind ⌝ }
-{
-    (kind == 1) | (kind == 2)
-}
-
-fn is_row(kind: u16) -> bool
-    ensures { λ r. ⌜ r ≡ isRow kind ⌝ }
-{
-    (kind == 3) | (kind == 4)
 }

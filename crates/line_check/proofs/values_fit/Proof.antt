@@ -4,7 +4,7 @@ use mathlib.Core.Path.{_≡_}
 use native.Mathlib.Omega.{arith}
 use borrow.Author.Needs.{needs}
 use Rattle.reader.specs.Line.{fieldsOf}
-use Rattle.design.specs.Faults.{nValues}
+use Rattle.kinds.specs.Kinds.{nValues}
 use Rattle.line_check.specs.LineFits.{termsFit}
 use Rattle.line_check.proofs.Laws as laws
 use Rattle.line_check.proofs.values_fit.Statement.{statement}
