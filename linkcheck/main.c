@@ -1,5 +1,6 @@
 /* linkcheck: the price link checker at a terminal and in scripts. Here are its arguments; run.c has the check of a list of files. */
 #define _POSIX_C_SOURCE 200809L
+#include "../include/checker.h"
 #include "explain.h"
 #include "input.h"
 #include "names.h"
@@ -42,6 +43,7 @@ static const char help[] =
     "      and an action with its data, as \"a2(1)\". At most 65,536 states, as many as a board can have.\n"
     "  linkcheck --dot [impl|spec] FILE\n"
     "      The same as a Graphviz picture, up to 1,000 states; focus points have a double line.\n"
+    "  linkcheck --version\n"
     "  linkcheck --help\n"
     "\n"
     "Exit status: 0 all accepted, 1 some failed, 2 some turned down, 3 something could not be read, checked or\n"
@@ -121,6 +123,9 @@ static struct arguments take_arguments(int count, char **argument) {
             options_end = 1;
         } else if (strcmp(arg, "--help") == 0) {
             put(&standard_output, help);
+            exit(finished(0));
+        } else if (strcmp(arg, "--version") == 0) {
+            put(&standard_output, "linkcheck " CHECKER_VERSION "\n");
             exit(finished(0));
         } else if (strncmp(arg, "-j", 2) == 0) {
             const char *number = arg[2] ? arg + 2 : i + 1 < count ? argument[++i] : NULL;

@@ -93,6 +93,7 @@ status 2 --aut impl "$none"
 status 1 --aut impl "$tables/P_inv_false.txt"
 status 3 --dot spec "$work/missing"
 status 0 --help
+[ "$("$linkcheck" --version)" = "linkcheck $(cat VERSION)" ] || fail "--version is not that of the file VERSION"
 status 2 --columns README.md
 status 3 --columns "$work/missing"
 status 2 /dev/zero
