@@ -15,17 +15,17 @@ use Rattle.decision.specs.Tests.{holds1}
 use Rattle.decision.specs.Verdict.{verdictOf}
 use Rattle.reader.specs.Text.{fieldsByLine}
 use Rattle.loader.specs.Load.{faultOf, heldBy, loadedOf}
-use Rattle.desk.specs.declared.Phase.{Phase}
-use Rattle.desk.specs.declared.Phase.the-variants as phase
-use Rattle.desk.specs.declared.Done.{Done}
-use Rattle.desk.specs.declared.Done.the-variants as done
-use Rattle.desk.specs.declared.Advance.the-variants as progress
+use Rattle.answers.specs.declared.Phase.{Phase}
+use Rattle.answers.specs.declared.Phase.the-variants as phase
+use Rattle.answers.specs.declared.Done.{Done}
+use Rattle.answers.specs.declared.Done.the-variants as done
+use Rattle.answers.specs.declared.Advance.the-variants as progress
 use Rattle.desk.specs.declared.Desk.{Desk}
 use Rattle.desk.specs.declared.AfterAdvance.{AfterAdvance}
 use Rattle.desk.specs.declared.AfterVerdict.{AfterVerdict}
-use Rattle.desk.specs.declared.Verdict.{Verdict}
-use Rattle.desk.specs.Answers.{countSaid, Decided, verdictNumbers}
-use Rattle.desk.specs.Answers as answers
+use Rattle.answers.specs.declared.Verdict.{Verdict}
+use Rattle.answers.specs.Answers.{countSaid, Decided, verdictNumbers}
+use Rattle.answers.specs.Answers as answers
 use Rattle.criteria.specs.Verdict as criteria
 use Rattle.checker.specs.Said.{saidVerdict}
 use Rattle.checker.specs.OneCall.{designReport}

@@ -6,7 +6,7 @@
 // call's line; the lines of the texts are not counted. Where standard input can't be read or an answer can't be written the program ends
 // with a line on standard error, and makes no more calls.
 //
-// What a line says is in call_lines, what is answered in answer_lines; here they are read and written.
+// What a line says is in call_lines, what a call answers in calls and its line in answer_lines; here they are read and written.
 use answer_lines::Stop;
 use call_lines::Call;
 use desk::Desk;
@@ -121,7 +121,7 @@ fn run_call(
 }
 
 fn run_load(desk: Desk, space: &mut [u8; streams::BLOCK], ahead: Ahead, n: u64, line: u64) -> Step {
-    let mut room = [0u8; answer_lines::ENOUGH];
+    let mut room = [0u8; calls::ENOUGH];
     let read = read_text(space, ahead, n, &mut room);
     let due = read.due;
     let rest = read.ahead;
@@ -133,9 +133,9 @@ fn run_load(desk: Desk, space: &mut [u8; streams::BLOCK], ahead: Ahead, n: u64, 
     }
 }
 
-fn load_read(desk: Desk, ahead: Ahead, n: u64, room: &[u8; answer_lines::ENOUGH]) -> Step {
+fn load_read(desk: Desk, ahead: Ahead, n: u64, room: &[u8; calls::ENOUGH]) -> Step {
     let mut line = [0u8; answer_lines::ROOM];
-    let answered = answer_lines::run_load(desk, room, n, &mut line);
+    let answered = calls::run_load(desk, room, n, &mut line);
     let k = answered.length;
     let more = write_line(&line[..k]);
     let next = answered.desk;
@@ -148,7 +148,7 @@ fn load_read(desk: Desk, ahead: Ahead, n: u64, room: &[u8; answer_lines::ENOUGH]
 
 fn run_advance(desk: Desk, ahead: Ahead, n: u64) -> Step {
     let mut line = [0u8; answer_lines::ROOM];
-    let answered = answer_lines::run_advance(desk, n, &mut line);
+    let answered = calls::run_advance(desk, n, &mut line);
     let k = answered.length;
     let more = write_line(&line[..k]);
     let next = answered.desk;
@@ -161,7 +161,7 @@ fn run_advance(desk: Desk, ahead: Ahead, n: u64) -> Step {
 
 fn run_verdict(desk: Desk, ahead: Ahead) -> Step {
     let mut line = [0u8; answer_lines::ROOM];
-    let answered = answer_lines::run_verdict(desk, &mut line);
+    let answered = calls::run_verdict(desk, &mut line);
     let k = answered.length;
     let more = write_line(&line[..k]);
     let next = answered.desk;
@@ -174,7 +174,7 @@ fn run_verdict(desk: Desk, ahead: Ahead) -> Step {
 
 fn run_drop(desk: Desk, ahead: Ahead) -> Step {
     let mut line = [0u8; answer_lines::ROOM];
-    let answered = answer_lines::run_drop(desk, &mut line);
+    let answered = calls::run_drop(desk, &mut line);
     let k = answered.length;
     let more = write_line(&line[..k]);
     let next = answered.desk;
@@ -280,9 +280,9 @@ fn read_text(
     space: &mut [u8; streams::BLOCK],
     ahead: Ahead,
     n: u64,
-    room: &mut [u8; answer_lines::ENOUGH],
+    room: &mut [u8; calls::ENOUGH],
 ) -> DueRead {
-    let most = least(n, answer_lines::ENOUGH);
+    let most = least(n, calls::ENOUGH);
     let kept = read_kept(space, ahead, most, room);
     let first = kept.due;
     let rest = kept.ahead;
@@ -300,7 +300,7 @@ fn read_kept(
     space: &mut [u8; streams::BLOCK],
     ahead: Ahead,
     n: usize,
-    room: &mut [u8; answer_lines::ENOUGH],
+    room: &mut [u8; calls::ENOUGH],
 ) -> DueRead
     requires { ⌜ n ≤ 28673 ⌝ }
 {
