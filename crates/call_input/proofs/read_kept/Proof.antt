@@ -1,8 +1,8 @@
 -- `read_kept` is safe and ends: it reads as many bytes as are due.
 use borrow.Author.Needs.{needs}
 use Prim.Native.Nat.{_≤_, _-_}
-use Rattle.desk_calls.proofs.read_kept.Statement.{statement}
-use Rattle.desk_calls.proofs.read_kept.Tie as tie
+use Rattle.call_input.proofs.read_kept.Statement.{statement}
+use Rattle.call_input.proofs.read_kept.Tie as tie
 
 abbrev Inv-loop : tie.InvT-loop
 Inv-loop space₀ n room₀ rest₀ i₀ space room rest i = i ≤ n

@@ -1,7 +1,7 @@
 -- `pass_over` is safe and ends, since each turn takes at least a byte off what is left.
 use borrow.Author.Needs.{needs}
-use Rattle.desk_calls.proofs.pass_over.Statement.{statement}
-use Rattle.desk_calls.proofs.pass_over.Tie as tie
+use Rattle.call_input.proofs.pass_over.Statement.{statement}
+use Rattle.call_input.proofs.pass_over.Tie as tie
 
 abbrev Inv-loop : tie.InvT-loop
 Inv-loop space₀ n rest₀ left₀ space rest left = Unit {0}

@@ -1,8 +1,8 @@
 -- `read_line` is safe and ends; what it answers is up to the input.
 use borrow.Author.Needs.{needs}
 use Prim.Native.Nat.{_-_}
-use Rattle.desk_calls.proofs.read_line.Statement.{statement}
-use Rattle.desk_calls.proofs.read_line.Tie as tie
+use Rattle.call_input.proofs.read_line.Statement.{statement}
+use Rattle.call_input.proofs.read_line.Tie as tie
 
 abbrev Inv-loop : tie.InvT-loop
 Inv-loop space₀ bytes₀ rest₀ n₀ space bytes rest n = Unit {0}
