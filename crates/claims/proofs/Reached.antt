@@ -19,8 +19,10 @@ use Rattle.answers.specs.declared.Phase.{Phase}
 use Rattle.answers.specs.declared.Phase.the-variants as phase
 use Rattle.answers.specs.declared.Done.{Done}
 use Rattle.answers.specs.declared.Done.the-variants as done
+use Rattle.answers.specs.declared.Advance.{Advance}
 use Rattle.answers.specs.declared.Advance.the-variants as progress
 use Rattle.desk.specs.declared.Desk.{Desk}
+use Rattle.desk.specs.declared.AfterLoad.{AfterLoad}
 use Rattle.desk.specs.declared.AfterAdvance.{AfterAdvance}
 use Rattle.desk.specs.declared.AfterVerdict.{AfterVerdict}
 use Rattle.answers.specs.declared.Verdict.{Verdict}
@@ -183,6 +185,28 @@ module _ {cs : List Called} {text : List ℕ} {d : Desk} {m k : ℕ} (n : ℕ) (
   due-at (accepts h e v) o some q = absurd (accepts-not e o)
   due-at (fails x h e v) o some q = absurd (opens-not e o)
 
+-- ---- a call, by what its contract says of it
+
+after-load : {cs : List Called} {d : Desk} {text t : List ℕ} {r : AfterLoad} → Kept cs d → r ≡ loadOf d t → (t ≡ text) × (r .answer ≡ done.Done)
+    → Reached (load t (r .answer) ∷ cs) text (r .desk) 0 0
+after-load {cs} {d} {text} {t} {r = r} c e p =
+    let l = load-done t c (ap (λ x. x .answer) (sym e) ∙ p .1) in
+    rw (← p .0, p .1) (loaded-reached cs t (r .desk) (l .0) (ap (λ x. x .desk) e ∙ l .1))
+
+after-refusal : {cs : List Called} {d : Desk} {text t : List ℕ} {j m k : ℕ} {r : AfterLoad} → Reached cs text d m k → r ≡ loadOf d t
+    → r .answer ≡ done.TurnedDown j → j ≢ 0 → Reached (load t (r .answer) ∷ cs) text (r .desk) m k
+after-refusal {d = d} {t = t} {j = j} {r = r} q e a o =
+    let stays : r .desk ≡ d = ap (λ x. x .desk) e ∙ load-stays 0 q t (q .stage) in
+    rw (stays, a) (same (load t (done.TurnedDown j)) (calls.refused o) q)
+
+after-advance : {cs : List Called} {d : Desk} {text : List ℕ} {n i m k : ℕ} {a : Advance} {r : AfterAdvance} → Reached cs text d m k → r ≡ advanceOf d n
+    → (n ≡ i) × (r .answer ≡ a) → Reached (advance n (r .answer) ∷ cs) text (r .desk) (m + i) (k + countSaid a)
+after-advance {n = n} q e p = rw (← p .0, ← p .1, e) (advance-reached n q (q .stage))
+
+after-verdict : {cs : List Called} {d : Desk} {text : List ℕ} {m k : ℕ} {r : AfterVerdict} → Reached cs text d m k → r ≡ tellOf d
+    → Reached (verdict (r .answer) ∷ cs) text (r .desk) m k
+after-verdict {d = d} q e = rw e (tells d q)
+
 -- ---- every list
 
 reached-in : {cs ds : List Called} {d : Desk} {text : List ℕ} {m k : ℕ} → Calls cs d → Walked ds text m k → cs ≡ ds → Reached cs text d m k
@@ -190,31 +214,17 @@ reached-in (new e) calls.loaded q = absurd (nil≢cons q)
 reached-in (new e) (calls.on w) q = absurd (nil≢cons q)
 reached-in (new e) (calls.told w) q = absurd (nil≢cons q)
 reached-in (new e) (calls.refused o w) q = absurd (nil≢cons q)
-reached-in {text = text} (then-load {d = d} {text = t} {r = r} c e) calls.loaded q =
-    let p = same-load q in
-    let same-text : t ≡ text = p .0 in
-    let answered : r .answer ≡ done.Done = p .1 in
-    let l = load-done t (kept c) (ap (λ x. x .answer) (sym (loaded-as e)) ∙ answered) in
-    rw (← same-text, answered) (loaded-reached _ t (r .desk) (l .0) (ap (λ x. x .desk) (loaded-as e) ∙ l .1))
+reached-in (then-load c e) calls.loaded q = after-load (kept c) (loaded-as e) (same-load q)
 reached-in (then-load c e) (calls.on w) q = absurd (apart q refl)
 reached-in (then-load c e) (calls.told w) q = absurd (apart q refl)
-reached-in (then-load {d = d} {text = t} {r = r} c e) (calls.refused {j = j} o w) q =
-    let answered : r .answer ≡ done.TurnedDown j = same-load q .1 in
-    let ih = reached-in c w (earlier q) in
-    let stays : r .desk ≡ d = ap (λ x. x .desk) (loaded-as e) ∙ load-stays 0 ih t (ih .stage) in
-    rw (stays, answered) (same (load t (done.TurnedDown j)) (calls.refused o) ih)
+reached-in (then-load c e) (calls.refused o w) q = after-refusal (reached-in c w (earlier q)) (loaded-as e) (same-load q .1) o
 reached-in (then-advance n c e) calls.loaded q = absurd (apart q refl)
-reached-in (then-advance {r = r} n c e) (calls.on {n = i} {a = a} w) q =
-    let p = same-advance q in
-    let many : i ≡ n = sym (p .0) in
-    let answered : a ≡ r .answer = sym (p .1) in
-    let ih = reached-in c w (earlier q) in
-    rw (many, answered, e .0) (advance-reached n ih (ih .stage))
+reached-in (then-advance n c e) (calls.on w) q = after-advance (reached-in c w (earlier q)) (e .0) (same-advance q)
 reached-in (then-advance n c e) (calls.told w) q = absurd (apart q refl)
 reached-in (then-advance n c e) (calls.refused o w) q = absurd (apart q refl)
 reached-in (then-verdict c e) calls.loaded q = absurd (apart q refl)
 reached-in (then-verdict c e) (calls.on w) q = absurd (apart q refl)
-reached-in (then-verdict {d = d} c e) (calls.told w) q = rw (e .0) (tells d (reached-in c w (earlier q)))
+reached-in (then-verdict c e) (calls.told w) q = after-verdict (reached-in c w (earlier q)) (e .0)
 reached-in (then-verdict c e) (calls.refused o w) q = absurd (apart q refl)
 reached-in (then-drop c e) calls.loaded q = absurd (apart q refl)
 reached-in (then-drop c e) (calls.on w) q = absurd (apart q refl)
