@@ -1,28 +1,18 @@
 -- The lines of answers: "The answers are `load 0`, `open N`, `accepted N`, `failed N`, `verdict` and the report's five numbers,
 -- `drop 0`, and `turned down N`." A number is decimal, without zeros in front; each line ends with byte 10.
 use Prim.Native.Nat.{ℕ}
-use mathlib.Core.Path.{_≡_}
 use mathlib.Core.List.{List, [], _∷_, _++_}
-use lib.ListN.{length, take}
 use Rattle.writer.specs.declared.Report.{Report}
-use Rattle.desk.specs.declared.Done.{Done}
-use Rattle.desk.specs.declared.Done.the-variants as done
-use Rattle.desk.specs.declared.Advance.{Advance}
-use Rattle.desk.specs.declared.Advance.the-variants as advance
-use Rattle.desk.specs.declared.Verdict.{Verdict}
-use Rattle.desk.specs.declared.Verdict.the-variants as verdict
-use Rattle.desk.specs.declared.Desk.{Desk}
-use Rattle.desk.specs.Desk.{loadOf}
-use Rattle.desk.specs.Answers.{verdictNumbers}
+use Rattle.answers.specs.declared.Done.{Done}
+use Rattle.answers.specs.declared.Done.the-variants as done
+use Rattle.answers.specs.declared.Advance.{Advance}
+use Rattle.answers.specs.declared.Advance.the-variants as advance
+use Rattle.answers.specs.declared.Verdict.{Verdict}
+use Rattle.answers.specs.declared.Verdict.the-variants as verdict
+use Rattle.answers.specs.Answers.{verdictNumbers}
 use Rattle.call_lines.specs.Number.{decimalOf}
 use Rattle.answer_lines.specs.declared.Stop.{Stop}
 use Rattle.answer_lines.specs.declared.Stop.the-variants as stop
-
--- ---- what is loaded
-
--- a text of n bytes of which as many as there is room for were read
-abbrev pub IsText : ℕ → List ℕ → List ℕ → Type 0
-IsText n room text = (length text ≡ n) × (take (length room) text ≡ take n room)
 
 -- ---- the words
 
@@ -58,10 +48,6 @@ numbered words n = words ++ (decimalOf n ++ (10 ∷ []))
 abbrev pub doneLine : List ℕ → Done → List ℕ
 doneLine word done.Done = word ++ (32 ∷ 48 ∷ 10 ∷ [])
 doneLine word (done.TurnedDown k) = numbered turnedDownWords k
-
--- the answer of a load
-abbrev pub loadLine : Desk → List ℕ → List ℕ
-loadLine desk text = doneLine loadWord (loadOf desk text .answer)
 
 abbrev pub advanceLine : Advance → List ℕ
 advanceLine (advance.Open k) = numbered openWord k

@@ -1,23 +1,17 @@
 // A desk call's answer as a line: `load 0`, `open N`, `accepted N`, `failed N`, `verdict` and the report's five numbers, `drop 0`, and
-// `turned down N`. Each call here is made on the desk, and its line put at the start of what is lent; both are in specs/Answers, one
-// equation for every desk and every argument. Last, the lines with which a list of calls ends early.
-use desk::Advance;
-use desk::AfterLoad;
-use desk::Desk;
-use desk::Done;
-use desk::Verdict;
+// `turned down N`; and the lines with which a list of calls ends early. Each is put at the start of what is lent, and its length is
+// answered; the lines are in specs/Answers, one equation for every answer.
+use answers::Advance;
+use answers::Done;
+use answers::Verdict;
 use writer::Report;
 ghost use Prim.Native.Nat.{ℕ, _+_, _≤_};
 ghost use mathlib.Core.Path.{_≡_};
 ghost use mathlib.Core.List.{List, [], _∷_, _++_};
 ghost use lib.ListN.{length, take};
 ghost use Rattle.io.specs.Counts.{Counts};
-ghost use Rattle.desk.specs.Desk.{loadOf, advanceOf, tellOf, dropOf};
 ghost use Rattle.call_lines.specs.Number.{decimalOf};
-ghost use Rattle.answer_lines.specs.Answers.{IsText, dropWord, doneLine, loadLine, advanceLine, reportLine, verdictLine, stopLine};
-
-// The longest text that is not turned down for its length, and one byte: no answer depends on more.
-pub const ENOUGH: usize = limits::MAX_BYTES + 1;
+ghost use Rattle.answer_lines.specs.Answers.{loadWord, dropWord, doneLine, advanceLine, reportLine, verdictLine, stopLine};
 
 // Room for every line.
 pub const ROOM: usize = 128;
@@ -29,60 +23,45 @@ pub enum Stop {
     NoLineEnd,
 }
 
-// The desk after a call, and the length of its answer's line.
-pub struct Answered {
-    pub desk: Desk,
-    pub length: usize,
+// The line of a load's answer.
+pub fn put_load(line: &mut [u8; ROOM], answer: Done) -> usize
+    ensures { λ r. ⌜ Counts r (now (line .exit)) ⌝ }
+    ensures { λ r. ⌜ take r (now (line .exit)) ≡ doneLine loadWord answer ⌝ }
+{
+    put_done(line, b"load", answer)
 }
 
-// Loads a text of n bytes, of which as many as there is room for were read.
-pub fn run_load(desk: Desk, room: &[u8; ENOUGH], n: u64, line: &mut [u8; ROOM]) -> Answered
-    ensures { λ r. ⌜ Counts (r .length) (now (line .exit)) ⌝ }
-    ensures { λ r. ⌜ ((text : List ℕ) → IsText n (now (room .entry)) text → r .desk ≡ loadOf desk text .desk) ⌝ }
-    ensures { λ r. ⌜ ((text : List ℕ) → IsText n (now (room .entry)) text → take (r .length) (now (line .exit)) ≡ loadLine desk text) ⌝ }
+// The line of a drop's answer.
+pub fn put_drop(line: &mut [u8; ROOM], answer: Done) -> usize
+    ensures { λ r. ⌜ Counts r (now (line .exit)) ⌝ }
+    ensures { λ r. ⌜ take r (now (line .exit)) ≡ doneLine dropWord answer ⌝ }
 {
-    let bytes: &[u8] = room;
-    let loaded = load_start(desk, bytes, n);
-    let answer = loaded.answer;
-    let length = put_done(line, b"load", answer);
-    let next = loaded.desk;
-    Answered { desk: next, length }
+    put_done(line, b"drop", answer)
 }
 
-pub fn run_advance(desk: Desk, n: u64, line: &mut [u8; ROOM]) -> Answered
-    ensures { λ r. ⌜ Counts (r .length) (now (line .exit)) ⌝ }
-    ensures { λ r. ⌜ r .desk ≡ advanceOf desk n .desk ⌝ }
-    ensures { λ r. ⌜ take (r .length) (now (line .exit)) ≡ advanceLine (advanceOf desk n .answer) ⌝ }
+// The line of an advance's answer.
+pub fn put_advance(line: &mut [u8; ROOM], answer: Advance) -> usize
+    ensures { λ r. ⌜ Counts r (now (line .exit)) ⌝ }
+    ensures { λ r. ⌜ take r (now (line .exit)) ≡ advanceLine answer ⌝ }
 {
-    let advanced = desk.advance(n);
-    let answer = advanced.answer;
-    let length = put_advance(line, answer);
-    let next = advanced.desk;
-    Answered { desk: next, length }
+    match answer {
+        Advance::Open(count) => put_numbered(line, b"open ", count as u64),
+        Advance::Accepted(count) => put_numbered(line, b"accepted ", count as u64),
+        Advance::Failed(count) => put_numbered(line, b"failed ", count as u64),
+        Advance::TurnedDown(number) => put_numbered(line, b"turned down ", number as u64),
+    }
 }
 
-pub fn run_verdict(desk: Desk, line: &mut [u8; ROOM]) -> Answered
-    ensures { λ r. ⌜ Counts (r .length) (now (line .exit)) ⌝ }
-    ensures { λ r. ⌜ r .desk ≡ tellOf desk .desk ⌝ }
-    ensures { λ r. ⌜ take (r .length) (now (line .exit)) ≡ verdictLine (tellOf desk .answer) ⌝ }
+// The line of a verdict's answer.
+pub fn put_verdict(line: &mut [u8; ROOM], answer: Verdict) -> usize
+    ensures { λ r. ⌜ Counts r (now (line .exit)) ⌝ }
+    ensures { λ r. ⌜ take r (now (line .exit)) ≡ verdictLine answer ⌝ }
 {
-    let told = desk.verdict();
-    let answer = told.answer;
-    let length = put_verdict(line, answer);
-    let next = told.desk;
-    Answered { desk: next, length }
-}
-
-pub fn run_drop(desk: Desk, line: &mut [u8; ROOM]) -> Answered
-    ensures { λ r. ⌜ Counts (r .length) (now (line .exit)) ⌝ }
-    ensures { λ r. ⌜ r .desk ≡ dropOf desk .desk ⌝ }
-    ensures { λ r. ⌜ take (r .length) (now (line .exit)) ≡ doneLine dropWord (dropOf desk .answer) ⌝ }
-{
-    let dropped = desk.drop();
-    let answer = dropped.answer;
-    let length = put_done(line, b"drop", answer);
-    let next = dropped.desk;
-    Answered { desk: next, length }
+    match answer {
+        Verdict::Accepted => put_report(line, answers::verdict_numbers(answer)),
+        Verdict::Failed(_) => put_report(line, answers::verdict_numbers(answer)),
+        Verdict::TurnedDown(number) => put_numbered(line, b"turned down ", number as u64),
+    }
 }
 
 // The line with which a list of calls ends early, at the n-th call.
@@ -99,19 +78,7 @@ pub fn put_stop(line: &mut [u8; ROOM], why: Stop, n: u64) -> usize
     }
 }
 
-// Loads the first n bytes, or all.
-fn load_start(desk: Desk, bytes: &[u8], n: u64) -> AfterLoad
-    ensures { λ r. ⌜ r ≡ loadOf desk (take n (now (bytes .entry))) ⌝ }
-{
-    if n < bytes.len() as u64 {
-        let k = n as usize;
-        desk.load(&bytes[0..k])
-    } else {
-        desk.load(bytes)
-    }
-}
-
-// ---- answers
+// ---- their parts
 
 fn put_done(line: &mut [u8; ROOM], word: &[u8], answer: Done) -> usize
     requires { ⌜ length (now word) ≤ 20 ⌝ }
@@ -127,29 +94,6 @@ fn put_done(line: &mut [u8; ROOM], word: &[u8], answer: Done) -> usize
     }
 }
 
-fn put_advance(line: &mut [u8; ROOM], answer: Advance) -> usize
-    ensures { λ r. ⌜ Counts r (now (line .exit)) ⌝ }
-    ensures { λ r. ⌜ take r (now (line .exit)) ≡ advanceLine answer ⌝ }
-{
-    match answer {
-        Advance::Open(count) => put_numbered(line, b"open ", count as u64),
-        Advance::Accepted(count) => put_numbered(line, b"accepted ", count as u64),
-        Advance::Failed(count) => put_numbered(line, b"failed ", count as u64),
-        Advance::TurnedDown(number) => put_numbered(line, b"turned down ", number as u64),
-    }
-}
-
-fn put_verdict(line: &mut [u8; ROOM], answer: Verdict) -> usize
-    ensures { λ r. ⌜ Counts r (now (line .exit)) ⌝ }
-    ensures { λ r. ⌜ take r (now (line .exit)) ≡ verdictLine answer ⌝ }
-{
-    match answer {
-        Verdict::Accepted => put_report(line, desk::verdict_numbers(answer)),
-        Verdict::Failed(_) => put_report(line, desk::verdict_numbers(answer)),
-        Verdict::TurnedDown(number) => put_numbered(line, b"turned down ", number as u64),
-    }
-}
-
 fn put_report(line: &mut [u8; ROOM], report: Report) -> usize
     ensures { λ r. ⌜ Counts r (now (line .exit)) ⌝ }
     ensures { λ r. ⌜ take r (now (line .exit)) ≡ reportLine report ⌝ }
@@ -162,8 +106,6 @@ fn put_report(line: &mut [u8; ROOM], report: Report) -> usize
     let f = put_next(line, e, report.sum);
     put(line, f, b"\n")
 }
-
-// ---- their parts
 
 // Words and a number, and the end of the line.
 fn put_numbered(line: &mut [u8; ROOM], words: &[u8], n: u64) -> usize

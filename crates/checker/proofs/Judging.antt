@@ -19,17 +19,17 @@ use Rattle.decision.specs.Verdict.{verdictOf}
 use Rattle.design.specs.Lines.{designText}
 use Rattle.loader.specs.Load.{faultOf, heldBy, loadedOf}
 use Rattle.checker.specs.Said.{saidVerdict}
-use Rattle.desk.specs.declared.Phase.{Phase}
-use Rattle.desk.specs.declared.Phase.the-variants as phase
-use Rattle.desk.specs.declared.Done.{Done}
-use Rattle.desk.specs.declared.Done.the-variants as done
-use Rattle.desk.specs.declared.Verdict.{Verdict}
+use Rattle.answers.specs.declared.Phase.{Phase}
+use Rattle.answers.specs.declared.Phase.the-variants as phase
+use Rattle.answers.specs.declared.Done.{Done}
+use Rattle.answers.specs.declared.Done.the-variants as done
+use Rattle.answers.specs.declared.Verdict.{Verdict}
 use Rattle.desk.specs.declared.Desk.{Desk}
 use Rattle.desk.specs.declared.AfterLoad.{AfterLoad}
 use Rattle.desk.specs.declared.AfterAdvance.{AfterAdvance}
 use Rattle.desk.specs.declared.AfterVerdict.{AfterVerdict}
 use Rattle.desk.specs.Desk.{emptyDesk, opened, notLoaded, loadEmpty, loadOf, advanceOf, tellBy, tellOf}
-use Rattle.desk.specs.Answers.{verdictNumbers}
+use Rattle.answers.specs.Answers.{verdictNumbers}
 use Rattle.checker.specs.OneCall.{refusedReport, designReport, judgedOf, answerOf, bufferAfter}
 use Rattle.checker.proofs.Opened.{Ready, few}
 use Rattle.checker.proofs.Stages.{Stage, fresh, going, accepts, fails, advance-fresh}

@@ -26,16 +26,17 @@ use Rattle.layout.specs.Sizes.{initialNumberIn}
 use Rattle.loader.proofs.Passed.{admitted}
 use Rattle.desk.specs.Said.{said, saidFailure}
 use Rattle.walk.specs.declared.Failure.{Failure as Said}
-use Rattle.desk.specs.declared.Phase.{Phase}
-use Rattle.desk.specs.declared.Phase.the-variants as phase
-use Rattle.desk.specs.declared.Advance.the-variants as advance
+use Rattle.walk.specs.declared.Outcome.the-variants.{Pass}
+use Rattle.answers.specs.declared.Phase.{Phase}
+use Rattle.answers.specs.declared.Phase.the-variants as phase
+use Rattle.answers.specs.declared.Advance.the-variants as advance
 use Rattle.desk.specs.declared.Desk.{Desk}
 use Rattle.desk.specs.declared.AfterAdvance.{AfterAdvance}
-use Rattle.desk.specs.Answers.{countSaid, Decided}
-use Rattle.desk.specs.Answers as answers
+use Rattle.answers.specs.Answers.{countSaid, Decided, answerAfter, phaseAfter}
+use Rattle.answers.specs.Answers as answers
 use Rattle.checker.specs.Count.{stopOf, decidedBy, dueOf, Due}
 use Rattle.checker.proofs.Examined.{examined}
-use Rattle.desk.specs.Desk.{placed, ahead, failStart, afterPass, afterWalk, walkOn, examineNext, advanceOpen, advanceBy, advanceOf}
+use Rattle.desk.specs.Desk.{placed, ahead, failStart, afterWalk, walkOn, examineNext, examineOpen, advanceOpen, advanceBy, advanceOf}
 use Rattle.checker.proofs.Opened.{Ready, start-is, total-is, initial-is, walk-is}
 
 pub data Stage (text : List ℕ) (desk : Desk) : Type 0 where
@@ -214,7 +215,7 @@ module _ (text : List ℕ) (desk : Desk) (h : Ready text desk) where
         rw count (passed (leb (states d) (m + ahead-of n)) refl (goes-on d m (ahead-of n) p e) (rw count at sum))
       where
         passed : (done : Bool) → leb (states d) (m + ahead-of n) ≡ done → Progress d (m + ahead-of n) → examined d m + ahead-of n ≡ examined d (m + n)
-            → Advances text desk n (afterPass done desk (ahead-of n) (m + ahead-of n))
+            → Advances text desk n (record { answer = answerAfter Pass done (ahead-of n); desk = placed desk (m + ahead-of n) (phaseAfter Pass done) })
         passed true l q sum =
             let g = leb-true (states d) (m + ahead-of n) l in
             let all : m + ahead-of n ≡ states d = omega arith in
@@ -257,7 +258,7 @@ some-states text desk h =
 
 module _ (text : List ℕ) (desk : Desk) (n : ℕ) (some : n ≢ 0) where
   from-start : (b : Bool) → holds1 (designText text) ≡ b → Ready text desk → desk .next ≡ 0 → Advances text desk n (advanceOpen desk n)
-  unfolding advanceOpen
+  unfolding advanceOpen examineOpen
   from-start true e h z =
       rw (ne-eqb n 0 some, eq-eqb (desk .next) 0 z, start-is text desk h, e)
       (examines text desk h n some (rw z (some-states text desk h)) (rw z (begins (designText text) e)))
@@ -265,7 +266,7 @@ module _ (text : List ℕ) (desk : Desk) (n : ℕ) (some : n ≢ 0) where
       rw (ne-eqb n 0 some, eq-eqb (desk .next) 0 z, start-is text desk h, e) (start-stage text desk h n z e)
 
   from-later : Ready text desk → 0 < desk .next → desk .next < states (designText text) → Progress (designText text) (desk .next) → Advances text desk n (advanceOpen desk n)
-  unfolding advanceOpen
+  unfolding advanceOpen examineOpen
   from-later h l u p = rw (ne-eqb n 0 some, ne-eqb (desk .next) 0 (omega arith)) (examines text desk h n some u p)
 
   by-phase : {q : Phase} → desk .phase ≡ q → advanceOf desk n ≡ advanceBy q desk n

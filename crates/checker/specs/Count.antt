@@ -6,11 +6,11 @@ use lib.Dec.{eqb, ltb}
 use Rattle.terms.specs.Tree.{pick}
 use Rattle.criteria.specs.Design.{Design, states}
 use Rattle.criteria.specs.Verdict.{Verdict, accepted, failed}
-use Rattle.desk.specs.declared.Phase.{Phase}
-use Rattle.desk.specs.declared.Phase.the-variants as phase
-use Rattle.desk.specs.Answers.{Decided}
-use Rattle.desk.specs.declared.Advance.{Advance}
-use Rattle.desk.specs.declared.Advance.the-variants as advance
+use Rattle.answers.specs.declared.Phase.{Phase}
+use Rattle.answers.specs.declared.Phase.the-variants as phase
+use Rattle.answers.specs.Answers.{Decided}
+use Rattle.answers.specs.declared.Advance.{Advance}
+use Rattle.answers.specs.declared.Advance.the-variants as advance
 
 -- "The check is decided when a criterion fails or the last state is done": how many are examined till then
 abbrev pub stopOf : Design → Verdict → ℕ

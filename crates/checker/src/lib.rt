@@ -1,11 +1,11 @@
 // The one-call check: a text is loaded on a new desk, all its states are examined and the report is written (01, "The desk"). What it
 // answers and writes is in specs/OneCall, one equation for every text and every buffer.
+use answers::Done;
 use desk::Desk;
-use desk::Done;
 use writer::Report;
 ghost use mathlib.Core.Path.{_≡_};
 ghost use Rattle.desk.specs.Desk.{advanceOf, tellOf};
-ghost use Rattle.desk.specs.Answers.{verdictNumbers};
+ghost use Rattle.answers.specs.Answers.{verdictNumbers};
 ghost use Rattle.checker.specs.OneCall.{refusedReport, judgedOf, answerOf, bufferAfter};
 
 // Checks a text and writes the report: 0 accepted, 1 failed, 2 turned down; 9 for a report buffer under 31 bytes, which is not
@@ -46,7 +46,7 @@ fn judge_rest(desk: Desk) -> Report
     let examined = advanced.desk;
     let told = examined.verdict();
     let answer = told.answer;
-    desk::verdict_numbers(answer)
+    answers::verdict_numbers(answer)
 }
 
 fn turned_down(number: u16) -> Report

@@ -16,8 +16,8 @@ use Rattle.design.specs.Faults.{DesignText}
 use Rattle.loader.specs.Load.{faultOf}
 use Rattle.loader.proofs.Lowest.{free-exactly}
 use Rattle.loader.proofs.Passed.{admitted}
-use Rattle.desk.specs.declared.Phase.the-variants as phase
-use Rattle.desk.specs.declared.Done.the-variants as done
+use Rattle.answers.specs.declared.Phase.the-variants as phase
+use Rattle.answers.specs.declared.Done.the-variants as done
 use Rattle.desk.specs.declared.Desk.{Desk}
 use Rattle.desk.specs.declared.AfterLoad.{AfterLoad}
 use Rattle.checker.specs.OneCall.{designReport}

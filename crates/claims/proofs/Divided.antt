@@ -8,10 +8,10 @@ use native.Mathlib.Omega.{arith}
 use Rattle.criteria.specs.Verdict.{Verdict}
 use Rattle.design.specs.Lines.{designText}
 use Rattle.design.specs.Faults.{DesignText}
-use Rattle.desk.specs.declared.Phase.the-variants as phase
-use Rattle.desk.specs.declared.Done.{Done}
-use Rattle.desk.specs.declared.Done.the-variants as done
-use Rattle.desk.specs.declared.Advance.{Advance}
+use Rattle.answers.specs.declared.Phase.the-variants as phase
+use Rattle.answers.specs.declared.Done.{Done}
+use Rattle.answers.specs.declared.Done.the-variants as done
+use Rattle.answers.specs.declared.Advance.{Advance}
 use Rattle.desk.specs.declared.Desk.{Desk}
 use Rattle.desk.specs.declared.AfterLoad.{AfterLoad}
 use Rattle.desk.specs.declared.AfterAdvance.{AfterAdvance}
@@ -19,7 +19,7 @@ use Rattle.checker.specs.Count.{Due}
 use Rattle.claims.specs.Calls.{Called, load, advance, Walked}
 use Rattle.claims.specs.Contracts.{News, Loads, Advances, Calls, new, then-load, then-advance, then-verdict, then-drop}
 use Rattle.claims.specs.Demand2.{Comes}
-use Rattle.claims.proofs.Lists.{latest, earlier}
+use Rattle.claims.proofs.Lists.{earlier, apart, same-load, same-advance}
 use Rattle.claims.proofs.Outcomes.{opened-by}
 
 -- ---- the latest call
@@ -35,14 +35,14 @@ pub record Advanced (cs : List Called) (n : ℕ) (a : Advance) (e : Desk) : Type
 
 pub last-advance : {ds cs : List Called} {n : ℕ} {a : Advance} {e : Desk} → Calls ds e → ds ≡ advance n a ∷ cs → Advanced cs n a e
 last-advance (new x) q = absurd (nil≢cons q)
-last-advance (then-load c x) q = let p = latest q in let z : _≡_ {A = ℕ} 0 1 = cc in absurd (omega arith)
+last-advance (then-load c x) q = absurd (apart q refl)
 last-advance {n = n} {a = a} (then-advance {d = d} {r = r} i c x) q =
-    let p = latest q in
-    let many : i ≡ n = cc in
-    let same : a ≡ r .answer = cc in
+    let p = same-advance q in
+    let many : i ≡ n = p .0 in
+    let same : a ≡ r .answer = sym (p .1) in
     record { desk = d; result = r; made = subst (λ ds. Calls ds d) (earlier q) c; call = subst (λ k. Advances d k r) many x; answer = same; leaves = refl }
-last-advance (then-verdict c x) q = let p = latest q in let z : _≡_ {A = ℕ} 0 1 = cc in absurd (omega arith)
-last-advance (then-drop c x) q = let p = latest q in let z : _≡_ {A = ℕ} 0 1 = cc in absurd (omega arith)
+last-advance (then-verdict c x) q = absurd (apart q refl)
+last-advance (then-drop c x) q = absurd (apart q refl)
 
 -- a load of a new desk
 pub record Loaded (text : List ℕ) (a : Done) (e : Desk) : Type 0 where
@@ -63,13 +63,13 @@ new-desk (then-drop c x) q = absurd (nil≢cons (sym q))
 pub only-load : {ds : List Called} {text : List ℕ} {a : Done} {e : Desk} → Calls ds e → ds ≡ load text a ∷ [] → Loaded text a e
 only-load (new x) q = absurd (nil≢cons q)
 only-load {text = text} {a = a} (then-load {d = d} {text = t} {r = r} c x) q =
-    let p = latest q in
-    let of-text : t ≡ text = cc in
-    let same : a ≡ r .answer = cc in
+    let p = same-load q in
+    let of-text : t ≡ text = p .0 in
+    let same : a ≡ r .answer = sym (p .1) in
     record { desk = d; result = r; is-new = new-desk c (earlier q); call = subst (λ u. Loads d u r) of-text x; answer = same; leaves = refl }
-only-load (then-advance n c x) q = let p = latest q in let z : _≡_ {A = ℕ} 0 1 = cc in absurd (omega arith)
-only-load (then-verdict c x) q = let p = latest q in let z : _≡_ {A = ℕ} 0 1 = cc in absurd (omega arith)
-only-load (then-drop c x) q = let p = latest q in let z : _≡_ {A = ℕ} 0 1 = cc in absurd (omega arith)
+only-load (then-advance n c x) q = absurd (apart q refl)
+only-load (then-verdict c x) q = absurd (apart q refl)
+only-load (then-drop c x) q = absurd (apart q refl)
 
 -- ---- what is due, call by call
 

@@ -12,11 +12,11 @@ use lib.Dec.{eqb}
 use Rattle.criteria.specs.Verdict.{accepted}
 use Rattle.decision.specs.Verdict.{verdictOf}
 use Rattle.loader.specs.Load.{faultOf, loadedOf}
-use Rattle.desk.specs.declared.Phase.{Phase}
-use Rattle.desk.specs.declared.Phase.the-variants as phase
-use Rattle.desk.specs.declared.Done.{Done}
-use Rattle.desk.specs.declared.Done.the-variants as done
-use Rattle.desk.specs.declared.Advance.the-variants as progress
+use Rattle.answers.specs.declared.Phase.{Phase}
+use Rattle.answers.specs.declared.Phase.the-variants as phase
+use Rattle.answers.specs.declared.Done.{Done}
+use Rattle.answers.specs.declared.Done.the-variants as done
+use Rattle.answers.specs.declared.Advance.the-variants as progress
 use Rattle.desk.specs.declared.Desk.{Desk}
 use Rattle.desk.specs.declared.AfterAdvance.{AfterAdvance}
 use Rattle.desk.specs.Desk.{loadEmpty, loadBy, loadOf, notAdvanced, advanceOpen, advanceBy, advanceOf, tellBy, tellOf, dropBy, dropOf}
@@ -26,7 +26,7 @@ use Rattle.checker.proofs.Judging.{opened-stage, loaded-free, loaded-fault}
 use Rattle.claims.specs.Calls.{Called, load, advance, verdict, drop, NoLoad, refused, advanced, told, dropped, LastLoad, here, before, AcceptedIn}
 use Rattle.claims.specs.Calls as calls
 use Rattle.claims.specs.Contracts.{Calls, new, then-load, then-advance, then-verdict, then-drop}
-use Rattle.claims.proofs.Lists.{loaded-as, latest, earlier}
+use Rattle.claims.proofs.Lists.{loaded-as, earlier, apart, same-advance}
 
 -- ---- the last load is one
 
@@ -165,16 +165,15 @@ accepted-at {d = d} n k (holds {text = t} m s) l a =
 accepted-in : {cs ds : List Called} {d : Desk} {text : List ℕ} → Calls cs d → AcceptedIn ds text → cs ≡ ds → Accepts text
 accepted-in (new e) (calls.here l) q = absurd (nil≢cons q)
 accepted-in (new e) (calls.before a) q = absurd (nil≢cons q)
-accepted-in (then-load c e) (calls.here l) q = let p = latest q in let z : _≡_ {A = ℕ} 0 1 = cc in absurd (omega arith)
+accepted-in (then-load c e) (calls.here l) q = absurd (apart q refl)
 accepted-in (then-load c e) (calls.before a) q = accepted-in c a (earlier q)
 accepted-in (then-advance {r = r} n c e) (calls.here {n = m} {k = k} l) q =
-    let p = latest q in
-    let answer : r .answer ≡ progress.Accepted k = cc in
+    let answer : r .answer ≡ progress.Accepted k = same-advance q .1 in
     accepted-at n k (kept c) (rw (earlier q) l) (sym (ap (λ x. x .answer) (e .0)) ∙ answer)
 accepted-in (then-advance n c e) (calls.before a) q = accepted-in c a (earlier q)
-accepted-in (then-verdict c e) (calls.here l) q = let p = latest q in let z : _≡_ {A = ℕ} 0 1 = cc in absurd (omega arith)
+accepted-in (then-verdict c e) (calls.here l) q = absurd (apart q refl)
 accepted-in (then-verdict c e) (calls.before a) q = accepted-in c a (earlier q)
-accepted-in (then-drop c e) (calls.here l) q = let p = latest q in let z : _≡_ {A = ℕ} 0 1 = cc in absurd (omega arith)
+accepted-in (then-drop c e) (calls.here l) q = absurd (apart q refl)
 accepted-in (then-drop c e) (calls.before a) q = accepted-in c a (earlier q)
 
 pub accepted-verdict : {cs : List Called} {d : Desk} {text : List ℕ} → Calls cs d → AcceptedIn cs text → Accepts text

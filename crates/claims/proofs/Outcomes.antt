@@ -9,13 +9,13 @@ use Rattle.writer.specs.Report as bytes
 use Rattle.design.specs.Faults.{DesignText}
 use Rattle.loader.specs.Load.{faultOf}
 use Rattle.loader.proofs.Lowest.{free-exactly, lowest-fault}
-use Rattle.desk.specs.declared.Phase.{Phase}
-use Rattle.desk.specs.declared.Phase.the-variants as phase
-use Rattle.desk.specs.declared.Done.the-variants as done
+use Rattle.answers.specs.declared.Phase.{Phase}
+use Rattle.answers.specs.declared.Phase.the-variants as phase
+use Rattle.answers.specs.declared.Done.the-variants as done
 use Rattle.desk.specs.declared.Desk.{Desk}
 use Rattle.desk.specs.declared.AfterLoad.{AfterLoad}
-use Rattle.desk.specs.Answers.{Decided}
-use Rattle.desk.specs.Answers as answers
+use Rattle.answers.specs.Answers.{Decided}
+use Rattle.answers.specs.Answers as answers
 use Rattle.desk.specs.Desk.{emptyDesk, notLoaded, notAdvanced, loadOf, advanceOf, tellBy, tellOf, dropBy, dropOf}
 use Rattle.checker.proofs.Judging.{loaded-free, loaded-fault}
 use Rattle.claims.specs.Contracts.{Loads}

@@ -12,11 +12,11 @@ use Rattle.decision.specs.Tests.{rowFrom}
 use Rattle.decision.specs.Examine.{examine}
 use Rattle.decision.specs.Verdict.{checked, verdictOf}
 use Rattle.pump.specs.Table.{given, wrong-data, Case, case, cases}
-use Rattle.desk.specs.declared.Phase.the-variants as phase
-use Rattle.desk.specs.declared.Done.{Done}
-use Rattle.desk.specs.declared.Done.the-variants as done
-use Rattle.desk.specs.declared.Advance.{Advance}
-use Rattle.desk.specs.declared.Advance.the-variants as progress
+use Rattle.answers.specs.declared.Phase.the-variants as phase
+use Rattle.answers.specs.declared.Done.{Done}
+use Rattle.answers.specs.declared.Done.the-variants as done
+use Rattle.answers.specs.declared.Advance.{Advance}
+use Rattle.answers.specs.declared.Advance.the-variants as progress
 use Rattle.desk.specs.declared.Desk.{Desk}
 use Rattle.checker.specs.Count.{stopOf, dueOf}
 use Rattle.claims.specs.Calls.{Called, load, advance, Walked}

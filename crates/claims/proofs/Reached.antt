@@ -15,17 +15,19 @@ use Rattle.decision.specs.Tests.{holds1}
 use Rattle.decision.specs.Verdict.{verdictOf}
 use Rattle.reader.specs.Text.{fieldsByLine}
 use Rattle.loader.specs.Load.{faultOf, heldBy, loadedOf}
-use Rattle.desk.specs.declared.Phase.{Phase}
-use Rattle.desk.specs.declared.Phase.the-variants as phase
-use Rattle.desk.specs.declared.Done.{Done}
-use Rattle.desk.specs.declared.Done.the-variants as done
-use Rattle.desk.specs.declared.Advance.the-variants as progress
+use Rattle.answers.specs.declared.Phase.{Phase}
+use Rattle.answers.specs.declared.Phase.the-variants as phase
+use Rattle.answers.specs.declared.Done.{Done}
+use Rattle.answers.specs.declared.Done.the-variants as done
+use Rattle.answers.specs.declared.Advance.{Advance}
+use Rattle.answers.specs.declared.Advance.the-variants as progress
 use Rattle.desk.specs.declared.Desk.{Desk}
+use Rattle.desk.specs.declared.AfterLoad.{AfterLoad}
 use Rattle.desk.specs.declared.AfterAdvance.{AfterAdvance}
 use Rattle.desk.specs.declared.AfterVerdict.{AfterVerdict}
-use Rattle.desk.specs.declared.Verdict.{Verdict}
-use Rattle.desk.specs.Answers.{countSaid, Decided, verdictNumbers}
-use Rattle.desk.specs.Answers as answers
+use Rattle.answers.specs.declared.Verdict.{Verdict}
+use Rattle.answers.specs.Answers.{countSaid, Decided, verdictNumbers}
+use Rattle.answers.specs.Answers as answers
 use Rattle.criteria.specs.Verdict as criteria
 use Rattle.checker.specs.Said.{saidVerdict}
 use Rattle.checker.specs.OneCall.{designReport}
@@ -39,7 +41,7 @@ use Rattle.claims.specs.Calls.{Called, load, advance, verdict, NoLoad, L
 use Rattle.claims.specs.Calls as calls
 use Rattle.claims.specs.Outcomes.{Named, acceptance, failure}
 use Rattle.claims.specs.Contracts.{Tells, Calls, new, then-load, then-advance, then-verdict, then-drop}
-use Rattle.claims.proofs.Lists.{loaded-as, latest, earlier}
+use Rattle.claims.proofs.Lists.{loaded-as, earlier, apart, same-load, same-advance}
 use Rattle.claims.proofs.Kept.{Kept, empty, holds, kept, load-at, advance-at, by-none, tell-desk}
 
 -- after advances by m in all, whose answers counted k
@@ -61,6 +63,9 @@ accepts-not a b = let z : _≡_ {A = ℕ} 0 1 = cc in omega arith
 
 -- ---- a load that is done
 
+refused-not : {k : ℕ} → done.TurnedDown k ≡ done.Done → ⊥
+refused-not q = let z : _≡_ {A = ℕ} 0 1 = cc in omega arith
+
 load-done : {cs : List Called} {d : Desk} (text : List ℕ) → Kept cs d → loadOf d text .answer ≡ done.Done
     → (faultOf text ≡ 0) × (loadOf d text .desk ≡ opened (heldBy (fieldsByLine text)))
 load-done {d = d} text (empty e) a = go _ refl
@@ -71,25 +76,15 @@ load-done {d = d} text (empty e) a = go _ refl
     go : (free : Bool) → eqb (faultOf text) 0 ≡ free → (faultOf text ≡ 0) × (loadOf d text .desk ≡ opened (heldBy (fieldsByLine text)))
     go true z = let ok = eqb-true (faultOf text) 0 z in (ok, ap (λ r. r .desk) (load-at d text e ∙ loaded-free d text ok))
     go false z =
-        let q : done.TurnedDown (faultOf text) ≡ done.Done = ap (λ r. r .answer) (sym (loaded-fault d text (eqb-false (faultOf text) 0 z))) ∙ done-empty in
-        let w : _≡_ {A = ℕ} 0 1 = cc in
-        absurd (omega arith)
+        absurd (refused-not (ap (λ r. r .answer) (sym (loaded-fault d text (eqb-false (faultOf text) 0 z))) ∙ done-empty))
 load-done {d = d} text (holds l (fresh h e z)) a =
-    let q : done.TurnedDown 12 ≡ done.Done = ap (λ r. r .answer) (sym (load-at d text e)) ∙ a in
-    let w : _≡_ {A = ℕ} 0 1 = cc in
-    absurd (omega arith)
+    absurd (refused-not (ap (λ r. r .answer) (sym (load-at d text e)) ∙ a))
 load-done {d = d} text (holds l (going h e u v p)) a =
-    let q : done.TurnedDown 12 ≡ done.Done = ap (λ r. r .answer) (sym (load-at d text e)) ∙ a in
-    let w : _≡_ {A = ℕ} 0 1 = cc in
-    absurd (omega arith)
+    absurd (refused-not (ap (λ r. r .answer) (sym (load-at d text e)) ∙ a))
 load-done {d = d} text (holds l (accepts h e v)) a =
-    let q : done.TurnedDown 12 ≡ done.Done = ap (λ r. r .answer) (sym (load-at d text e)) ∙ a in
-    let w : _≡_ {A = ℕ} 0 1 = cc in
-    absurd (omega arith)
+    absurd (refused-not (ap (λ r. r .answer) (sym (load-at d text e)) ∙ a))
 load-done {d = d} text (holds l (fails x h e v)) a =
-    let q : done.TurnedDown 12 ≡ done.Done = ap (λ r. r .answer) (sym (load-at d text e)) ∙ a in
-    let w : _≡_ {A = ℕ} 0 1 = cc in
-    absurd (omega arith)
+    absurd (refused-not (ap (λ r. r .answer) (sym (load-at d text e)) ∙ a))
 
 none-yet : (d : Design) → examined d 0 ≡ 0
 unfolding examined walk
@@ -190,6 +185,28 @@ module _ {cs : List Called} {text : List ℕ} {d : Desk} {m k : ℕ} (n : ℕ) (
   due-at (accepts h e v) o some q = absurd (accepts-not e o)
   due-at (fails x h e v) o some q = absurd (opens-not e o)
 
+-- ---- a call, by what its contract says of it
+
+after-load : {cs : List Called} {d : Desk} {text t : List ℕ} {r : AfterLoad} → Kept cs d → r ≡ loadOf d t → (t ≡ text) × (r .answer ≡ done.Done)
+    → Reached (load t (r .answer) ∷ cs) text (r .desk) 0 0
+after-load {cs} {d} {text} {t} {r = r} c e p =
+    let l = load-done t c (ap (λ x. x .answer) (sym e) ∙ p .1) in
+    rw (← p .0, p .1) (loaded-reached cs t (r .desk) (l .0) (ap (λ x. x .desk) e ∙ l .1))
+
+after-refusal : {cs : List Called} {d : Desk} {text t : List ℕ} {j m k : ℕ} {r : AfterLoad} → Reached cs text d m k → r ≡ loadOf d t
+    → r .answer ≡ done.TurnedDown j → j ≢ 0 → Reached (load t (r .answer) ∷ cs) text (r .desk) m k
+after-refusal {d = d} {t = t} {j = j} {r = r} q e a o =
+    let stays : r .desk ≡ d = ap (λ x. x .desk) e ∙ load-stays 0 q t (q .stage) in
+    rw (stays, a) (same (load t (done.TurnedDown j)) (calls.refused o) q)
+
+after-advance : {cs : List Called} {d : Desk} {text : List ℕ} {n i m k : ℕ} {a : Advance} {r : AfterAdvance} → Reached cs text d m k → r ≡ advanceOf d n
+    → (n ≡ i) × (r .answer ≡ a) → Reached (advance n (r .answer) ∷ cs) text (r .desk) (m + i) (k + countSaid a)
+after-advance {n = n} q e p = rw (← p .0, ← p .1, e) (advance-reached n q (q .stage))
+
+after-verdict : {cs : List Called} {d : Desk} {text : List ℕ} {m k : ℕ} {r : AfterVerdict} → Reached cs text d m k → r ≡ tellOf d
+    → Reached (verdict (r .answer) ∷ cs) text (r .desk) m k
+after-verdict {d = d} q e = rw e (tells d q)
+
 -- ---- every list
 
 reached-in : {cs ds : List Called} {d : Desk} {text : List ℕ} {m k : ℕ} → Calls cs d → Walked ds text m k → cs ≡ ds → Reached cs text d m k
@@ -197,37 +214,22 @@ reached-in (new e) calls.loaded q = absurd (nil≢cons q)
 reached-in (new e) (calls.on w) q = absurd (nil≢cons q)
 reached-in (new e) (calls.told w) q = absurd (nil≢cons q)
 reached-in (new e) (calls.refused o w) q = absurd (nil≢cons q)
-reached-in {text = text} (then-load {d = d} {text = t} {r = r} c e) calls.loaded q =
-    let p = latest q in
-    let same-text : t ≡ text = cc in
-    let answered : r .answer ≡ done.Done = cc in
-    let l = load-done t (kept c) (ap (λ x. x .answer) (sym (loaded-as e)) ∙ answered) in
-    rw (← same-text, answered) (loaded-reached _ t (r .desk) (l .0) (ap (λ x. x .desk) (loaded-as e) ∙ l .1))
-reached-in (then-load c e) (calls.on w) q = let p = latest q in let z : _≡_ {A = ℕ} 0 1 = cc in absurd (omega arith)
-reached-in (then-load c e) (calls.told w) q = let p = latest q in let z : _≡_ {A = ℕ} 0 1 = cc in absurd (omega arith)
-reached-in (then-load {d = d} {text = t} {r = r} c e) (calls.refused {j = j} o w) q =
-    let p = latest q in
-    let answered : r .answer ≡ done.TurnedDown j = cc in
-    let ih = reached-in c w (earlier q) in
-    let stays : r .desk ≡ d = ap (λ x. x .desk) (loaded-as e) ∙ load-stays 0 ih t (ih .stage) in
-    rw (stays, answered) (same (load t (done.TurnedDown j)) (calls.refused o) ih)
-reached-in (then-advance n c e) calls.loaded q = let p = latest q in let z : _≡_ {A = ℕ} 0 1 = cc in absurd (omega arith)
-reached-in (then-advance {r = r} n c e) (calls.on {n = i} {a = a} w) q =
-    let p = latest q in
-    let many : i ≡ n = cc in
-    let answered : a ≡ r .answer = cc in
-    let ih = reached-in c w (earlier q) in
-    rw (many, answered, e .0) (advance-reached n ih (ih .stage))
-reached-in (then-advance n c e) (calls.told w) q = let p = latest q in let z : _≡_ {A = ℕ} 0 1 = cc in absurd (omega arith)
-reached-in (then-advance n c e) (calls.refused o w) q = let p = latest q in let z : _≡_ {A = ℕ} 0 1 = cc in absurd (omega arith)
-reached-in (then-verdict c e) calls.loaded q = let p = latest q in let z : _≡_ {A = ℕ} 0 1 = cc in absurd (omega arith)
-reached-in (then-verdict c e) (calls.on w) q = let p = latest q in let z : _≡_ {A = ℕ} 0 1 = cc in absurd (omega arith)
-reached-in (then-verdict {d = d} c e) (calls.told w) q = rw (e .0) (tells d (reached-in c w (earlier q)))
-reached-in (then-verdict c e) (calls.refused o w) q = let p = latest q in let z : _≡_ {A = ℕ} 0 1 = cc in absurd (omega arith)
-reached-in (then-drop c e) calls.loaded q = let p = latest q in let z : _≡_ {A = ℕ} 0 1 = cc in absurd (omega arith)
-reached-in (then-drop c e) (calls.on w) q = let p = latest q in let z : _≡_ {A = ℕ} 0 1 = cc in absurd (omega arith)
-reached-in (then-drop c e) (calls.told w) q = let p = latest q in let z : _≡_ {A = ℕ} 0 1 = cc in absurd (omega arith)
-reached-in (then-drop c e) (calls.refused o w) q = let p = latest q in let z : _≡_ {A = ℕ} 0 1 = cc in absurd (omega arith)
+reached-in (then-load c e) calls.loaded q = after-load (kept c) (loaded-as e) (same-load q)
+reached-in (then-load c e) (calls.on w) q = absurd (apart q refl)
+reached-in (then-load c e) (calls.told w) q = absurd (apart q refl)
+reached-in (then-load c e) (calls.refused o w) q = after-refusal (reached-in c w (earlier q)) (loaded-as e) (same-load q .1) o
+reached-in (then-advance n c e) calls.loaded q = absurd (apart q refl)
+reached-in (then-advance n c e) (calls.on w) q = after-advance (reached-in c w (earlier q)) (e .0) (same-advance q)
+reached-in (then-advance n c e) (calls.told w) q = absurd (apart q refl)
+reached-in (then-advance n c e) (calls.refused o w) q = absurd (apart q refl)
+reached-in (then-verdict c e) calls.loaded q = absurd (apart q refl)
+reached-in (then-verdict c e) (calls.on w) q = absurd (apart q refl)
+reached-in (then-verdict c e) (calls.told w) q = after-verdict (reached-in c w (earlier q)) (e .0)
+reached-in (then-verdict c e) (calls.refused o w) q = absurd (apart q refl)
+reached-in (then-drop c e) calls.loaded q = absurd (apart q refl)
+reached-in (then-drop c e) (calls.on w) q = absurd (apart q refl)
+reached-in (then-drop c e) (calls.told w) q = absurd (apart q refl)
+reached-in (then-drop c e) (calls.refused o w) q = absurd (apart q refl)
 
 pub reached : {cs : List Called} {d : Desk} {text : List ℕ} {m k : ℕ} → Calls cs d → Walked cs text m k → Reached cs text d m k
 reached c w = reached-in c w refl

@@ -4,12 +4,12 @@
 use Prim.Native.Nat.{ℕ, _+_}
 use mathlib.Core.Logic.{_≢_}
 use mathlib.Core.List.{List, [], _∷_}
-use Rattle.desk.specs.declared.Done.{Done}
-use Rattle.desk.specs.declared.Done.the-variants as done
-use Rattle.desk.specs.declared.Advance.{Advance}
-use Rattle.desk.specs.declared.Advance.the-variants as progress
-use Rattle.desk.specs.declared.Verdict.{Verdict}
-use Rattle.desk.specs.Answers.{countSaid}
+use Rattle.answers.specs.declared.Done.{Done}
+use Rattle.answers.specs.declared.Done.the-variants as done
+use Rattle.answers.specs.declared.Advance.{Advance}
+use Rattle.answers.specs.declared.Advance.the-variants as progress
+use Rattle.answers.specs.declared.Verdict.{Verdict}
+use Rattle.answers.specs.Answers.{countSaid}
 
 -- a call with its argument, and its answer
 pub data Called : Type 0 where

@@ -13,10 +13,10 @@ use Rattle.criteria.specs.Verdict.{Verdict, Demand2}
 use Rattle.design.specs.Lines.{designText}
 use Rattle.design.specs.Faults.{DesignText}
 use Rattle.desk.specs.declared.Desk.{Desk}
-use Rattle.desk.specs.declared.Phase.the-variants as phase
+use Rattle.answers.specs.declared.Phase.the-variants as phase
 use Rattle.desk.specs.declared.AfterAdvance.{AfterAdvance}
 use Rattle.desk.specs.declared.AfterVerdict.{AfterVerdict}
-use Rattle.desk.specs.Answers.{Decided, verdictNumbers}
+use Rattle.answers.specs.Answers.{Decided, verdictNumbers}
 use Rattle.checker.specs.Said.{saidVerdict}
 use Rattle.checker.specs.Count.{stopOf, Due}
 use Rattle.checker.specs.OneCall.{designReport}

@@ -8,17 +8,17 @@ use lib.ListN.{length, drop}
 use Rattle.writer.specs.Report as bytes
 use Rattle.walk.specs.declared.Failure.{Failure}
 use Rattle.design.specs.Faults.{LowestFault}
-use Rattle.desk.specs.declared.Phase.the-variants as phase
-use Rattle.desk.specs.declared.Done.the-variants as done
-use Rattle.desk.specs.declared.Verdict.{Verdict}
-use Rattle.desk.specs.declared.Verdict.the-variants as verdict
+use Rattle.answers.specs.declared.Phase.the-variants as phase
+use Rattle.answers.specs.declared.Done.the-variants as done
+use Rattle.answers.specs.declared.Verdict.{Verdict}
+use Rattle.answers.specs.declared.Verdict.the-variants as verdict
 use Rattle.desk.specs.declared.Desk.{Desk}
 use Rattle.desk.specs.declared.AfterLoad.{AfterLoad}
 use Rattle.desk.specs.declared.AfterAdvance.{AfterAdvance}
 use Rattle.desk.specs.declared.AfterVerdict.{AfterVerdict}
 use Rattle.desk.specs.declared.AfterDrop.{AfterDrop}
 use Rattle.desk.specs.Desk.{HoldsText, notLoaded, notAdvanced}
-use Rattle.desk.specs.Answers.{Decided, doneNumber}
+use Rattle.answers.specs.Answers.{Decided, doneNumber}
 use Rattle.checker.specs.OneCall.{refusedReport}
 use Rattle.claims.specs.Calls.{Called, AcceptedIn}
 use Rattle.claims.specs.Contracts.{Loads, Advances, Tells, Drops, Checks, Calls}

@@ -1,11 +1,12 @@
--- What each call returns, by the phase of its desk and the tests that led there, is what specs/Desk says.
+-- What each call returns, by the number of its phase and the tests that led there, is what specs/Desk says.
 use Prim.Native.Nat.{ℕ, _+_, _-_, _^_, _≤_, _<_}
-use mathlib.Core.Path.{_≡_, sym, ap, _∙_}
+use mathlib.Core.Path.{_≡_, refl, sym, ap, _∙_}
 use mathlib.Core.Logic.{_≢_}
-use mathlib.Core.Bool.{Bool, true, false}
+use mathlib.Core.Bool.{Bool, true, false, cond}
 use mathlib.Core.List.{List}
 use native.Mathlib.Omega.{arith}
-use borrow.Author.Tests.{eq-eqb, ne-eqb, le-leb, lt-leb}
+use borrow.Author.Tests.{eq-eqb, ne-eqb}
+use lib.Dec.{eqb, leb}
 use Rattle.layout.specs.Sizes.{stateCountIn, initialNumberIn}
 use Rattle.loader.specs.declared.Loaded.{Loaded}
 use Rattle.loader.specs.Load.{loadedOf}
@@ -13,75 +14,99 @@ use Rattle.walk.specs.Told.{toldWalked}
 use Rattle.walk.specs.Walk.{startIn, planOf, walkBy}
 use Rattle.walk.specs.declared.Failure.{Failure}
 use Rattle.walk.specs.declared.Walked.{Walked}
-use Rattle.walk.specs.declared.Outcome.the-variants.{Pass, Fail}
 use Rattle.desk.specs.Said.{walkedBy}
 use Rattle.desk.proofs.Said.{said-told, count-within}
-use Rattle.desk.specs.declared.Phase.{Phase}
-use Rattle.desk.specs.declared.Phase.the-variants as phase
-use Rattle.desk.specs.declared.Advance.the-variants as advance
-use Rattle.desk.specs.declared.Done.the-variants as done
+use Rattle.answers.specs.declared.Phase.{Phase}
+use Rattle.answers.specs.declared.Phase.the-variants as phase
+use Rattle.answers.specs.declared.Done.the-variants as done
+use Rattle.answers.specs.declared.Advance.{Advance}
+use Rattle.answers.specs.declared.Advance.the-variants as advance
+use Rattle.answers.specs.declared.Verdict.{Verdict}
+use Rattle.answers.specs.Answers.{heldNumber, advanceNumber, dropNumber, toldBy, answerAfter, phaseAfter}
 use Rattle.desk.specs.declared.Desk.{Desk}
 use Rattle.desk.specs.declared.AfterLoad.{AfterLoad}
 use Rattle.desk.specs.declared.AfterAdvance.{AfterAdvance}
-use Rattle.desk.specs.Desk.{emptyDesk, placed, notLoaded, loadEmpty, loadBy, loadOf, notAdvanced, ahead, failStart, walkOn, examineNext, advanceOpen, advanceBy, advanceOf, tellBy, tellOf, dropBy, dropOf}
+use Rattle.desk.specs.Desk.{emptyDesk, placed, notLoaded, loadEmpty, loadBy, loadOf, notAdvanced, ahead, failStart, walkOn, examineNext, examineOpen, advanceOpen, advanceBy, advanceOf, tellOf, dropBy, dropOf}
 
 module _ (d : Desk) where
-  -- ---- by phase
+  -- ---- by phase: 0 where the call is done, else the number by which it is turned down
 
-  module _ (text : List ℕ) where
-    load-at : {p : Phase} → d .phase ≡ p → loadBy p d text ≡ loadOf d text
+  load-by : (p : Phase) (text : List ℕ) → heldNumber p ≡ 0 → loadEmpty d (loadedOf text) ≡ loadBy p d text
+  load-by phase.Empty text h = refl
+  load-by phase.Open text h = absurd (omega (arith, h))
+  load-by phase.Accepted text h = absurd (omega (arith, h))
+  load-by (phase.Failed f) text h = absurd (omega (arith, h))
+
+  not-loaded-by : (p : Phase) (text : List ℕ) → heldNumber p ≢ 0 → notLoaded (heldNumber p) d ≡ loadBy p d text
+  not-loaded-by phase.Empty text h = absurd (h refl)
+  not-loaded-by phase.Open text h = refl
+  not-loaded-by phase.Accepted text h = refl
+  not-loaded-by (phase.Failed f) text h = refl
+
+  advance-by : (p : Phase) (n : ℕ) → advanceNumber p n ≡ 0 → examineOpen d n ≡ advanceBy p d n
+  unfolding advanceOpen
+  advance-by phase.Empty n h = absurd (omega (arith, h))
+  advance-by phase.Open n h = go (eqb n 0) h
+    where
+      go : (b : Bool) → _≡_ {A = ℕ} (cond b 8 0) 0 → examineOpen d n ≡ cond b (notAdvanced 8 d) (examineOpen d n)
+      go true e = absurd (omega (arith, e))
+      go false e = refl
+  advance-by phase.Accepted n h = absurd (omega (arith, h))
+  advance-by (phase.Failed f) n h = absurd (omega (arith, h))
+
+  not-advanced-by : (p : Phase) (n : ℕ) → advanceNumber p n ≢ 0 → notAdvanced (advanceNumber p n) d ≡ advanceBy p d n
+  unfolding advanceOpen
+  not-advanced-by phase.Empty n h = refl
+  not-advanced-by phase.Open n h = go (eqb n 0) h
+    where
+      go : (b : Bool) → _≢_ {A = ℕ} (cond b 8 0) 0 → notAdvanced (cond b 8 0) d ≡ cond b (notAdvanced 8 d) (examineOpen d n)
+      go true e = refl
+      go false e = absurd (e refl)
+  not-advanced-by phase.Accepted n h = refl
+  not-advanced-by (phase.Failed f) n h = refl
+
+  drop-by : (p : Phase) → dropNumber p ≡ 0 → record { answer = done.Done; desk = emptyDesk } ≡ dropBy p d
+  drop-by phase.Empty h = absurd (omega (arith, h))
+  drop-by phase.Open h = refl
+  drop-by phase.Accepted h = refl
+  drop-by (phase.Failed f) h = refl
+
+  not-dropped-by : (p : Phase) → dropNumber p ≢ 0 → record { answer = done.TurnedDown (dropNumber p); desk = d } ≡ dropBy p d
+  not-dropped-by phase.Empty h = refl
+  not-dropped-by phase.Open h = absurd (h refl)
+  not-dropped-by phase.Accepted h = absurd (h refl)
+  not-dropped-by (phase.Failed f) h = absurd (h refl)
+
+  module _ (text : List ℕ) (k : ℕ) (e : k ≡ heldNumber (d .phase)) (r : AfterLoad) where
+    pub load-done : k ≡ 0 → r ≡ loadEmpty d (loadedOf text) → r ≡ loadOf d text
     unfolding loadOf
-    load-at h = ap (λ p. loadBy p d text) (sym h)
+    load-done h er = er ∙ load-by (d .phase) text (sym e ∙ h)
 
-    pub load-empty : d .phase ≡ phase.Empty → (r : AfterLoad) → r ≡ loadEmpty d (loadedOf text) → r ≡ loadOf d text
-    load-empty h r e = e ∙ load-at h
+    pub load-refused : k ≢ 0 → r ≡ notLoaded k d → r ≡ loadOf d text
+    unfolding loadOf
+    load-refused h er = er ∙ ap (λ j. notLoaded j d) e ∙ not-loaded-by (d .phase) text (λ z. h (e ∙ z))
 
-    pub load-open : d .phase ≡ phase.Open → (r : AfterLoad) → r ≡ notLoaded 12 d → r ≡ loadOf d text
-    load-open h r e = e ∙ load-at h
-
-    pub load-accepted : d .phase ≡ phase.Accepted → (r : AfterLoad) → r ≡ notLoaded 12 d → r ≡ loadOf d text
-    load-accepted h r e = e ∙ load-at h
-
-    pub load-failed : (f : Failure) → d .phase ≡ phase.Failed f → (r : AfterLoad) → r ≡ notLoaded 12 d → r ≡ loadOf d text
-    load-failed f h r e = e ∙ load-at h
-
-  module _ (n : ℕ) where
-    advance-at : {p : Phase} → d .phase ≡ p → advanceBy p d n ≡ advanceOf d n
+  module _ (n k : ℕ) (e : k ≡ advanceNumber (d .phase) n) (r : AfterAdvance) where
+    pub advance-done : k ≡ 0 → r ≡ examineOpen d n → r ≡ advanceOf d n
     unfolding advanceOf
-    advance-at h = ap (λ p. advanceBy p d n) (sym h)
+    advance-done h er = er ∙ advance-by (d .phase) n (sym e ∙ h)
 
-    pub advance-empty : d .phase ≡ phase.Empty → (r : AfterAdvance) → r ≡ notAdvanced 11 d → r ≡ advanceOf d n
-    advance-empty h r e = e ∙ advance-at h
+    pub advance-refused : k ≢ 0 → r ≡ notAdvanced k d → r ≡ advanceOf d n
+    unfolding advanceOf
+    advance-refused h er = er ∙ ap (λ j. notAdvanced j d) e ∙ not-advanced-by (d .phase) n (λ z. h (e ∙ z))
 
-    pub advance-open : d .phase ≡ phase.Open → (r : AfterAdvance) → r ≡ advanceOpen d n → r ≡ advanceOf d n
-    advance-open h r e = e ∙ advance-at h
+  module _ (k : ℕ) (e : k ≡ dropNumber (d .phase)) where
+    pub drop-done : k ≡ 0 → (x : Desk) → x ≡ emptyDesk → record { answer = done.Done; desk = x } ≡ dropOf d
+    unfolding dropOf
+    drop-done h x ex = ap (λ y. record { answer = done.Done; desk = y }) ex ∙ drop-by (d .phase) (sym e ∙ h)
 
-    pub advance-accepted : d .phase ≡ phase.Accepted → (r : AfterAdvance) → r ≡ notAdvanced 14 d → r ≡ advanceOf d n
-    advance-accepted h r e = e ∙ advance-at h
+    pub drop-refused : k ≢ 0 → record { answer = done.TurnedDown k; desk = d } ≡ dropOf d
+    unfolding dropOf
+    drop-refused h = ap (λ j. record { answer = done.TurnedDown j; desk = d }) e ∙ not-dropped-by (d .phase) (λ z. h (e ∙ z))
 
-    pub advance-failed : (f : Failure) → d .phase ≡ phase.Failed f → (r : AfterAdvance) → r ≡ notAdvanced 14 d → r ≡ advanceOf d n
-    advance-failed f h r e = e ∙ advance-at h
-
-  pub verdict-at : {p : Phase} → d .phase ≡ p → tellBy p d ≡ tellOf d
+  pub told : (v : Verdict) → v ≡ toldBy (d .phase) → record { answer = v; desk = d } ≡ tellOf d
   unfolding tellOf
-  verdict-at h = ap (λ p. tellBy p d) (sym h)
-
-  drop-at : {p : Phase} → d .phase ≡ p → dropBy p d ≡ dropOf d
-  unfolding dropOf
-  drop-at h = ap (λ p. dropBy p d) (sym h)
-
-  pub drop-empty : d .phase ≡ phase.Empty → record { answer = done.TurnedDown 11; desk = d } ≡ dropOf d
-  drop-empty h = drop-at h
-
-  module _ (e : Desk) (ee : e ≡ emptyDesk) where
-    pub drop-open : d .phase ≡ phase.Open → record { answer = done.Done; desk = e } ≡ dropOf d
-    drop-open h = rw ee (drop-at h)
-
-    pub drop-accepted : d .phase ≡ phase.Accepted → record { answer = done.Done; desk = e } ≡ dropOf d
-    drop-accepted h = rw ee (drop-at h)
-
-    pub drop-failed : (f : Failure) → d .phase ≡ phase.Failed f → record { answer = done.Done; desk = e } ≡ dropOf d
-    drop-failed f h = rw ee (drop-at h)
+  told v e = ap (λ w. record { answer = w; desk = d }) e
 
   -- ---- load on an empty desk
 
@@ -97,43 +122,26 @@ module _ (d : Desk) where
 
   -- ---- advance on an open desk
 
-  module _ (n : ℕ) where
-    pub by-none : n ≡ 0 → (r : AfterAdvance) → r ≡ notAdvanced 8 d → r ≡ advanceOpen d n
-    unfolding advanceOpen
-    by-none h r e = rw (eq-eqb n 0 h) e
+  pub on-from-later : (n : ℕ) → d .next ≢ 0 → (r : AfterAdvance) → r ≡ examineNext d n → r ≡ examineOpen d n
+  unfolding examineOpen
+  on-from-later n h r e = rw (ne-eqb (d .next) 0 h) e
 
-    module _ (some : n ≢ 0) where
-      pub on-from-later : d .next ≢ 0 → (r : AfterAdvance) → r ≡ examineNext d n → r ≡ advanceOpen d n
-      unfolding advanceOpen
-      on-from-later h r e = rw (ne-eqb n 0 some, ne-eqb (d .next) 0 h) e
+  module _ (n : ℕ) (first : d .next ≡ 0) (b : Bool) (eb : b ≡ startIn (d .fields) (d .starts) (d .counts)) where
+    pub on-from-start : b ≡ true → (r : AfterAdvance) → r ≡ examineNext d n → r ≡ examineOpen d n
+    unfolding examineOpen
+    on-from-start h r e = rw (eq-eqb (d .next) 0 first, ← eb, h) e
 
-      module _ (first : d .next ≡ 0) (b : Bool) (eb : b ≡ startIn (d .fields) (d .starts) (d .counts)) where
-        pub on-from-start : b ≡ true → (r : AfterAdvance) → r ≡ examineNext d n → r ≡ advanceOpen d n
-        unfolding advanceOpen
-        on-from-start h r e = rw (ne-eqb n 0 some, eq-eqb (d .next) 0 first, ← eb, h) e
-
-        pub start-fails : b ≡ false → (r : AfterAdvance) → r ≡ failStart d → r ≡ advanceOpen d n
-        unfolding advanceOpen
-        start-fails h r e = rw (ne-eqb n 0 some, eq-eqb (d .next) 0 first, ← eb, h) e
+    pub start-fails : b ≡ false → (r : AfterAdvance) → r ≡ failStart d → r ≡ examineOpen d n
+    unfolding examineOpen
+    start-fails h r e = rw (eq-eqb (d .next) 0 first, ← eb, h) e
 
   -- ---- after a walk
 
-  module _ (w : Walked) (total : ℕ) where
-    pub walk-fails : (f : Failure) → w .outcome ≡ Fail f → (e : Desk) → e ≡ placed d (d .next + w .count) (phase.Failed f)
-        → record { answer = advance.Failed (w .count); desk = e } ≡ walkOn d w total
-    unfolding walkOn
-    walk-fails f h e ee = rw (h, ee)
-
-    module _ (h : w .outcome ≡ Pass) (e : Desk) where
-      pub walk-ends : total ≤ d .next + w .count → e ≡ placed d (d .next + w .count) phase.Accepted
-          → record { answer = advance.Accepted (w .count); desk = e } ≡ walkOn d w total
-      unfolding walkOn
-      walk-ends l ee = rw (h, le-leb total (d .next + w .count) l, ee)
-
-      pub walk-goes-on : d .next + w .count < total → e ≡ placed d (d .next + w .count) phase.Open
-          → record { answer = advance.Open (w .count); desk = e } ≡ walkOn d w total
-      unfolding walkOn
-      walk-goes-on l ee = rw (h, lt-leb total (d .next + w .count) l, ee)
+  pub after-walk : (w : Walked) (total : ℕ) (b : Bool) → b ≡ leb total (d .next + w .count) → (a : Advance) → a ≡ answerAfter (w .outcome) b (w .count)
+      → (p : Phase) → p ≡ phaseAfter (w .outcome) b → (e : Desk) → e ≡ placed d (d .next + w .count) p
+      → record { answer = a; desk = e } ≡ walkOn d w total
+  unfolding walkOn
+  after-walk w total b eb a ea p ep e ee = rw (ee, ea, ep, eb)
 
 -- ---- how many states are ahead
 

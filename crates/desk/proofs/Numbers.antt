@@ -11,16 +11,17 @@ use Rattle.walk.specs.Walk.{startIn}
 use Rattle.walk.specs.declared.Outcome.{Outcome}
 use Rattle.walk.specs.declared.Outcome.the-variants.{Pass, Fail}
 use Rattle.walk.specs.declared.Walked.{Walked}
-use Rattle.desk.specs.declared.Phase.{Phase}
-use Rattle.desk.specs.declared.Phase.the-variants as phase
+use Rattle.answers.specs.declared.Phase.{Phase}
+use Rattle.answers.specs.declared.Phase.the-variants as phase
 use Rattle.desk.specs.declared.Desk.{Desk}
 use Rattle.desk.specs.declared.AfterLoad.{AfterLoad}
 use Rattle.desk.specs.declared.AfterAdvance.{AfterAdvance}
 use Rattle.desk.specs.declared.AfterVerdict.{AfterVerdict}
 use Rattle.desk.specs.declared.AfterDrop.{AfterDrop}
 use Rattle.desk.specs.Said.{walkedBy}
-use Rattle.desk.specs.Answers.{doneNumber, refusalNumber, countSaid, verdictNumbers, loadNumber, advanceNumber, countOpen, countBy, advanceCount, verdictNumbersBy, dropNumber}
-use Rattle.desk.specs.Desk.{loadEmpty, loadBy, loadOf, afterPass, afterWalk, walkOn, failStart, ahead, examineNext, advanceOpen, advanceBy, advanceOf, tellBy, tellOf, dropBy, dropOf}
+use Rattle.answers.specs.Answers.{doneNumber, refusalNumber, countSaid, verdictNumbers, advanceNumber, verdictNumbersBy, dropNumber, answerAfter}
+use Rattle.desk.specs.Answers.{loadNumber, countOpen, countBy, advanceCount}
+use Rattle.desk.specs.Desk.{loadEmpty, loadBy, loadOf, afterWalk, walkOn, failStart, ahead, examineNext, examineOpen, advanceOpen, advanceBy, advanceOf, tellBy, tellOf, dropBy, dropOf}
 
 -- ---- load
 
@@ -53,12 +54,12 @@ load-number d text r e = ap (λ (x : AfterLoad). doneNumber (x .answer)) e ∙ l
 -- ---- advance
 
 walked-number : (o : Outcome) (d : Desk) (count at total : ℕ) → refusalNumber (afterWalk o d count at total .answer) ≡ 0
-walked-number (Fail f) d count at total = refl
-walked-number Pass d count at total = go (leb total at)
+walked-number o d count at total = go o (leb total at)
   where
-    go : (b : Bool) → refusalNumber (afterPass b d count at .answer) ≡ 0
-    go true = refl
-    go false = refl
+    go : (o : Outcome) (b : Bool) → refusalNumber (answerAfter o b count) ≡ 0
+    go (Fail f) b = refl
+    go Pass true = refl
+    go Pass false = refl
 
 next-number : (d : Desk) (n : ℕ) → refusalNumber (examineNext d n .answer) ≡ 0
 unfolding examineNext walkOn
@@ -72,7 +73,7 @@ unfolding failStart
 start-number d = refl
 
 open-number : (d : Desk) (n : ℕ) → refusalNumber (advanceOpen d n .answer) ≡ cond (eqb n 0) 8 0
-unfolding advanceOpen
+unfolding advanceOpen examineOpen
 open-number d n = go (eqb n 0) refl
   where
     go : (b : Bool) → eqb n 0 ≡ b → refusalNumber (advanceOpen d n .answer) ≡ cond (eqb n 0) 8 0
@@ -97,12 +98,12 @@ advance-number d n r e = ap (λ (x : AfterAdvance). refusalNumber (x .answer)) e
 -- ---- how many states an advance examines
 
 walked-count : (o : Outcome) (d : Desk) (count at total : ℕ) → countSaid (afterWalk o d count at total .answer) ≡ count
-walked-count (Fail f) d count at total = refl
-walked-count Pass d count at total = go (leb total at)
+walked-count o d count at total = go o (leb total at)
   where
-    go : (b : Bool) → countSaid (afterPass b d count at .answer) ≡ count
-    go true = refl
-    go false = refl
+    go : (o : Outcome) (b : Bool) → countSaid (answerAfter o b count) ≡ count
+    go (Fail f) b = refl
+    go Pass true = refl
+    go Pass false = refl
 
 next-count : (d : Desk) (n : ℕ)
     → countSaid (examineNext d n .answer)
@@ -118,7 +119,7 @@ unfolding failStart
 start-count d = refl
 
 open-count : (d : Desk) (n : ℕ) → countSaid (advanceOpen d n .answer) ≡ cond (eqb n 0) 0 (countOpen d n)
-unfolding advanceOpen
+unfolding advanceOpen examineOpen
 open-count d n = go (eqb n 0) refl
   where
     go : (b : Bool) → eqb n 0 ≡ b → countSaid (advanceOpen d n .answer) ≡ cond (eqb n 0) 0 (countOpen d n)

@@ -3,7 +3,7 @@
 -- crate claims. What loading a text comes to is in loader/specs/Load, what a walk over states in walk/specs.
 use Prim.Native.Nat.{ℕ, _+_, _-_, min}
 use mathlib.Core.Path.{_≡_}
-use mathlib.Core.Bool.{Bool, true, false, cond}
+use mathlib.Core.Bool.{cond}
 use mathlib.Core.List.{List}
 use lib.Dec.{eqb, leb}
 use lib.ListN.{replicate}
@@ -18,14 +18,13 @@ use Rattle.walk.specs.Walk.{startIn, planOf}
 use Rattle.walk.specs.declared.Failure.{Failure}
 use Rattle.walk.specs.declared.Walked.{Walked}
 use Rattle.walk.specs.declared.Outcome.{Outcome}
-use Rattle.walk.specs.declared.Outcome.the-variants.{Pass, Fail}
 use Rattle.desk.specs.Said.{walkedBy}
-use Rattle.desk.specs.declared.Phase.{Phase}
-use Rattle.desk.specs.declared.Phase.the-variants as phase
-use Rattle.desk.specs.declared.Done.{Done}
-use Rattle.desk.specs.declared.Done.the-variants as done
-use Rattle.desk.specs.declared.Advance.the-variants as advance
-use Rattle.desk.specs.declared.Verdict.the-variants as verdict
+use Rattle.answers.specs.declared.Phase.{Phase}
+use Rattle.answers.specs.declared.Phase.the-variants as phase
+use Rattle.answers.specs.declared.Done.{Done}
+use Rattle.answers.specs.declared.Done.the-variants as done
+use Rattle.answers.specs.declared.Advance.the-variants as advance
+use Rattle.answers.specs.Answers.{toldBy, answerAfter, phaseAfter}
 use Rattle.desk.specs.declared.Desk.{Desk}
 use Rattle.desk.specs.declared.AfterLoad.{AfterLoad}
 use Rattle.desk.specs.declared.AfterAdvance.{AfterAdvance}
@@ -91,13 +90,10 @@ failStart d =
     record { answer = advance.Failed 0; desk = placed d 0 (phase.Failed failure) }
 
 -- "The check is decided when a criterion fails or the last state is done."
-abbrev pub afterPass : Bool → Desk → ℕ → ℕ → AfterAdvance
-afterPass true d count at = record { answer = advance.Accepted count; desk = placed d at phase.Accepted }
-afterPass false d count at = record { answer = advance.Open count; desk = placed d at phase.Open }
-
 abbrev pub afterWalk : Outcome → Desk → ℕ → ℕ → ℕ → AfterAdvance
-afterWalk (Fail f) d count at total = record { answer = advance.Failed count; desk = placed d at (phase.Failed f) }
-afterWalk Pass d count at total = afterPass (leb total at) d count at
+afterWalk o d count at total =
+    let ended = leb total at in
+    record { answer = answerAfter o ended count; desk = placed d at (phaseAfter o ended) }
 
 unfoldable pub walkOn : Desk → Walked → ℕ → AfterAdvance
 walkOn d w total = afterWalk (w .outcome) d (w .count) (d .next + w .count) total
@@ -108,13 +104,16 @@ examineNext d n =
     let k = ahead n (d .next) total in
     walkOn d (walkedBy (d .fields) (d .starts) (d .counts) (d .plan) k (d .next)) total
 
--- "Criterion 1 comes before state 0, in the first advance"; 8. "Advance by 0 states."
-unfoldable pub advanceOpen : Desk → ℕ → AfterAdvance
-advanceOpen d n =
-    cond (eqb n 0) (notAdvanced 8 d)
-    (cond (eqb (d .next) 0)
+-- "Criterion 1 comes before state 0, in the first advance"
+unfoldable pub examineOpen : Desk → ℕ → AfterAdvance
+examineOpen d n =
+    cond (eqb (d .next) 0)
     (cond (startIn (d .fields) (d .starts) (d .counts)) (examineNext d n) (failStart d))
-    (examineNext d n))
+    (examineNext d n)
+
+-- 8. "Advance by 0 states."
+unfoldable pub advanceOpen : Desk → ℕ → AfterAdvance
+advanceOpen d n = cond (eqb n 0) (notAdvanced 8 d) (examineOpen d n)
 
 -- 11. "Advance, verdict or drop on an empty desk." 14. "Advance when decided." "These come before the input's."
 abbrev pub advanceBy : Phase → Desk → ℕ → AfterAdvance
@@ -128,12 +127,8 @@ advanceOf d n = advanceBy (d .phase) d n
 
 -- ---- "verdict returns the report's numbers"
 
--- 13. "Verdict while open."
 abbrev pub tellBy : Phase → Desk → AfterVerdict
-tellBy phase.Empty d = record { answer = verdict.TurnedDown 11; desk = d }
-tellBy phase.Open d = record { answer = verdict.TurnedDown 13; desk = d }
-tellBy phase.Accepted d = record { answer = verdict.Accepted; desk = d }
-tellBy (phase.Failed f) d = record { answer = verdict.Failed f; desk = d }
+tellBy p d = record { answer = toldBy p; desk = d }
 
 unfoldable pub tellOf : Desk → AfterVerdict
 tellOf d = tellBy (d .phase) d

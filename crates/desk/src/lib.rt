@@ -1,26 +1,21 @@
 // The desk: a design is loaded, its states are examined in as many calls as one likes, and the verdict is told (01, "The desk"). Each
 // call takes the desk and gives the next one back beside its answer; a call turned down gives it back as it was. What each call
-// answers is in specs/Desk, one equation for every desk and every argument; the paper's numbers for it are in specs/Answers.
+// answers is in specs/Desk, one equation for every desk and every argument; the paper's numbers for it are in specs/Answers and in the
+// crate answers.
+use answers::Advance;
+use answers::Done;
+use answers::Phase;
+use answers::Verdict;
 use design::Counts;
 use walk::Failure;
-use walk::Outcome;
 use walk::Walked;
-use writer::Report;
 ghost use mathlib.Core.Path.{_≡_};
 ghost use Prim.Native.Nat.{_+_, _<_};
 ghost use Rattle.loader.specs.Load.{loadedOf};
-ghost use Rattle.desk.specs.Answers.{doneNumber, refusalNumber, countSaid, verdictNumbers, loadNumber, advanceNumber, advanceCount, verdictNumbersBy, dropNumber};
-ghost use Rattle.writer.specs.Report.{report};
+ghost use Rattle.answers.specs.Answers.{doneNumber, refusalNumber, countSaid, verdictNumbers, advanceNumber, verdictNumbersBy, dropNumber};
+ghost use Rattle.desk.specs.Answers.{loadNumber, advanceCount};
 ghost use Rattle.desk.specs.Limits.{deskLimits};
-ghost use Rattle.desk.specs.Desk.{emptyDesk, notLoaded, loadEmpty, loadOf, notAdvanced, failStart, examineNext, walkOn, advanceOpen, advanceOf, tellOf, dropOf, placed, ahead};
-
-// What a desk is: empty, open or decided.
-pub enum Phase {
-    Empty,
-    Open,
-    Accepted,
-    Failed(Failure),
-}
+ghost use Rattle.desk.specs.Desk.{emptyDesk, notLoaded, loadEmpty, loadOf, notAdvanced, failStart, examineNext, walkOn, examineOpen, advanceOf, tellOf, dropOf, placed, ahead};
 
 pub struct Desk {
     // The fields of the text's lines, and where each line starts.
@@ -44,27 +39,6 @@ pub struct Limits {
     pub rows: usize,
     pub span: u16,
     pub states: usize,
-}
-
-// The answer of a load or a drop: done, or the number by which it is turned down.
-pub enum Done {
-    Done,
-    TurnedDown(u16),
-}
-
-// The answer of an advance, with how many states it examined; or the number by which it is turned down.
-pub enum Advance {
-    Open(usize),
-    Accepted(usize),
-    Failed(usize),
-    TurnedDown(u16),
-}
-
-// The answer of a verdict; or the number by which it is turned down.
-pub enum Verdict {
-    Accepted,
-    Failed(Failure),
-    TurnedDown(u16),
 }
 
 // Each answer beside the next desk.
@@ -148,12 +122,11 @@ impl Desk {
         ensures { λ r. ⌜ doneNumber (r .answer) ≡ loadNumber (self .phase) (now (text .entry)) ⌝ }
     {
         let phase = self.phase;
-        match phase {
-            Phase::Empty => self.load_empty(text),
-            Phase::Open => self.not_loaded(12),
-            Phase::Accepted => self.not_loaded(12),
-            Phase::Failed(_) => self.not_loaded(12),
+        let number = answers::held_number(phase);
+        if number == 0 {
+            return self.load_empty(text);
         }
+        self.not_loaded(number)
     }
 
     // Examines the next n states, or those that remain.
@@ -163,12 +136,11 @@ impl Desk {
         ensures { λ r. ⌜ countSaid (r .answer) ≡ advanceCount self n ⌝ }
     {
         let phase = self.phase;
-        match phase {
-            Phase::Empty => self.not_advanced(11),
-            Phase::Open => self.advance_open(n),
-            Phase::Accepted => self.not_advanced(14),
-            Phase::Failed(_) => self.not_advanced(14),
+        let number = answers::advance_number(phase, n);
+        if number == 0 {
+            return self.examine_open(n);
         }
+        self.not_advanced(number)
     }
 
     // Tells the report's numbers; the desk stays as it is.
@@ -177,23 +149,9 @@ impl Desk {
         ensures { λ r. ⌜ verdictNumbers (r .answer) ≡ verdictNumbersBy (self .phase) ⌝ }
     {
         let phase = self.phase;
-        match phase {
-            Phase::Empty => AfterVerdict {
-                answer: Verdict::TurnedDown(11),
-                desk: self,
-            },
-            Phase::Open => AfterVerdict {
-                answer: Verdict::TurnedDown(13),
-                desk: self,
-            },
-            Phase::Accepted => AfterVerdict {
-                answer: Verdict::Accepted,
-                desk: self,
-            },
-            Phase::Failed(failure) => AfterVerdict {
-                answer: Verdict::Failed(failure),
-                desk: self,
-            },
+        AfterVerdict {
+            answer: answers::told(phase),
+            desk: self,
         }
     }
 
@@ -203,23 +161,16 @@ impl Desk {
         ensures { λ r. ⌜ doneNumber (r .answer) ≡ dropNumber (self .phase) ⌝ }
     {
         let phase = self.phase;
-        match phase {
-            Phase::Empty => AfterDrop {
-                answer: Done::TurnedDown(11),
-                desk: self,
-            },
-            Phase::Open => AfterDrop {
+        let number = answers::drop_number(phase);
+        if number == 0 {
+            return AfterDrop {
                 answer: Done::Done,
                 desk: Desk::empty(),
-            },
-            Phase::Accepted => AfterDrop {
-                answer: Done::Done,
-                desk: Desk::empty(),
-            },
-            Phase::Failed(_) => AfterDrop {
-                answer: Done::Done,
-                desk: Desk::empty(),
-            },
+            };
+        }
+        AfterDrop {
+            answer: Done::TurnedDown(number),
+            desk: self,
         }
     }
 
@@ -269,12 +220,9 @@ impl Desk {
     }
 
     // Advance on an open desk. Criterion 1 comes before state 0, in the first advance.
-    fn advance_open(self, n: u64) -> AfterAdvance
-        ensures { λ r. ⌜ r ≡ advanceOpen self n ⌝ }
+    fn examine_open(self, n: u64) -> AfterAdvance
+        ensures { λ r. ⌜ r ≡ examineOpen self n ⌝ }
     {
-        if n == 0 {
-            return self.not_advanced(8);
-        }
         if self.next == 0 {
             if walk::start_holds(&self.fields, &self.starts, self.counts) {
                 return self.examine_next(n);
@@ -319,24 +267,10 @@ impl Desk {
         let outcome = walked.outcome;
         let count = walked.count;
         let at = self.next + count;
-        match outcome {
-            Outcome::Fail(failure) => AfterAdvance {
-                answer: Advance::Failed(count),
-                desk: self.placed(at, Phase::Failed(failure)),
-            },
-            Outcome::Pass => {
-                if total <= at {
-                    AfterAdvance {
-                        answer: Advance::Accepted(count),
-                        desk: self.placed(at, Phase::Accepted),
-                    }
-                } else {
-                    AfterAdvance {
-                        answer: Advance::Open(count),
-                        desk: self.placed(at, Phase::Open),
-                    }
-                }
-            }
+        let ended = total <= at;
+        AfterAdvance {
+            answer: answers::answer_after(outcome, ended, count),
+            desk: self.placed(at, answers::phase_after(outcome, ended)),
         }
     }
 
@@ -356,29 +290,6 @@ impl Desk {
             next,
             phase,
         }
-    }
-}
-
-// The numbers of a verdict: those of the report; a verdict that is turned down has its number, and 0 else.
-pub fn verdict_numbers(verdict: Verdict) -> Report
-    ensures { λ r. ⌜ r ≡ verdictNumbers verdict ⌝ }
-{
-    match verdict {
-        Verdict::Accepted => report_of(0, 0, 0, 0, 0),
-        Verdict::Failed(f) => report_of(1, f.criterion, f.state, f.row, f.sum),
-        Verdict::TurnedDown(number) => report_of(number, 0, 0, 0, 0),
-    }
-}
-
-fn report_of(verdict: u16, number: u16, state: u16, row: u16, sum: u16) -> Report
-    ensures { λ r. ⌜ r ≡ report verdict number state row sum ⌝ }
-{
-    Report {
-        verdict,
-        number,
-        state,
-        row,
-        sum,
     }
 }
 

@@ -3,10 +3,11 @@ use Prim.Native.Nat.{ℕ}
 use mathlib.Core.Path.{_≡_, sym, ap, _∙_}
 use mathlib.Core.List.{List}
 use Rattle.loader.specs.Load.{faultOf}
-use Rattle.desk.specs.Answers.{doneNumber, loadNumber}
+use Rattle.answers.specs.Answers.{doneNumber}
+use Rattle.desk.specs.Answers.{loadNumber}
 use Rattle.desk.specs.Desk.{emptyDesk}
 use Rattle.desk.specs.declared.Desk.{Desk}
-use Rattle.desk.specs.declared.Done.the-variants as done
+use Rattle.answers.specs.declared.Done.the-variants as done
 use Rattle.desk.specs.declared.AfterLoad.{AfterLoad}
 
 module _ (text : List ℕ) (e : Desk) (r : AfterLoad) (new : e ≡ emptyDesk) (number : doneNumber (r .answer) ≡ loadNumber (e .phase) text) where

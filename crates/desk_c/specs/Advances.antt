@@ -1,8 +1,8 @@
 -- How many advances by n a desk takes till one is not answered open, at most k.
 use Prim.Native.Nat.{ℕ, zero, suc}
 use mathlib.Core.Bool.{Bool, true, false, cond}
-use Rattle.desk.specs.declared.Advance.{Advance}
-use Rattle.desk.specs.declared.Advance.the-variants as advance
+use Rattle.answers.specs.declared.Advance.{Advance}
+use Rattle.answers.specs.declared.Advance.the-variants as advance
 use Rattle.desk.specs.declared.Desk.{Desk}
 use Rattle.desk.specs.Desk.{advanceOf}
 

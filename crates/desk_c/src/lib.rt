@@ -1,7 +1,7 @@
 // The desk for C programs, each time from a new one: a load, and a load with advances to the end. The benchmark in bench/ links this.
-use desk::Advance;
+use answers::Advance;
+use answers::Done;
 use desk::Desk;
-use desk::Done;
 ghost use mathlib.Core.Path.{_≡_};
 ghost use Rattle.loader.specs.Load.{faultOf};
 ghost use Rattle.desk.specs.Desk.{emptyDesk, loadOf};

@@ -6,47 +6,13 @@
 // call's line; the lines of the texts are not counted. Where standard input can't be read or an answer can't be written the program ends
 // with a line on standard error, and makes no more calls.
 //
-// What a line says is in call_lines, what is answered in answer_lines; here they are read and written.
+// A line and a text are read by call_input; what a line says is in call_lines, what a call answers in calls and its line in answer_lines.
 use answer_lines::Stop;
+use call_input::Due;
+use call_input::Line;
 use call_lines::Call;
 use desk::Desk;
 use streams::Ahead;
-use streams::Byte;
-ghost use Prim.Native.Nat.{_≤_};
-
-const LINE_END: u8 = 10;
-
-// A line of input: its length where it is no longer than a call may be; else nothing is kept of it.
-enum Line {
-    Short(usize),
-    Long,
-    End,
-    Failed,
-}
-
-struct LineRead {
-    line: Line,
-    ahead: Ahead,
-}
-
-// Whether bytes that are due were there.
-enum Due {
-    There,
-    Missing,
-    NoLineEnd,
-    Failed,
-}
-
-struct DueRead {
-    due: Due,
-    ahead: Ahead,
-}
-
-// What is then ahead, and how many bytes are still to be passed over.
-struct Skipped {
-    ahead: Ahead,
-    left: u64,
-}
 
 // The desk after a call, what is read ahead, and whether another call may follow.
 struct Step {
@@ -80,7 +46,7 @@ fn run_calls(space: &mut [u8; streams::BLOCK]) {
 // Reads a line and makes the call that it says.
 fn run_next(desk: Desk, space: &mut [u8; streams::BLOCK], ahead: Ahead, line: u64) -> Step {
     let mut bytes = [0u8; call_lines::LONGEST];
-    let read = read_line(space, ahead, &mut bytes);
+    let read = call_input::read_line(space, ahead, &mut bytes);
     let kind = read.line;
     let rest = read.ahead;
     match kind {
@@ -121,8 +87,8 @@ fn run_call(
 }
 
 fn run_load(desk: Desk, space: &mut [u8; streams::BLOCK], ahead: Ahead, n: u64, line: u64) -> Step {
-    let mut room = [0u8; answer_lines::ENOUGH];
-    let read = read_text(space, ahead, n, &mut room);
+    let mut room = [0u8; calls::ENOUGH];
+    let read = call_input::read_text(space, ahead, n, &mut room);
     let due = read.due;
     let rest = read.ahead;
     match due {
@@ -133,9 +99,9 @@ fn run_load(desk: Desk, space: &mut [u8; streams::BLOCK], ahead: Ahead, n: u64, 
     }
 }
 
-fn load_read(desk: Desk, ahead: Ahead, n: u64, room: &[u8; answer_lines::ENOUGH]) -> Step {
+fn load_read(desk: Desk, ahead: Ahead, n: u64, room: &[u8; calls::ENOUGH]) -> Step {
     let mut line = [0u8; answer_lines::ROOM];
-    let answered = answer_lines::run_load(desk, room, n, &mut line);
+    let answered = calls::run_load(desk, room, n, &mut line);
     let k = answered.length;
     let more = write_line(&line[..k]);
     let next = answered.desk;
@@ -148,7 +114,7 @@ fn load_read(desk: Desk, ahead: Ahead, n: u64, room: &[u8; answer_lines::ENOUGH]
 
 fn run_advance(desk: Desk, ahead: Ahead, n: u64) -> Step {
     let mut line = [0u8; answer_lines::ROOM];
-    let answered = answer_lines::run_advance(desk, n, &mut line);
+    let answered = calls::run_advance(desk, n, &mut line);
     let k = answered.length;
     let more = write_line(&line[..k]);
     let next = answered.desk;
@@ -161,7 +127,7 @@ fn run_advance(desk: Desk, ahead: Ahead, n: u64) -> Step {
 
 fn run_verdict(desk: Desk, ahead: Ahead) -> Step {
     let mut line = [0u8; answer_lines::ROOM];
-    let answered = answer_lines::run_verdict(desk, &mut line);
+    let answered = calls::run_verdict(desk, &mut line);
     let k = answered.length;
     let more = write_line(&line[..k]);
     let next = answered.desk;
@@ -174,7 +140,7 @@ fn run_verdict(desk: Desk, ahead: Ahead) -> Step {
 
 fn run_drop(desk: Desk, ahead: Ahead) -> Step {
     let mut line = [0u8; answer_lines::ROOM];
-    let answered = answer_lines::run_drop(desk, &mut line);
+    let answered = calls::run_drop(desk, &mut line);
     let k = answered.length;
     let more = write_line(&line[..k]);
     let next = answered.desk;
@@ -216,222 +182,4 @@ fn write_line(line: &[u8]) -> bool {
     }
     os::fail(b"desk_calls: standard output");
     false
-}
-
-// ---- reading
-
-fn read_byte(space: &mut [u8; streams::BLOCK], ahead: Ahead) -> streams::NextByte {
-    streams::next_byte(libc::STDIN_FILENO, space, ahead)
-}
-
-// Reads up to a byte 10 and puts what is before it at the start of the bytes. A last line without byte 10 counts as long.
-fn read_line(
-    space: &mut [u8; streams::BLOCK],
-    ahead: Ahead,
-    bytes: &mut [u8; call_lines::LONGEST],
-) -> LineRead {
-    let mut rest = ahead;
-    let mut n = 0;
-    while n <= call_lines::LONGEST {
-        let read = read_byte(space, rest);
-        let byte = read.byte;
-        let then = read.ahead;
-        rest = then;
-        match byte {
-            Byte::Is(b) => {
-                if b == LINE_END {
-                    return LineRead {
-                        line: Line::Short(n),
-                        ahead: rest,
-                    };
-                }
-                if n < call_lines::LONGEST {
-                    bytes[n] = b;
-                }
-            }
-            Byte::End => {
-                return LineRead {
-                    line: ended_after(n),
-                    ahead: rest,
-                };
-            }
-            Byte::Failed => {
-                return LineRead {
-                    line: Line::Failed,
-                    ahead: rest,
-                };
-            }
-        }
-        n += 1;
-    }
-    LineRead {
-        line: Line::Long,
-        ahead: rest,
-    }
-}
-
-// The end of input, n bytes into a line.
-fn ended_after(n: usize) -> Line {
-    if n == 0 { Line::End } else { Line::Long }
-}
-
-// Reads a text of n bytes and the byte 10 after it, and keeps what there is room for.
-fn read_text(
-    space: &mut [u8; streams::BLOCK],
-    ahead: Ahead,
-    n: u64,
-    room: &mut [u8; answer_lines::ENOUGH],
-) -> DueRead {
-    let most = least(n, answer_lines::ENOUGH);
-    let kept = read_kept(space, ahead, most, room);
-    let first = kept.due;
-    let rest = kept.ahead;
-    if let Due::There = first {
-        return read_rest(space, rest, n - most as u64);
-    }
-    DueRead {
-        due: first,
-        ahead: rest,
-    }
-}
-
-// Reads n bytes and keeps them.
-fn read_kept(
-    space: &mut [u8; streams::BLOCK],
-    ahead: Ahead,
-    n: usize,
-    room: &mut [u8; answer_lines::ENOUGH],
-) -> DueRead
-    requires { ⌜ n ≤ 28673 ⌝ }
-{
-    let mut rest = ahead;
-    let mut i = 0;
-    while i < n {
-        let read = read_byte(space, rest);
-        let byte = read.byte;
-        let then = read.ahead;
-        rest = then;
-        match byte {
-            Byte::Is(b) => {
-                room[i] = b;
-            }
-            Byte::End => {
-                return DueRead {
-                    due: Due::Missing,
-                    ahead: rest,
-                };
-            }
-            Byte::Failed => {
-                return DueRead {
-                    due: Due::Failed,
-                    ahead: rest,
-                };
-            }
-        }
-        i += 1;
-    }
-    DueRead {
-        due: Due::There,
-        ahead: rest,
-    }
-}
-
-// Reads n bytes and keeps none, and a byte 10.
-fn read_rest(space: &mut [u8; streams::BLOCK], ahead: Ahead, n: u64) -> DueRead {
-    let passed = pass_over(space, ahead, n);
-    let due = passed.due;
-    let rest = passed.ahead;
-    if let Due::There = due {
-        return read_line_end(space, rest);
-    }
-    DueRead { due, ahead: rest }
-}
-
-fn pass_over(space: &mut [u8; streams::BLOCK], ahead: Ahead, n: u64) -> DueRead {
-    let mut rest = ahead;
-    let mut left = n;
-    while 0 < left {
-        let read = read_byte(space, rest);
-        let byte = read.byte;
-        let then = read.ahead;
-        match byte {
-            Byte::Is(_) => {
-                let skipped = skip(then, left - 1);
-                left = skipped.left;
-                let after = skipped.ahead;
-                rest = after;
-            }
-            Byte::End => {
-                return DueRead {
-                    due: Due::Missing,
-                    ahead: then,
-                };
-            }
-            Byte::Failed => {
-                return DueRead {
-                    due: Due::Failed,
-                    ahead: then,
-                };
-            }
-        }
-    }
-    DueRead {
-        due: Due::There,
-        ahead: rest,
-    }
-}
-
-// Passes over n of the bytes ahead, or as many as there are.
-fn skip(ahead: Ahead, n: u64) -> Skipped
-    ensures { λ r. ⌜ r .left ≤ n ⌝ }
-{
-    let at = ahead.at;
-    let end = ahead.end;
-    if end <= at {
-        return Skipped { ahead, left: n };
-    }
-    let here = end - at;
-    if n < here as u64 {
-        return Skipped {
-            ahead: Ahead {
-                at: at + n as usize,
-                end,
-            },
-            left: 0,
-        };
-    }
-    Skipped {
-        ahead: Ahead { at: end, end },
-        left: n - here as u64,
-    }
-}
-
-fn read_line_end(space: &mut [u8; streams::BLOCK], ahead: Ahead) -> DueRead {
-    let read = read_byte(space, ahead);
-    let byte = read.byte;
-    let rest = read.ahead;
-    DueRead {
-        due: line_end(byte),
-        ahead: rest,
-    }
-}
-
-fn line_end(byte: Byte) -> Due {
-    match byte {
-        Byte::Is(b) => {
-            if b == LINE_END {
-                Due::There
-            } else {
-                Due::NoLineEnd
-            }
-        }
-        Byte::End => Due::NoLineEnd,
-        Byte::Failed => Due::Failed,
-    }
-}
-
-fn least(n: u64, most: usize) -> usize
-    ensures { λ r. ⌜ (r ≤ n) × (r ≤ most) ⌝ }
-{
-    if n < most as u64 { n as usize } else { most }
 }

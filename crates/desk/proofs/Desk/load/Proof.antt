@@ -1,4 +1,4 @@
--- `Desk::load` goes by the phase.
+-- `Desk::load` goes by the number of the phase.
 use borrow.Author.Needs.{needs}
 use Rattle.desk.proofs.Answers as answers
 use Rattle.desk.proofs.Numbers as numbers
@@ -9,15 +9,8 @@ pub load-spec : {M : Type 1} → statement M
 load-spec =
     tie.close
     (tie.spec
-    (λ c. search needs)
     (λ c κs. search needs)
-    (λ c. search needs)
     (λ c κs. search needs)
-    (λ c. search needs)
+    (λ c. (search answers.load-done, search (numbers.load-number, answers.load-done)))
     (λ c κs. search needs)
-    (λ c. search needs)
-    (λ c κs. search needs)
-    (λ c. (search answers.load-empty, search (numbers.load-number, answers.load-empty)))
-    (λ c. (search answers.load-open, search (numbers.load-number, answers.load-open)))
-    (λ c. (search answers.load-accepted, search (numbers.load-number, answers.load-accepted)))
-    (λ c. (search answers.load-failed, search (numbers.load-number, answers.load-failed))))
+    (λ c. (search answers.load-refused, search (numbers.load-number, answers.load-refused))))

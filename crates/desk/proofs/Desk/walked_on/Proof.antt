@@ -9,11 +9,7 @@ walked-on-spec =
     tie.close
     (tie.spec
     (λ c. search needs)
-    (λ c. search needs)
-    (λ c κs. search needs)
-    (λ c. search needs)
     (λ c κs. search needs)
     (λ c κs. search needs)
-    (λ c. search answers.walk-fails)
-    (λ c. search answers.walk-ends)
-    (λ c. search answers.walk-goes-on))
+    (λ c κs. search needs)
+    (λ c. search answers.after-walk))

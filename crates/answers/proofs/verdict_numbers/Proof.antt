@@ -1,0 +1,18 @@
+-- `verdict_numbers` goes by the case of the verdict.
+use borrow.Author.Needs.{needs}
+use Rattle.answers.proofs.verdict_numbers.Statement.{statement}
+use Rattle.answers.proofs.verdict_numbers.Tie as tie
+
+pub verdict-numbers-spec : {M : Type 1} → statement M
+verdict-numbers-spec =
+    tie.close
+    (tie.spec
+    (λ c. search needs)
+    (λ c κs. search needs)
+    (λ c. search needs)
+    (λ c κs. search needs)
+    (λ c. search needs)
+    (λ c κs. search needs)
+    (λ c. rw (c .before .enum-told .given .1, c .report-of .ensures))
+    (λ c. rw (c .before .before .verdict .given .1, c .report-of2 .ensures))
+    (λ c. rw (c .before .before .verdict2 .given .1, c .report-of3 .ensures)))

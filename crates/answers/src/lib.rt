@@ -1,0 +1,134 @@
+// What a desk call answers, by the phase of its desk and by what a walk over states came to; the crate desk has the arrays. The paper's
+// numbers for each answer are in specs/Answers (01, "The desk", "Turned down by the input" 8, "Turned down by the state").
+use walk::Failure;
+use walk::Outcome;
+use writer::Report;
+ghost use mathlib.Core.Path.{_≡_};
+ghost use Rattle.writer.specs.Report.{report};
+ghost use Rattle.answers.specs.Answers.{verdictNumbers, heldNumber, advanceNumber, dropNumber, toldBy, answerAfter, phaseAfter};
+
+// What a desk is: empty, open or decided.
+pub enum Phase {
+    Empty,
+    Open,
+    Accepted,
+    Failed(Failure),
+}
+
+// The answer of a load or a drop: done, or the number by which it is turned down.
+pub enum Done {
+    Done,
+    TurnedDown(u16),
+}
+
+// The answer of an advance, with how many states it examined; or the number by which it is turned down.
+pub enum Advance {
+    Open(usize),
+    Accepted(usize),
+    Failed(usize),
+    TurnedDown(u16),
+}
+
+// The answer of a verdict; or the number by which it is turned down.
+pub enum Verdict {
+    Accepted,
+    Failed(Failure),
+    TurnedDown(u16),
+}
+
+// The number by which a load is turned down before its text is looked at; 0 if it isn't.
+pub fn held_number(phase: Phase) -> u16
+    ensures { λ r. ⌜ r ≡ heldNumber phase ⌝ }
+{
+    match phase {
+        Phase::Empty => 0,
+        Phase::Open => 12,
+        Phase::Accepted => 12,
+        Phase::Failed(_) => 12,
+    }
+}
+
+// The number by which an advance by n states is turned down; 0 if it isn't.
+pub fn advance_number(phase: Phase, n: u64) -> u16
+    ensures { λ r. ⌜ r ≡ advanceNumber phase n ⌝ }
+{
+    match phase {
+        Phase::Empty => 11,
+        Phase::Open => { if n == 0 { 8 } else { 0 } }
+        Phase::Accepted => 14,
+        Phase::Failed(_) => 14,
+    }
+}
+
+// The number by which a drop is turned down; 0 if it isn't.
+pub fn drop_number(phase: Phase) -> u16
+    ensures { λ r. ⌜ r ≡ dropNumber phase ⌝ }
+{
+    match phase {
+        Phase::Empty => 11,
+        Phase::Open => 0,
+        Phase::Accepted => 0,
+        Phase::Failed(_) => 0,
+    }
+}
+
+// The verdict that a desk in a phase tells.
+pub fn told(phase: Phase) -> Verdict
+    ensures { λ r. ⌜ r ≡ toldBy phase ⌝ }
+{
+    match phase {
+        Phase::Empty => Verdict::TurnedDown(11),
+        Phase::Open => Verdict::TurnedDown(13),
+        Phase::Accepted => Verdict::Accepted,
+        Phase::Failed(failure) => Verdict::Failed(failure),
+    }
+}
+
+// The answer of an advance, after a walk over count states; `ended` if none is left.
+pub fn answer_after(outcome: Outcome, ended: bool, count: usize) -> Advance
+    ensures { λ r. ⌜ r ≡ answerAfter outcome ended count ⌝ }
+{
+    match outcome {
+        Outcome::Fail(_) => Advance::Failed(count),
+        Outcome::Pass => {
+            if ended {
+                Advance::Accepted(count)
+            } else {
+                Advance::Open(count)
+            }
+        }
+    }
+}
+
+// The phase that it leaves the desk in.
+pub fn phase_after(outcome: Outcome, ended: bool) -> Phase
+    ensures { λ r. ⌜ r ≡ phaseAfter outcome ended ⌝ }
+{
+    match outcome {
+        Outcome::Fail(failure) => Phase::Failed(failure),
+        Outcome::Pass => { if ended { Phase::Accepted } else { Phase::Open } }
+    }
+}
+
+// The numbers of a verdict: those of the report; a verdict that is turned down has its number, and 0 else.
+pub fn verdict_numbers(verdict: Verdict) -> Report
+    ensures { λ r. ⌜ r ≡ verdictNumbers verdict ⌝ }
+{
+    match verdict {
+        Verdict::Accepted => report_of(0, 0, 0, 0, 0),
+        Verdict::Failed(f) => report_of(1, f.criterion, f.state, f.row, f.sum),
+        Verdict::TurnedDown(number) => report_of(number, 0, 0, 0, 0),
+    }
+}
+
+fn report_of(verdict: u16, number: u16, state: u16, row: u16, sum: u16) -> Report
+    ensures { λ r. ⌜ r ≡ report verdict number state row sum ⌝ }
+{
+    Report {
+        verdict,
+        number,
+        state,
+        row,
+        sum,
+    }
+}
