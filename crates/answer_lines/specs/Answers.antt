@@ -2,7 +2,7 @@
 -- `drop 0`, and `turned down N`." A number is decimal, without zeros in front; each line ends with byte 10.
 use Prim.Native.Nat.{ℕ}
 use mathlib.Core.List.{List, [], _∷_, _++_}
-use Rattle.writer.specs.declared.Report.{Report}
+use Rattle.verdicts.specs.declared.Report.{Report}
 use Rattle.answers.specs.declared.Done.{Done}
 use Rattle.answers.specs.declared.Done.the-variants as done
 use Rattle.answers.specs.declared.Advance.{Advance}

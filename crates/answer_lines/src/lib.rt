@@ -4,7 +4,7 @@
 use answers::Advance;
 use answers::Done;
 use answers::Verdict;
-use writer::Report;
+use verdicts::Report;
 ghost use Prim.Native.Nat.{ℕ, _+_, _≤_};
 ghost use mathlib.Core.Path.{_≡_};
 ghost use mathlib.Core.List.{List, [], _∷_, _++_};

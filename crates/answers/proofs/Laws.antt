@@ -4,7 +4,7 @@ use mathlib.Core.Path.{_≡_, refl}
 use mathlib.Core.Logic.{_≢_}
 use mathlib.Core.Bool.{Bool, true, false}
 use borrow.Author.Tests.{eq-eqb, ne-eqb}
-use Rattle.walk.specs.declared.Failure.{Failure}
+use Rattle.verdicts.specs.declared.Failure.{Failure}
 use Rattle.walk.specs.declared.Outcome.{Outcome}
 use Rattle.walk.specs.declared.Outcome.the-variants.{Pass, Fail}
 use Rattle.answers.specs.declared.Phase.{Phase}

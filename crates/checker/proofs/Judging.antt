@@ -9,7 +9,7 @@ use borrow.Author.Tests.{eqb-true, eqb-false, ne-eqb, lt-ltb, le-ltb}
 use lib.Dec.{eqb}
 use lib.ListN.{length}
 use Rattle.reader.specs.Text.{fieldsByLine}
-use Rattle.writer.specs.declared.Report.{Report}
+use Rattle.verdicts.specs.declared.Report.{Report}
 use Rattle.writer.specs.Put.{put}
 use Rattle.writer.specs.Report as bytes
 use Rattle.writer.proofs.Bytes.{report-first}
@@ -136,6 +136,6 @@ module _ (text report : List ℕ) where
     unfolding answerOf
     answered = rw (le-ltb (length report) 31 h, ← ej)
 
-    pub written : (after : List ℕ) → after ≡ put report 0 (bytes.reportOf j) → after ≡ bufferAfter text report
+    pub written : (after : List ℕ) → after ≡ put report 0 (bytes.reportBytes j) → after ≡ bufferAfter text report
     unfolding bufferAfter
     written after e = rw (le-ltb (length report) 31 h, ← ej) (e ∙ report-first report j h)

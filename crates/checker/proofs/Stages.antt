@@ -24,8 +24,7 @@ use Rattle.decision.proofs.Progress.{Progress, begins, goes-on, ends-at-start, 
 use Rattle.design.specs.Lines.{designText}
 use Rattle.layout.specs.Sizes.{initialNumberIn}
 use Rattle.loader.proofs.Passed.{admitted}
-use Rattle.desk.specs.Said.{said, saidFailure}
-use Rattle.walk.specs.declared.Failure.{Failure as Said}
+use Rattle.desk.specs.Said.{said}
 use Rattle.walk.specs.declared.Outcome.the-variants.{Pass}
 use Rattle.answers.specs.declared.Phase.{Phase}
 use Rattle.answers.specs.declared.Phase.the-variants as phase
@@ -47,7 +46,7 @@ pub data Stage (text : List ℕ) (desk : Desk) : Type 0 where
       → Progress (designText text) (desk .next) → Stage text desk
   -- decided, and rightly
   accepts : Ready text desk → desk .phase ≡ phase.Accepted → verdictOf (designText text) ≡ accepted → Stage text desk
-  fails : (x : Failure) → Ready text desk → desk .phase ≡ phase.Failed (saidFailure x) → verdictOf (designText text) ≡ failed x → Stage text desk
+  fails : (x : Failure) → Ready text desk → desk .phase ≡ phase.Failed x → verdictOf (designText text) ≡ failed x → Stage text desk
 
 -- the same arrays
 moved : {text : List ℕ} {desk : Desk} (n : ℕ) (p : Phase) → Ready text desk → Ready text (placed desk n p)
@@ -62,13 +61,13 @@ failed-answer q = let z : _≡_ {A = ℕ} 0 1 = cc in omega arith
 open-answer : {j k : ℕ} → advance.Open j ≡ advance.Accepted k → ⊥
 open-answer q = let z : _≡_ {A = ℕ} 0 1 = cc in omega arith
 
-failed-phase : {f : Said} → phase.Failed f ≡ phase.Open → ⊥
+failed-phase : {f : Failure} → phase.Failed f ≡ phase.Open → ⊥
 failed-phase q = let z : _≡_ {A = ℕ} 0 1 = cc in omega arith
 
 accepted-phase : phase.Accepted ≡ phase.Open → ⊥
 accepted-phase q = let z : _≡_ {A = ℕ} 0 1 = cc in omega arith
 
-not-accepted : {f : Said} → phase.Failed f ≡ phase.Accepted → ⊥
+not-accepted : {f : Failure} → phase.Failed f ≡ phase.Accepted → ⊥
 not-accepted q = let z : _≡_ {A = ℕ} 0 1 = cc in omega arith
 
 -- ---- how many are examined
@@ -175,14 +174,14 @@ module _ (text : List ℕ) (desk : Desk) (h : Ready text desk) where
 
     -- a state failed
     fails-due : (x : Failure) → walk (examine d) (ahead-of n) m .outcome ≡ fail x
-        → Due d (verdictOf d) m n (advance.Failed (walk (examine d) (ahead-of n) m .count)) (phase.Failed (saidFailure x))
+        → Due d (verdictOf d) m n (advance.Failed (walk (examine d) (ahead-of n) m .count)) (phase.Failed x)
     fails-due x e =
         let t = fails-at d (admitted text (h .free)) m (ahead-of n) x (omega arith) e in
         let at = t .0 in
         let most = count-most (examine d) (ahead-of n) m in
         let stop = stop-failed d x (t .1) in
         rw (ends-badly d m (ahead-of n) x p (omega arith) e)
-        (due-decided d (failed x) m n (walk (examine d) (ahead-of n) m .count) (phase.Failed (saidFailure x)) (omega arith) (omega arith) (answers.failed _))
+        (due-decided d (failed x) m n (walk (examine d) (ahead-of n) m .count) (phase.Failed x) (omega arith) (omega arith) (answers.failed _))
 
     -- all pass, and there are more
     goes-due : ahead-of n ≡ n → m + n < states d → Progress d (m + ahead-of n) → Due d (verdictOf d) m n (advance.Open (ahead-of n)) phase.Open

@@ -7,7 +7,7 @@ use mathlib.Core.Bool.{cond}
 use mathlib.Core.List.{List, _++_}
 use lib.Dec.{eqb, ltb}
 use lib.ListN.{length, drop}
-use Rattle.writer.specs.declared.Report.{Report}
+use Rattle.verdicts.specs.declared.Report.{Report}
 use Rattle.writer.specs.Report.{report}
 use Rattle.writer.specs.Report as bytes
 use Rattle.criteria.specs.Verdict as criteria
@@ -19,12 +19,9 @@ use Rattle.loader.specs.Load.{faultOf}
 abbrev pub refusedReport : ℕ → Report
 refusedReport k = report 2 k 0 0 0
 
--- and of the verdict on a design: its report's numbers, as they are written
-abbrev pub asWritten : criteria.Report → Report
-asWritten r = report (r .verdict) (r .criterion) (r .state) (r .row) (r .sum)
-
+-- and of the verdict on a design
 abbrev pub designReport : criteria.Verdict → Report
-designReport v = asWritten (criteria.reportOf v)
+designReport v = criteria.reportOf v
 
 -- the report on a text
 unfoldable pub judgedOf : List ℕ → Report
@@ -34,4 +31,4 @@ unfoldable pub answerOf : List ℕ → List ℕ → ℕ
 answerOf text buffer = cond (ltb (length buffer) 31) 9 (judgedOf text .verdict)
 
 unfoldable pub bufferAfter : List ℕ → List ℕ → List ℕ
-bufferAfter text buffer = cond (ltb (length buffer) 31) buffer (bytes.reportOf (judgedOf text) ++ drop 31 buffer)
+bufferAfter text buffer = cond (ltb (length buffer) 31) buffer (bytes.reportBytes (judgedOf text) ++ drop 31 buffer)

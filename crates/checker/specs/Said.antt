@@ -1,9 +1,8 @@
 -- The verdict on a design as a desk tells it.
 use Rattle.criteria.specs.Verdict as criteria
-use Rattle.desk.specs.Said.{saidFailure}
 use Rattle.answers.specs.declared.Verdict.{Verdict}
 use Rattle.answers.specs.declared.Verdict.the-variants as verdict
 
 abbrev pub saidVerdict : criteria.Verdict → Verdict
 saidVerdict criteria.accepted = verdict.Accepted
-saidVerdict (criteria.failed x) = verdict.Failed (saidFailure x)
+saidVerdict (criteria.failed x) = verdict.Failed x

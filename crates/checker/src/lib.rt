@@ -2,7 +2,7 @@
 // answers and writes is in specs/OneCall, one equation for every text and every buffer.
 use answers::Done;
 use desk::Desk;
-use writer::Report;
+use verdicts::Report;
 ghost use mathlib.Core.Path.{_≡_};
 ghost use Rattle.desk.specs.Desk.{advanceOf, tellOf};
 ghost use Rattle.answers.specs.Answers.{verdictNumbers};

@@ -27,6 +27,6 @@ claim2 text t =
         advances = λ {n = n} c w o some p. let r = reached c w in due-at n r (r .stage) o some (p .0);
         counts = λ {m = m} c w. reached c w .counts ∙ counted (designText text) (admitted text free) m;
         answers = λ {report} c l. answered c ∙ long-answer text report l ∙ ap (λ j. j .verdict) (judged-free text free);
-        reports = λ {report} c l. written c ∙ long-buffer text report l ∙ ap (λ j. bytes.reportOf j ++ drop 31 report) (judged-free text free);
+        reports = λ {report} c l. written c ∙ long-buffer text report l ∙ ap (λ j. bytes.reportBytes j ++ drop 31 report) (judged-free text free);
       };
     }

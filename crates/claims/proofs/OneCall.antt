@@ -31,7 +31,7 @@ module _ (text report : List ℕ) where
   unfolding answerOf
   long-answer l = rw (le-ltb (length report) 31 l)
 
-  pub long-buffer : 31 ≤ length report → bufferAfter text report ≡ bytes.reportOf (judgedOf text) ++ drop 31 report
+  pub long-buffer : 31 ≤ length report → bufferAfter text report ≡ bytes.reportBytes (judgedOf text) ++ drop 31 report
   unfolding bufferAfter
   long-buffer l = rw (le-ltb (length report) 31 l)
 

@@ -82,7 +82,7 @@ turned-by d text z =
       by-load = λ p e. loaded-as p ∙ load-at d text e ∙ loaded-fault d text z;
       by-check = λ {report} c l. (
         answered c ∙ long-answer text report l ∙ ap (λ j. j .verdict) (judged-fault text z),
-        written c ∙ long-buffer text report l ∙ ap (λ j. bytes.reportOf j ++ drop 31 report) (judged-fault text z),
+        written c ∙ long-buffer text report l ∙ ap (λ j. bytes.reportBytes j ++ drop 31 report) (judged-fault text z),
       );
     }
 

@@ -32,7 +32,7 @@ use Rattle.line_check.specs.LineFits.{termsFit, lineFits}
 use Rattle.action_check.specs.ActionsFit.{actionsFit}
 use Rattle.loader.specs.Load.{faultOf, tableFault}
 use Rattle.loader.proofs.Lowest.{free-exactly}
-use Rattle.checker.specs.OneCall.{asWritten, designReport, judgedOf}
+use Rattle.checker.specs.OneCall.{designReport, judgedOf}
 use Rattle.claims.specs.Pump.{textFor, Reports}
 use Rattle.claims.specs.Demand2.{Comes}
 use Rattle.claims.proofs.Demand2.{claim2}
@@ -59,12 +59,12 @@ module _ (c : Case) (free : faultOf (textFor c) ≡ 0) (same : designOf (fieldsB
       let due : Demand2 (designText (textFor c)) (verdictOf (c .table)) = subst (λ d. Demand2 d (verdictOf (c .table))) (sym same) (demand2 (c .table) (right .admitted)) in
       subst (Comes (textFor c)) (one-verdict (designText (textFor c)) (k .verdict) (verdictOf (c .table)) (k .is) due) (k .comes)
 
-  said : designReport (verdictOf (c .table)) ≡ asWritten (c .says)
+  said : designReport (verdictOf (c .table)) ≡ c .says
   said =
       let v = one-verdict (c .table) (verdictOf (c .table)) (right .verdict) (demand2 (c .table) (right .admitted)) (right .right) in
-      ap designReport v ∙ ap asWritten (right .reported)
+      ap designReport v ∙ right .reported
 
-  judged : judgedOf (textFor c) ≡ asWritten (c .says)
+  judged : judgedOf (textFor c) ≡ c .says
   judged = judged-free (textFor c) free ∙ ap (λ d. designReport (verdictOf d)) same ∙ said
 
   reports-so : Reports c
@@ -73,7 +73,7 @@ module _ (c : Case) (free : faultOf (textFor c) ≡ 0) (same : designOf (fieldsB
     says-table = same;
     comes = comes-so;
     answers = λ {report} k l. answered k ∙ long-answer (textFor c) report l ∙ ap (λ j. j .verdict) judged;
-    reports = λ {report} k l. written-as k ∙ long-buffer (textFor c) report l ∙ ap (λ j. bytes.reportOf j ++ drop 31 report) judged;
+    reports = λ {report} k l. written-as k ∙ long-buffer (textFor c) report l ∙ ap (λ j. bytes.reportBytes j ++ drop 31 report) judged;
   }
 
 each-reports : (cs : List Case) → Loaded cs → EachIs cs Right → EachIs cs Reports
@@ -84,9 +84,9 @@ pub pump-reports : EachIs cases Reports
 pump-reports = each-reports cases loaded ten-reports
 
 -- "exactly `     1     8     9     3     0` and byte 10"
-pub wrong-data-bytes : bytes.reportOf (record { verdict = 1; number = 8; state = 9; row = 3; sum = 0 })
+pub wrong-data-bytes : bytes.reportBytes (record { verdict = 1; number = 8; state = 9; row = 3; sum = 0 })
     ≡ 32 ∷ 32 ∷ 32 ∷ 32 ∷ 32 ∷ 49 ∷ 32 ∷ 32 ∷ 32 ∷ 32 ∷ 32 ∷ 56 ∷ 32 ∷ 32 ∷ 32 ∷ 32 ∷ 32 ∷ 57 ∷ 32 ∷ 32 ∷ 32 ∷ 32 ∷ 32 ∷ 51 ∷ 32 ∷ 32 ∷ 32 ∷ 32 ∷ 32 ∷ 48 ∷ 10 ∷ []
-unfolding columnOf columnsOf bytes.reportOf textOf written
+unfolding columnOf columnsOf bytes.reportBytes textOf written
 wrong-data-bytes = refl
 
 -- "Fields, each in six columns in the text", number by number

@@ -38,7 +38,7 @@ pub record Comes (text : List ℕ) (v : Verdict) : Type 0 where
   -- the one-call check with a long enough buffer answers it and writes its report
   pub answers : {report after : List ℕ} {r : ℕ} → Checks text report r after → 31 ≤ length report → r ≡ designReport v .verdict
   pub reports : {report after : List ℕ} {r : ℕ} → Checks text report r after → 31 ≤ length report
-      → after ≡ bytes.reportOf (designReport v) ++ drop 31 report
+      → after ≡ bytes.reportBytes (designReport v) ++ drop 31 report
 
 -- the verdict that demand 2 asks for, to which every check comes
 pub record Checked (text : List ℕ) : Type 0 where

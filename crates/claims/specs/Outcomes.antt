@@ -6,7 +6,7 @@ use mathlib.Core.Logic.{_≢_}
 use mathlib.Core.List.{List, _++_}
 use lib.ListN.{length, drop}
 use Rattle.writer.specs.Report as bytes
-use Rattle.walk.specs.declared.Failure.{Failure}
+use Rattle.verdicts.specs.declared.Failure.{Failure}
 use Rattle.design.specs.Faults.{LowestFault}
 use Rattle.answers.specs.declared.Phase.the-variants as phase
 use Rattle.answers.specs.declared.Done.the-variants as done
@@ -42,7 +42,7 @@ pub record TurnsDown (desk : Desk) (text : List ℕ) : Type 0 where
   pub lowest : LowestFault text number
   pub by-load : {r : AfterLoad} → Loads desk text r → desk .phase ≡ phase.Empty → r ≡ notLoaded number desk
   pub by-check : {report after : List ℕ} {r : ℕ} → Checks text report r after → 31 ≤ length report
-      → (r ≡ 2) × (after ≡ bytes.reportOf (refusedReport number) ++ drop 31 report)
+      → (r ≡ 2) × (after ≡ bytes.reportBytes (refusedReport number) ++ drop 31 report)
 
 -- "Turned down by the state", 11 to 14, and 8: for every desk in that phase, "the desk unchanged"
 pub record Refusals (desk : Desk) : Type 0 where

@@ -11,7 +11,6 @@ use Rattle.pump.specs.Table.{Case}
 use Rattle.design.specs.Lines.{designText}
 use Rattle.design.specs.Faults.{DesignText}
 use Rattle.design.specs.Print.{printLines}
-use Rattle.checker.specs.OneCall.{asWritten}
 use Rattle.claims.specs.Contracts.{Checks}
 use Rattle.claims.specs.Demand2.{Comes}
 
@@ -27,4 +26,4 @@ pub record Reports (c : Case) : Type 0 where
   -- the one-call check, by the report of 01
   pub answers : {report after : List ℕ} {r : ℕ} → Checks (textFor c) report r after → 31 ≤ length report → r ≡ c .says .verdict
   pub reports : {report after : List ℕ} {r : ℕ} → Checks (textFor c) report r after → 31 ≤ length report
-      → after ≡ bytes.reportOf (asWritten (c .says)) ++ drop 31 report
+      → after ≡ bytes.reportBytes (c .says) ++ drop 31 report

@@ -3,6 +3,7 @@
 use mathlib.Core.List.{List, [], _∷_}
 use Prim.Native.Nat.{ℕ}
 use lib.Dec.{eqb}
+use Rattle.verdicts.specs.declared.Failure as words
 use Rattle.foundation.specs.Lowest.{Lowest}
 use Rattle.foundation.specs.Trial.{Place, place}
 use Rattle.terms.specs.Tree.{pick}
@@ -10,11 +11,8 @@ use Rattle.criteria.specs.Design.{Design, Row, State, RowIs, InvariantSt
 use Rattle.criteria.specs.Criteria.{Criterion1, Criterion2, Criterion3, Criterion4, Criterion5, Criterion6, Criterion7, Criterion8, Criterion9}
 
 -- the state by its number
-pub record Failure : Type 0 where
-  pub criterion : ℕ
-  pub state : ℕ
-  pub row : ℕ
-  pub sum : ℕ
+abbrev pub Failure : Type 0
+Failure = words.Failure
 
 -- "Criterion 1 comes before state 0": 0 for the start, 1 for any other
 abbrev pub stage : Failure → ℕ

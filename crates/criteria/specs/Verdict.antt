@@ -2,6 +2,7 @@
 use mathlib.Core.Path.{_≡_}
 use mathlib.Core.Logic.{_↔_}
 use Prim.Native.Nat.{ℕ}
+use Rattle.verdicts.specs.declared.Report as words
 use Rattle.criteria.specs.Design.{Design}
 use Rattle.criteria.specs.Criteria.{Meets}
 use Rattle.criteria.specs.Failure.{Failure, LowestFailure}
@@ -11,17 +12,13 @@ pub data Verdict : Type 0 where
   failed : Failure → Verdict
 
 -- "verdict (0, 1, 2), criterion or turned-down number, state, row, sum value; unused fields are 0"
-pub record Report : Type 0 where
-  pub verdict : ℕ
-  pub criterion : ℕ
-  pub state : ℕ
-  pub row : ℕ
-  pub sum : ℕ
+abbrev pub Report : Type 0
+Report = words.Report
 
 -- the report of a check that came to its end
 abbrev pub reportOf : Verdict → Report
-reportOf accepted = record { verdict = 0; criterion = 0; state = 0; row = 0; sum = 0 }
-reportOf (failed x) = record { verdict = 1; criterion = x .criterion; state = x .state; row = x .row; sum = x .sum }
+reportOf accepted = record { verdict = 0; number = 0; state = 0; row = 0; sum = 0 }
+reportOf (failed x) = record { verdict = 1; number = x .criterion; state = x .state; row = x .row; sum = x .sum }
 
 -- demand 2 of a verdict on a design
 pub record Demand2 (d : Design) (v : Verdict) : Type 0 where

@@ -12,7 +12,7 @@ use Rattle.loader.specs.declared.Loaded.{Loaded}
 use Rattle.loader.specs.Load.{loadedOf}
 use Rattle.walk.specs.Told.{toldWalked}
 use Rattle.walk.specs.Walk.{startIn, planOf, walkBy}
-use Rattle.walk.specs.declared.Failure.{Failure}
+use Rattle.verdicts.specs.declared.Failure.{Failure}
 use Rattle.walk.specs.declared.Walked.{Walked}
 use Rattle.desk.specs.Said.{walkedBy}
 use Rattle.desk.proofs.Said.{said-told, count-within}

@@ -15,7 +15,7 @@ use Rattle.layout.specs.Sizes.{stateCountIn, initialNumberIn}
 use Rattle.loader.specs.declared.Loaded.{Loaded}
 use Rattle.loader.specs.Load.{loadedOf}
 use Rattle.walk.specs.Walk.{startIn, planOf}
-use Rattle.walk.specs.declared.Failure.{Failure}
+use Rattle.verdicts.specs.declared.Failure.{Failure}
 use Rattle.walk.specs.declared.Walked.{Walked}
 use Rattle.walk.specs.declared.Outcome.{Outcome}
 use Rattle.desk.specs.Said.{walkedBy}

@@ -6,17 +6,13 @@ use Rattle.foundation.specs.Walk.{Walked}
 use Rattle.criteria.specs.Failure.{Failure}
 use Rattle.design.specs.declared.Counts.{Counts}
 use Rattle.walk.specs.Walk.{walkBy}
-use Rattle.walk.specs.declared.Failure.{Failure as Said}
 use Rattle.walk.specs.declared.Outcome.{Outcome as Answer}
 use Rattle.walk.specs.declared.Outcome.the-variants.{Pass, Fail}
 use Rattle.walk.specs.declared.Walked.{Walked as WalkAnswer}
 
-abbrev pub saidFailure : Failure → Said
-saidFailure x = record { criterion = x .criterion; state = x .state; row = x .row; sum = x .sum }
-
 abbrev pub said : Outcome Failure → Answer
 said pass = Pass
-said (fail x) = Fail (saidFailure x)
+said (fail x) = Fail x
 
 abbrev pub saidWalked : Walked Failure → WalkAnswer
 saidWalked w = record { outcome = said (w .outcome); count = w .count }

@@ -7,7 +7,7 @@ use answers::Done;
 use answers::Phase;
 use answers::Verdict;
 use design::Counts;
-use walk::Failure;
+use verdicts::Failure;
 use walk::Walked;
 ghost use mathlib.Core.Path.{_≡_};
 ghost use Prim.Native.Nat.{_+_, _<_};

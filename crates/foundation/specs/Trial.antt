@@ -4,13 +4,12 @@ use mathlib.Core.Path.{_≡_}
 use mathlib.Core.Bool.{Bool, true}
 use mathlib.Core.List.{List, [], _∷_}
 use Prim.Native.Nat.{ℕ, _<_}
+use Rattle.verdicts.specs.declared.Place as words
 use Rattle.foundation.specs.First.{Outcome, failIf, firstIn}
 
 -- a place of failure
-pub record Place : Type 0 where
-  pub criterion : ℕ
-  pub row : ℕ
-  pub sum : ℕ
+abbrev pub Place : Type 0
+Place = words.Place
 
 abbrev pub place : ℕ → ℕ → ℕ → Place
 place c k e = record { criterion = c; row = k; sum = e }

@@ -22,7 +22,7 @@ use Rattle.steps.specs.Arrays.{padded, rowSpan, mappedIn}
 use Rattle.steps.proofs.States.{rows-count}
 use Rattle.lowest_failure.specs.Search.{Known, toldPlace, ofImpl, ofSpec, holdsFor, spanFor, rowsFor, inRow, inRows, inCriteria}
 use Rattle.lowest_failure.specs.declared.Here.{Here}
-use Rattle.lowest_failure.specs.declared.Place.{Place}
+use Rattle.verdicts.specs.declared.Place.{Place}
 use Rattle.lowest_failure.specs.declared.Finding.{Finding}
 use Rattle.lowest_failure.specs.declared.Finding.the-variants.{Nothing, Found}
 

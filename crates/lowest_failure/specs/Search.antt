@@ -22,7 +22,7 @@ use Rattle.lowest_failure.specs.declared.Finding.the-variants.{Nothing, 
 -- the code's answer
 abbrev pub toldPlace : Finding → Outcome Place
 toldPlace Nothing = pass
-toldPlace (Found x) = fail (place (x .criterion) (x .row) (x .sum))
+toldPlace (Found x) = fail x
 
 -- what is known of a state is so
 pub record Known (h : Shape) (d : Design) (here : Here) : Type 0 where

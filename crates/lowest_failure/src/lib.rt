@@ -2,19 +2,13 @@
 // 01's order. Every function answers any arrays, and what it answers is said in the words of the crate decision: of the design in the
 // arrays, at the array of a state, of which no test reads more than the state's values (decision/proofs/Alike).
 use design::Shape;
+use verdicts::Place;
 ghost use mathlib.Core.Path.{_≡_};
 ghost use Rattle.decision.specs.Tests as tests;
 ghost use Rattle.decision.specs.Examine.{firstFailing};
 ghost use Rattle.design.specs.Loaded.{designAt};
 ghost use Rattle.layout.specs.Sizes.{Fits};
 ghost use Rattle.lowest_failure.specs.Search.{Known, toldPlace, ofImpl, ofSpec, quietIn, holdsFor, spanFor, rowsFor, inRow, inRows, inCriteria};
-
-// A place of failure at a state: criterion, row and sum value.
-pub struct Place {
-    pub criterion: u16,
-    pub row: u16,
-    pub sum: u16,
-}
 
 pub enum Finding {
     Nothing,

@@ -54,7 +54,7 @@ pub record Case : Type 0 where
   pub says : Report
 
 abbrev pub case : Design → ℕ → ℕ → ℕ → ℕ → ℕ → Case
-case d v c n k e = record { table = d; says = record { verdict = v; criterion = c; state = n; row = k; sum = e } }
+case d v c n k e = record { table = d; says = record { verdict = v; number = c; state = n; row = k; sum = e } }
 
 unfoldable pub cases : List Case
 cases =

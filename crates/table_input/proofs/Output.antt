@@ -9,8 +9,8 @@ use lib.Seq.{take-all}
 use Rattle.reader.specs.Columns.{columnsOf}
 use Rattle.reader.specs.Line.{written}
 use Rattle.reader.specs.Text.{textOf}
-use Rattle.writer.specs.Report.{reportOf}
-use Rattle.writer.specs.declared.Report.{Report}
+use Rattle.writer.specs.Report.{reportBytes}
+use Rattle.verdicts.specs.declared.Report.{Report}
 use Rattle.checker.specs.OneCall.{judgedOf, bufferAfter}
 use Rattle.checker.proofs.Cut.{judged-cut}
 use Rattle.streams.specs.declared.Input.{Input}
@@ -19,27 +19,27 @@ use Rattle.table_input.specs.Output.{IsInput, outputOf}
 
 -- ---- the report on the first bytes
 
-report-length : (r : Report) → length (reportOf r) ≡ 31
-unfolding reportOf textOf written columnsOf
+report-length : (r : Report) → length (reportBytes r) ≡ 31
+unfolding reportBytes textOf written columnsOf
 report-length r = refl
 
-buffer-all : (text b : List ℕ) → length b ≡ 31 → bufferAfter text b ≡ reportOf (judgedOf text)
+buffer-all : (text b : List ℕ) → length b ≡ 31 → bufferAfter text b ≡ reportBytes (judgedOf text)
 unfolding bufferAfter
 buffer-all text b h =
     let l : 31 ≤ length b = omega arith in
     let m : length b ≤ 31 = omega arith in
-    rw (le-ltb (length b) 31 l, drop-of-length-le b m) (append-nil (reportOf (judgedOf text)))
+    rw (le-ltb (length b) 31 l, drop-of-length-le b m) (append-nil (reportBytes (judgedOf text)))
 
 module _ (n : ℕ) (room b after : List ℕ) (h : length b ≡ 31) where
-  pub start-part : after ≡ bufferAfter (take (n - 0) (drop 0 room)) b → after ≡ reportOf (judgedOf (take n room))
+  pub start-part : after ≡ bufferAfter (take (n - 0) (drop 0 room)) b → after ≡ reportBytes (judgedOf (take n room))
   start-part e = let z : n - 0 ≡ n = omega arith in e ∙ (rw z (buffer-all (take n room) b h))
 
-  pub start-all : length room ≤ n → after ≡ bufferAfter room b → after ≡ reportOf (judgedOf (take n room))
-  start-all l e = e ∙ (buffer-all room b h ∙ ap (λ t. reportOf (judgedOf t)) (sym (take-all n room l)))
+  pub start-all : length room ≤ n → after ≡ bufferAfter room b → after ≡ reportBytes (judgedOf (take n room))
+  start-all l e = e ∙ (buffer-all room b h ∙ ap (λ t. reportBytes (judgedOf t)) (sym (take-all n room l)))
 
 -- ---- the output
 
-module _ (r : Report) (after : List ℕ) (k : ℕ) (z : k ≡ 31) (e : after ≡ reportOf r) where
+module _ (r : Report) (after : List ℕ) (k : ℕ) (z : k ≡ 31) (e : after ≡ reportBytes r) where
   pub counted : k ≤ length after
   counted = let l : length after ≡ 31 = ap length e ∙ report-length r in omega arith
 
@@ -52,36 +52,36 @@ module _ (r : Report) (after : List ℕ) (k : ℕ) (z : k ≡ 31) (e : after ≡
       let m : length (take k after) ≡ length after = ap length all-taken in
       omega arith
 
-  taken : take k after ≡ reportOf r
+  taken : take k after ≡ reportBytes r
   taken = all-taken ∙ e
 
 module _ (i : Input) (room after : List ℕ) (k : ℕ) (z : k ≡ 31) where
-  pub ended : (n : ℕ) → i ≡ input.Ended n → after ≡ reportOf (judgedOf (take n room)) → take k after ≡ outputOf i room
+  pub ended : (n : ℕ) → i ≡ input.Ended n → after ≡ reportBytes (judgedOf (take n room)) → take k after ≡ outputOf i room
   unfolding outputOf
   ended n ei e = rw ei (taken (judgedOf (take n room)) after k z e)
 
   -- where the end was told the input is what was read
-  pub ended-input : (n : ℕ) → i ≡ input.Ended n → after ≡ reportOf (judgedOf (take n room))
-      → (text : List ℕ) → IsInput i room text → take k after ≡ reportOf (judgedOf text)
+  pub ended-input : (n : ℕ) → i ≡ input.Ended n → after ≡ reportBytes (judgedOf (take n room))
+      → (text : List ℕ) → IsInput i room text → take k after ≡ reportBytes (judgedOf text)
   ended-input n ei e text s =
       let same : text ≡ take n room = rw ei at s in
-      taken (judgedOf (take n room)) after k z e ∙ ap (λ t. reportOf (judgedOf t)) (sym same)
+      taken (judgedOf (take n room)) after k z e ∙ ap (λ t. reportBytes (judgedOf t)) (sym same)
 
-  full-report : after ≡ reportOf (judgedOf (take 28673 room)) → after ≡ reportOf (judgedOf room)
-  full-report e = e ∙ ap reportOf (judged-cut room)
+  full-report : after ≡ reportBytes (judgedOf (take 28673 room)) → after ≡ reportBytes (judgedOf room)
+  full-report e = e ∙ ap reportBytes (judged-cut room)
 
-  pub full : i ≡ input.Full → after ≡ reportOf (judgedOf (take 28673 room)) → take k after ≡ outputOf i room
+  pub full : i ≡ input.Full → after ≡ reportBytes (judgedOf (take 28673 room)) → take k after ≡ outputOf i room
   unfolding outputOf
   full ei e = rw ei (taken (judgedOf room) after k z (full-report e))
 
   -- a full room is the start of the input
-  pub full-input : i ≡ input.Full → length room ≡ 28673 → after ≡ reportOf (judgedOf (take 28673 room))
-      → (text : List ℕ) → IsInput i room text → take k after ≡ reportOf (judgedOf text)
+  pub full-input : i ≡ input.Full → length room ≡ 28673 → after ≡ reportBytes (judgedOf (take 28673 room))
+      → (text : List ℕ) → IsInput i room text → take k after ≡ reportBytes (judgedOf text)
   full-input ei l e text s =
       let at-room : take (length room) text ≡ room = rw ei at s in
       let start : take 28673 text ≡ room = rw l at at-room in
       taken (judgedOf room) after k z (full-report e)
-      ∙ (ap (λ t. reportOf (judgedOf t)) (sym start) ∙ ap reportOf (judged-cut text))
+      ∙ (ap (λ t. reportBytes (judgedOf t)) (sym start) ∙ ap reportBytes (judged-cut text))
 
 pub failed : (i : Input) (room : List ℕ) → i ≡ input.Failed → [] ≡ outputOf i room
 unfolding outputOf
@@ -89,5 +89,5 @@ failed i room ei = rw ei
 
 -- where a read failed no input is known
 pub failed-input : (i : Input) (room bytes : List ℕ) → i ≡ input.Failed → (text : List ℕ) → IsInput i room text
-    → bytes ≡ reportOf (judgedOf text)
+    → bytes ≡ reportBytes (judgedOf text)
 failed-input i room bytes ei text s = absurd (rw ei at s)

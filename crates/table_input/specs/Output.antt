@@ -4,7 +4,7 @@ use Prim.Native.Nat.{ℕ}
 use mathlib.Core.Path.{_≡_}
 use mathlib.Core.List.{List, []}
 use lib.ListN.{length, take}
-use Rattle.writer.specs.Report.{reportOf}
+use Rattle.writer.specs.Report.{reportBytes}
 use Rattle.checker.specs.OneCall.{judgedOf}
 use Rattle.streams.specs.declared.Input.{Input}
 use Rattle.streams.specs.declared.Input.the-variants as input
@@ -18,6 +18,6 @@ IsInput input.Failed room text = ⊥
 
 -- the report on the bytes read, and nothing where a read failed
 unfoldable pub outputOf : Input → List ℕ → List ℕ
-outputOf (input.Ended n) room = reportOf (judgedOf (take n room))
-outputOf input.Full room = reportOf (judgedOf room)
+outputOf (input.Ended n) room = reportBytes (judgedOf (take n room))
+outputOf input.Full room = reportBytes (judgedOf room)
 outputOf input.Failed room = []

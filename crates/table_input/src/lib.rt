@@ -6,7 +6,7 @@ ghost use mathlib.Core.Path.{_≡_};
 ghost use mathlib.Core.List.{List};
 ghost use lib.ListN.{take};
 ghost use Rattle.io.specs.Counts.{Counts};
-ghost use Rattle.writer.specs.Report.{reportOf};
+ghost use Rattle.writer.specs.Report.{reportBytes};
 ghost use Rattle.checker.specs.OneCall.{judgedOf};
 ghost use Rattle.table_input.specs.Output.{IsInput, outputOf};
 
@@ -22,7 +22,7 @@ pub fn put_output(
 ) -> usize
     ensures { λ r. ⌜ Counts r (now (output .exit)) ⌝ }
     ensures { λ r. ⌜ take r (now (output .exit)) ≡ outputOf input (now (room .entry)) ⌝ }
-    ensures { λ r. ⌜ ((text : List ℕ) → IsInput input (now (room .entry)) text → take r (now (output .exit)) ≡ reportOf (judgedOf text)) ⌝ }
+    ensures { λ r. ⌜ ((text : List ℕ) → IsInput input (now (room .entry)) text → take r (now (output .exit)) ≡ reportBytes (judgedOf text)) ⌝ }
 {
     let bytes: &[u8] = room;
     match input {
@@ -35,7 +35,7 @@ pub fn put_output(
 // Puts the report on the first n bytes, or all.
 fn put_start(bytes: &[u8], n: usize, output: &mut [u8; writer::REPORT_BYTES]) -> usize
     ensures { λ r. ⌜ r ≡ 31 ⌝ }
-    ensures { λ _. ⌜ now (output .exit) ≡ reportOf (judgedOf (take n (now (bytes .entry)))) ⌝ }
+    ensures { λ _. ⌜ now (output .exit) ≡ reportBytes (judgedOf (take n (now (bytes .entry)))) ⌝ }
 {
     let report: &mut [u8] = output;
     if n < bytes.len() {

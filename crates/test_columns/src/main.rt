@@ -4,7 +4,7 @@
 // of a line: how many fields it begins with, the first and the second field, and what is left after the first. Then texts at the
 // limits, numbers that are written and read back, and reports, both among dots.
 use reader::Field;
-use writer::Report;
+use verdicts::Report;
 ghost use Prim.Native.Nat.{_≤_};
 ghost use lib.ListN.{length};
 

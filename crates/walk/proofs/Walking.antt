@@ -28,7 +28,7 @@ use Rattle.layout.proofs.Sizes.{shape-fits, sections-kept}
 use Rattle.steps.specs.Arrays.{padded, initialIn, stateIn, invariantIn, mappedIn, sameIn}
 use Rattle.steps.proofs.States as held
 use Rattle.lowest_failure.specs.Search.{toldPlace}
-use Rattle.lowest_failure.specs.declared.Place.{Place}
+use Rattle.verdicts.specs.declared.Place.{Place}
 use Rattle.lowest_failure.specs.declared.Finding.{Finding}
 use Rattle.lowest_failure.specs.declared.Finding.the-variants.{Nothing, Found}
 use Rattle.plan.specs.Plan.{planIn}
@@ -37,7 +37,6 @@ use Rattle.state_passes.proofs.Decided.{quick-held}
 use Rattle.walk.specs.Told.{told, toldWalked, noWalk, namedBy}
 use Rattle.walk.specs.Examine.{examineAt, examineIn, walkOn}
 use Rattle.walk.specs.Walk.{startIn, walkIn, statesThere, planOf, walkBy, startMeets}
-use Rattle.walk.specs.declared.Failure.{Failure as Said}
 use Rattle.walk.specs.declared.Outcome.{Outcome as Answer}
 use Rattle.walk.specs.declared.Outcome.the-variants.{Pass, Fail}
 use Rattle.walk.specs.declared.Walked.{Walked as WalkAnswer}
@@ -105,7 +104,7 @@ module _ (f s p : List ℕ) (h : Shape) (n from : ℕ) where
           rw (e, walk-goes (λ k. examineIn f s h p k) (n - (i + 1)) (from + i) (sym eo ∙ ap told y), k)
           (λ j. record { outcome = w .outcome; count = one (w .count) j })
 
-  pub walk-fail : (i : ℕ) (o : Answer) (x : Said) → i < n → told o ≡ examineIn f s h p (from + i) → o ≡ Fail x → walkLeft i ≡ walkOn f s h p n from
+  pub walk-fail : (i : ℕ) (o : Answer) (x : Failure) → i < n → told o ≡ examineIn f s h p (from + i) → o ≡ Fail x → walkLeft i ≡ walkOn f s h p n from
       → toldWalked (record { outcome = o; count = i + 1 }) ≡ walkOn f s h p n from
   unfolding walkLeft walkOn
   walk-fail i o x l eo y inv = go ∙ inv

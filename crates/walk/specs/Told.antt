@@ -12,7 +12,7 @@ use Rattle.walk.specs.declared.Walked.{Walked as WalkAnswer}
 
 abbrev pub told : Answer → Outcome Failure
 told Pass = pass
-told (Fail x) = fail (record { criterion = x .criterion; state = x .state; row = x .row; sum = x .sum })
+told (Fail x) = fail x
 
 abbrev pub toldWalked : WalkAnswer → Walked Failure
 toldWalked w = record { outcome = told (w .outcome); count = w .count }

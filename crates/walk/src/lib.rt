@@ -4,20 +4,13 @@
 use design::Counts;
 use design::Shape;
 use lowest_failure::Finding;
+use verdicts::Failure;
 ghost use mathlib.Core.Path.{_≡_};
 ghost use Prim.Native.Nat.{_+_, _≤_, min};
 ghost use Rattle.layout.specs.Sizes.{Fits, stateCountIn};
 ghost use Rattle.walk.specs.Told.{told, toldWalked, noWalk, namedBy};
 ghost use Rattle.walk.specs.Walk.{startMeets, startIn, planOf, walkBy};
 ghost use Rattle.walk.specs.Examine.{examineIn, walkOn};
-
-// A failure, the state by its number.
-pub struct Failure {
-    pub criterion: u16,
-    pub state: u16,
-    pub row: u16,
-    pub sum: u16,
-}
 
 pub enum Outcome {
     Pass,

@@ -14,8 +14,8 @@ use Rattle.reader.specs.Text.{textOf, fieldsByLine}
 use Rattle.reader.specs.Text as text
 use Rattle.reader.proofs.Written.{written-lines}
 use Rattle.writer.specs.Put.{put, putLength}
-use Rattle.writer.specs.Report.{fieldsOfReport, reportOf}
-use Rattle.writer.specs.declared.Report.{Report}
+use Rattle.writer.specs.Report.{fieldsOfReport, reportBytes}
+use Rattle.verdicts.specs.declared.Report.{Report}
 
 first-blank : (n : ℕ) → n < 65536 → columnOf n 100000 ≡ 32
 unfolding columnOf
@@ -31,13 +31,13 @@ columns-are n a b c d h ea eb ec ed = rw (ea, eb, ec, ed, first-blank n h)
 pub report-sets : (r : Report) (b l₁ l₂ l₃ l₄ l₅ : List ℕ) → 31 ≤ length b
     → l₁ ≡ sets b 0 (columnsOf (r .verdict)) → l₂ ≡ sets l₁ 6 (columnsOf (r .number)) → l₃ ≡ sets l₂ 12 (columnsOf (r .state))
     → l₄ ≡ sets l₃ 18 (columnsOf (r .row)) → l₅ ≡ sets l₄ 24 (columnsOf (r .sum))
-    → set l₅ 30 10 ≡ sets b 0 (reportOf r)
-unfolding columnsOf reportOf textOf written
+    → set l₅ 30 10 ≡ sets b 0 (reportBytes r)
+unfolding columnsOf reportBytes textOf written
 report-sets r b l₁ l₂ l₃ l₄ l₅ h e₁ e₂ e₃ e₄ e₅ = rw (e₅, e₄, e₃, e₂, e₁)
 
 -- the report is a text of one line, with these fields
-pub report-read : (r : Report) → Each16 (fieldsOfReport r) → fieldsByLine (reportOf r) ≡ fieldsOfReport r ∷ []
-unfolding reportOf
+pub report-read : (r : Report) → Each16 (fieldsOfReport r) → fieldsByLine (reportBytes r) ≡ fieldsOfReport r ∷ []
+unfolding reportBytes
 report-read r each = written-lines (text.more each (λ e. nil≢cons (sym e)) text.none)
 
 -- ---- bytes that fit a buffer from a place on, and bytes that don't
@@ -85,24 +85,24 @@ module _ (b : List ℕ) (at n : ℕ) where
     field-kept = all-kept b at (columnsOf n) 6 columns-length (omega arith)
 
 module _ (b : List ℕ) (r : Report) where
-  report-length : length (reportOf r) ≡ 31
-  unfolding columnsOf reportOf textOf written
+  report-length : length (reportBytes r) ≡ 31
+  unfolding columnsOf reportBytes textOf written
   report-length = refl
 
-  pub report-none : length b < 31 → 0 ≡ putLength b 0 (reportOf r)
-  report-none h = none-put b 0 (reportOf r) 31 report-length (omega arith)
+  pub report-none : length b < 31 → 0 ≡ putLength b 0 (reportBytes r)
+  report-none h = none-put b 0 (reportBytes r) 31 report-length (omega arith)
 
-  pub report-none-kept : length b < 31 → b ≡ put b 0 (reportOf r)
-  report-none-kept h = none-kept b 0 (reportOf r) 31 report-length (omega arith)
+  pub report-none-kept : length b < 31 → b ≡ put b 0 (reportBytes r)
+  report-none-kept h = none-kept b 0 (reportBytes r) 31 report-length (omega arith)
 
   module _ (h : 31 ≤ length b) where
-    pub report-put : 31 ≡ putLength b 0 (reportOf r)
-    report-put = all-put b 0 (reportOf r) 31 report-length (omega arith)
+    pub report-put : 31 ≡ putLength b 0 (reportBytes r)
+    report-put = all-put b 0 (reportBytes r) 31 report-length (omega arith)
 
-    pub report-kept : (after : List ℕ) → after ≡ sets b 0 (reportOf r) → after ≡ put b 0 (reportOf r)
-    report-kept = all-kept b 0 (reportOf r) 31 report-length (omega arith)
+    pub report-kept : (after : List ℕ) → after ≡ sets b 0 (reportBytes r) → after ≡ put b 0 (reportBytes r)
+    report-kept = all-kept b 0 (reportBytes r) 31 report-length (omega arith)
 
     -- a report that is put stands in the first 31 bytes
-    pub report-first : put b 0 (reportOf r) ≡ reportOf r ++ drop 31 b
-    unfolding columnsOf reportOf textOf written
-    report-first = sym (report-kept (sets b 0 (reportOf r)) refl) ∙ sets-eq (reportOf r) b 0 h
+    pub report-first : put b 0 (reportBytes r) ≡ reportBytes r ++ drop 31 b
+    unfolding columnsOf reportBytes textOf written
+    report-first = sym (report-kept (sets b 0 (reportBytes r)) refl) ∙ sets-eq (reportBytes r) b 0 h

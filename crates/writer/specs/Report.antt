@@ -3,7 +3,7 @@
 use Prim.Native.Nat.{ℕ}
 use mathlib.Core.List.{List, [], _∷_}
 use Rattle.reader.specs.Text.{textOf}
-use Rattle.writer.specs.declared.Report.{Report}
+use Rattle.verdicts.specs.declared.Report.{Report}
 
 -- the report of five numbers
 abbrev pub report : ℕ → ℕ → ℕ → ℕ → ℕ → Report
@@ -12,5 +12,5 @@ report v c s r e = record { verdict = v; number = c; state = s; row = r; sum = e
 abbrev pub fieldsOfReport : Report → List ℕ
 fieldsOfReport r = r .verdict ∷ r .number ∷ r .state ∷ r .row ∷ r .sum ∷ []
 
-unfoldable pub reportOf : Report → List ℕ
-reportOf r = textOf (fieldsOfReport r ∷ [])
+unfoldable pub reportBytes : Report → List ℕ
+reportBytes r = textOf (fieldsOfReport r ∷ [])

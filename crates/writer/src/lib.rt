@@ -1,24 +1,14 @@
 // A number as six columns of a lent buffer, and the report in its first 31 bytes. What is written is what the reader reads:
 // `columnsOf` and `textOf` are the reader's definitions. Each function answers its result's length, or 0 where the buffer is too short
 // for it, and then writes nothing. Every byte of the buffer at exit is determined; its length stays.
+use verdicts::Report;
 ghost use mathlib.Core.Path.{_≡_};
 ghost use Prim.Native.Nat.{_+_, _<_, _≤_};
 ghost use lib.ListN.{length};
 ghost use lib.Seq.{sets};
 ghost use Rattle.reader.specs.Columns.{columnOf, columnsOf};
 ghost use Rattle.writer.specs.Put.{put, putLength};
-ghost use Rattle.writer.specs.Report.{reportOf};
-
-// The report's five numbers.
-pub struct Report {
-    // 0 accepted, 1 failed, 2 turned down
-    pub verdict: u16,
-    // the criterion that failed, or the number by which a text is turned down
-    pub number: u16,
-    pub state: u16,
-    pub row: u16,
-    pub sum: u16,
-}
+ghost use Rattle.writer.specs.Report.{reportBytes};
 
 // Five fields and byte 10.
 pub const REPORT_BYTES: usize = 31;
@@ -49,8 +39,8 @@ pub fn put_field(buffer: &mut [u8], at: usize, n: u16) -> usize
 
 // The report in the first 31 bytes; later bytes keep their content.
 pub fn put_report(buffer: &mut [u8], report: Report) -> usize
-    ensures { λ r. ⌜ r ≡ putLength (now (buffer .entry)) 0 (reportOf report) ⌝ }
-    ensures { λ _. ⌜ now (buffer .exit) ≡ put (now (buffer .entry)) 0 (reportOf report) ⌝ }
+    ensures { λ r. ⌜ r ≡ putLength (now (buffer .entry)) 0 (reportBytes report) ⌝ }
+    ensures { λ _. ⌜ now (buffer .exit) ≡ put (now (buffer .entry)) 0 (reportBytes report) ⌝ }
 {
     if buffer.len() < REPORT_BYTES {
         return 0;
@@ -75,7 +65,7 @@ fn put_columns(buffer: &mut [u8], at: usize, n: u16)
 // The report's five fields and byte 10, where there is room for them.
 fn put_numbers(buffer: &mut [u8], report: Report)
     requires { ⌜ 31 ≤ length (now buffer) ⌝ }
-    ensures { λ _. ⌜ now (buffer .exit) ≡ sets (now (buffer .entry)) 0 (reportOf report) ⌝ }
+    ensures { λ _. ⌜ now (buffer .exit) ≡ sets (now (buffer .entry)) 0 (reportBytes report) ⌝ }
 {
     put_columns(buffer, 0, report.verdict);
     put_columns(buffer, 6, report.number);

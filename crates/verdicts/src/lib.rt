@@ -1,0 +1,27 @@
+// The words of a verdict, for definitions and for code: a place of failure at a state, a failure, and the report's numbers.
+
+// Criterion, row and sum value.
+pub struct Place {
+    pub criterion: u16,
+    pub row: u16,
+    pub sum: u16,
+}
+
+// The same at the state with a number.
+pub struct Failure {
+    pub criterion: u16,
+    pub state: u16,
+    pub row: u16,
+    pub sum: u16,
+}
+
+// The report's five numbers; those that are not used are 0.
+pub struct Report {
+    // 0 accepted, 1 failed, 2 turned down
+    pub verdict: u16,
+    // the criterion that failed, or the number by which a text is turned down
+    pub number: u16,
+    pub state: u16,
+    pub row: u16,
+    pub sum: u16,
+}
