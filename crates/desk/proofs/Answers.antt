@@ -15,7 +15,9 @@ use Rattle.walk.specs.Walk.{startIn, planOf, walkBy}
 use Rattle.verdicts.specs.declared.Failure.{Failure}
 use Rattle.walk.specs.declared.Walked.{Walked}
 use Rattle.desk.specs.Said.{walkedBy}
+use Rattle.desk.specs.Answers.{loadNumber, advanceCount}
 use Rattle.desk.proofs.Said.{said-told, count-within}
+use Rattle.desk.proofs.Numbers.{load-number, advance-count}
 use Rattle.answers.specs.declared.Phase.{Phase}
 use Rattle.answers.specs.declared.Phase.the-variants as phase
 use Rattle.answers.specs.declared.Done.the-variants as done
@@ -77,23 +79,29 @@ module _ (d : Desk) where
   not-dropped-by phase.Accepted h = absurd (h refl)
   not-dropped-by (phase.Failed f) h = absurd (h refl)
 
-  module _ (text : List ℕ) (k : ℕ) (e : k ≡ heldNumber (d .phase)) (r : AfterLoad) where
-    pub load-done : k ≡ 0 → r ≡ loadEmpty d (loadedOf text) → r ≡ loadOf d text
+  module _ (text : List ℕ) (k : ℕ) (e : k ≡ heldNumber (d .phase)) where
+    pub load-done : k ≡ 0 → (r : AfterLoad) → r ≡ loadEmpty d (loadedOf text) → r ≡ loadOf d text
     unfolding loadOf
-    load-done h er = er ∙ load-by (d .phase) text (sym e ∙ h)
+    load-done h r er = er ∙ load-by (d .phase) text (sym e ∙ h)
 
-    pub load-refused : k ≢ 0 → r ≡ notLoaded k d → r ≡ loadOf d text
+    pub load-refused : k ≢ 0 → notLoaded k d ≡ loadOf d text
     unfolding loadOf
-    load-refused h er = er ∙ ap (λ j. notLoaded j d) e ∙ not-loaded-by (d .phase) text (λ z. h (e ∙ z))
+    load-refused h = ap (λ j. notLoaded j d) e ∙ not-loaded-by (d .phase) text (λ z. h (e ∙ z))
 
-  module _ (n k : ℕ) (e : k ≡ advanceNumber (d .phase) n) (r : AfterAdvance) where
-    pub advance-done : k ≡ 0 → r ≡ examineOpen d n → r ≡ advanceOf d n
-    unfolding advanceOf
-    advance-done h er = er ∙ advance-by (d .phase) n (sym e ∙ h)
+    pub refused-number : k ≢ 0 → k ≡ loadNumber (d .phase) text
+    refused-number h = load-number d text (notLoaded k d) (load-refused h)
 
-    pub advance-refused : k ≢ 0 → r ≡ notAdvanced k d → r ≡ advanceOf d n
+  module _ (n k : ℕ) (e : k ≡ advanceNumber (d .phase) n) where
+    pub advance-done : k ≡ 0 → (r : AfterAdvance) → r ≡ examineOpen d n → r ≡ advanceOf d n
     unfolding advanceOf
-    advance-refused h er = er ∙ ap (λ j. notAdvanced j d) e ∙ not-advanced-by (d .phase) n (λ z. h (e ∙ z))
+    advance-done h r er = er ∙ advance-by (d .phase) n (sym e ∙ h)
+
+    pub advance-refused : k ≢ 0 → notAdvanced k d ≡ advanceOf d n
+    unfolding advanceOf
+    advance-refused h = ap (λ j. notAdvanced j d) e ∙ not-advanced-by (d .phase) n (λ z. h (e ∙ z))
+
+    pub refused-count : k ≢ 0 → 0 ≡ advanceCount d n
+    refused-count h = advance-count d n (notAdvanced k d) (advance-refused h)
 
   module _ (k : ℕ) (e : k ≡ dropNumber (d .phase)) where
     pub drop-done : k ≡ 0 → (x : Desk) → x ≡ emptyDesk → record { answer = done.Done; desk = x } ≡ dropOf d
@@ -116,9 +124,9 @@ module _ (d : Desk) where
     unfolding loadEmpty
     loaded m e h p ep = rw (← e, h, ep)
 
-    pub not-loaded : (m : Loaded) → l ≡ m → l .fault ≢ 0 → (r : AfterLoad) → r ≡ notLoaded (l .fault) d → r ≡ loadEmpty d m
+    pub not-loaded : (m : Loaded) → l ≡ m → l .fault ≢ 0 → notLoaded (l .fault) d ≡ loadEmpty d m
     unfolding loadEmpty
-    not-loaded m e h r er = rw (← e, ne-eqb (l .fault) 0 h) er
+    not-loaded m e h = rw (← e, ne-eqb (l .fault) 0 h)
 
   -- ---- advance on an open desk
 

@@ -15,7 +15,7 @@ ghost use Rattle.loader.specs.Load.{loadedOf};
 ghost use Rattle.answers.specs.Answers.{doneNumber, refusalNumber, countSaid, verdictNumbers, advanceNumber, verdictNumbersBy, dropNumber};
 ghost use Rattle.desk.specs.Answers.{loadNumber, advanceCount};
 ghost use Rattle.desk.specs.Limits.{deskLimits};
-ghost use Rattle.desk.specs.Desk.{emptyDesk, notLoaded, loadEmpty, loadOf, notAdvanced, failStart, examineNext, walkOn, examineOpen, advanceOf, tellOf, dropOf, placed, ahead};
+ghost use Rattle.desk.specs.Desk.{emptyDesk, loadEmpty, loadOf, failStart, examineNext, walkOn, examineOpen, advanceOf, tellOf, dropOf, placed, ahead};
 
 pub struct Desk {
     // The fields of the text's lines, and where each line starts.
@@ -126,7 +126,10 @@ impl Desk {
         if number == 0 {
             return self.load_empty(text);
         }
-        self.not_loaded(number)
+        AfterLoad {
+            answer: Done::TurnedDown(number),
+            desk: self,
+        }
     }
 
     // Examines the next n states, or those that remain.
@@ -140,7 +143,10 @@ impl Desk {
         if number == 0 {
             return self.examine_open(n);
         }
-        self.not_advanced(number)
+        AfterAdvance {
+            answer: Advance::TurnedDown(number),
+            desk: self,
+        }
     }
 
     // Tells the report's numbers; the desk stays as it is.
@@ -174,15 +180,6 @@ impl Desk {
         }
     }
 
-    fn not_loaded(self, number: u16) -> AfterLoad
-        ensures { λ r. ⌜ r ≡ notLoaded number self ⌝ }
-    {
-        AfterLoad {
-            answer: Done::TurnedDown(number),
-            desk: self,
-        }
-    }
-
     // Load on an empty desk.
     fn load_empty(self, text: &[u8]) -> AfterLoad
         ensures { λ r. ⌜ r ≡ loadEmpty self (loadedOf (now (text .entry))) ⌝ }
@@ -206,16 +203,10 @@ impl Desk {
                 },
             }
         } else {
-            self.not_loaded(fault)
-        }
-    }
-
-    fn not_advanced(self, number: u16) -> AfterAdvance
-        ensures { λ r. ⌜ r ≡ notAdvanced number self ⌝ }
-    {
-        AfterAdvance {
-            answer: Advance::TurnedDown(number),
-            desk: self,
+            AfterLoad {
+                answer: Done::TurnedDown(fault),
+                desk: self,
+            }
         }
     }
 

@@ -12,5 +12,4 @@ advance-spec =
     (λ c κs. search needs)
     (λ c κs. search needs)
     (λ c. (search answers.advance-done, (search (numbers.advance-number, answers.advance-done), search (numbers.advance-count, answers.advance-done))))
-    (λ c κs. search needs)
-    (λ c. (search answers.advance-refused, (search (numbers.advance-number, answers.advance-refused), search (numbers.advance-count, answers.advance-refused)))))
+    (λ c. (search answers.advance-refused, (search needs, search answers.refused-count))))

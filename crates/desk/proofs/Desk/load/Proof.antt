@@ -12,5 +12,4 @@ load-spec =
     (λ c κs. search needs)
     (λ c κs. search needs)
     (λ c. (search answers.load-done, search (numbers.load-number, answers.load-done)))
-    (λ c κs. search needs)
-    (λ c. (search answers.load-refused, search (numbers.load-number, answers.load-refused))))
+    (λ c. (search answers.load-refused, search answers.refused-number)))

@@ -10,6 +10,5 @@ load-empty-spec =
     (tie.spec
     (λ c κs. search needs)
     (λ c κs. search needs)
-    (λ c κs. search needs)
     (λ c. search answers.loaded)
     (λ c. search answers.not-loaded))
