@@ -18,9 +18,9 @@ use Rattle.design.specs.declared.Counts.{Counts}
 use Rattle.layout.specs.Sizes.{countsFit, stateCountIn, initialNumberIn}
 use Rattle.loader.specs.Load.{faultOf}
 use Rattle.loader.proofs.Passed.{admitted, design-in, counts-allowed}
-use Rattle.walk.specs.Walk.{startIn, planOf}
+use Rattle.walk.specs.Walk.{startIn, planOf, walkedBy}
 use Rattle.walk.proofs.Acceptance.{start-tried, states-walked}
-use Rattle.desk.specs.Said.{saidWalked, walkedBy}
+use Rattle.walk.specs.Told.{saidWalked}
 use Rattle.desk.specs.Desk.{HoldsText}
 use Rattle.desk.specs.declared.Desk.{Desk}
 

@@ -24,7 +24,7 @@ use Rattle.decision.proofs.Progress.{Progress, begins, goes-on, ends-at-start, 
 use Rattle.design.specs.Lines.{designText}
 use Rattle.layout.specs.Sizes.{initialNumberIn}
 use Rattle.loader.proofs.Passed.{admitted}
-use Rattle.desk.specs.Said.{said}
+use Rattle.walk.specs.Told.{said}
 use Rattle.walk.specs.declared.Outcome.the-variants.{Pass}
 use Rattle.answers.specs.declared.Phase.{Phase}
 use Rattle.answers.specs.declared.Phase.the-variants as phase

@@ -10,13 +10,11 @@ use lib.Dec.{eqb, leb}
 use Rattle.layout.specs.Sizes.{stateCountIn, initialNumberIn}
 use Rattle.loader.specs.declared.Loaded.{Loaded}
 use Rattle.loader.specs.Load.{loadedOf}
-use Rattle.walk.specs.Told.{toldWalked}
-use Rattle.walk.specs.Walk.{startIn, planOf, walkBy}
+use Rattle.walk.specs.Walk.{startIn, planOf, walkedBy}
 use Rattle.verdicts.specs.declared.Failure.{Failure}
 use Rattle.walk.specs.declared.Walked.{Walked}
-use Rattle.desk.specs.Said.{walkedBy}
 use Rattle.desk.specs.Answers.{loadNumber, advanceCount}
-use Rattle.desk.proofs.Said.{said-told, count-within}
+use Rattle.walk.proofs.Told.{count-within}
 use Rattle.desk.proofs.Numbers.{load-number, advance-count}
 use Rattle.answers.specs.declared.Phase.{Phase}
 use Rattle.answers.specs.declared.Phase.the-variants as phase
@@ -175,20 +173,15 @@ module _ (d : Desk) where
   start-failed s es e ee = rw (ee, es)
 
   module _ (n total k : ℕ) (et : total ≡ stateCountIn (d .fields) (d .starts) (d .counts)) (ek : k ≡ ahead n (d .next) total) where
-    walked : (w : Walked) (from : ℕ) → toldWalked w ≡ walkBy (d .fields) (d .starts) (d .counts) (d .plan) k from
-        → w ≡ walkedBy (d .fields) (d .starts) (d .counts) (d .plan) k from
-    unfolding walkedBy
-    walked w from tw = said-told w (walkBy (d .fields) (d .starts) (d .counts) (d .plan) k from) tw
-
     -- wherever the walk starts
-    pub next-fits : (w : Walked) (from : ℕ) → toldWalked w ≡ walkBy (d .fields) (d .starts) (d .counts) (d .plan) k from
+    pub next-fits : (w : Walked) (from : ℕ) → w ≡ walkedBy (d .fields) (d .starts) (d .counts) (d .plan) k from
         → d .next < 2 ^ 64 → total < 2 ^ 64 → d .next + w .count < 18446744073709551616
     unfolding ahead
     next-fits w from tw a b =
-        let most : w .count ≤ k = rw (walked w from tw) (count-within (d .fields) (d .starts) (d .counts) (d .plan) k from) in
+        let most : w .count ≤ k = rw tw (count-within (d .fields) (d .starts) (d .counts) (d .plan) k from) in
         omega arith
 
-    pub examined : (w : Walked) → toldWalked w ≡ walkBy (d .fields) (d .starts) (d .counts) (d .plan) k (d .next)
+    pub examined : (w : Walked) → w ≡ walkedBy (d .fields) (d .starts) (d .counts) (d .plan) k (d .next)
         → (r : AfterAdvance) → r ≡ walkOn d w total → r ≡ examineNext d n
     unfolding examineNext
-    examined w tw r e = rw (← et, ← ek, ← walked w (d .next) tw) e
+    examined w tw r e = rw (← et, ← ek, ← tw) e

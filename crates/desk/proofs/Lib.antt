@@ -1,4 +1,3 @@
-pub mod Said
 pub mod Answers
 pub mod Numbers
 pub mod Cut

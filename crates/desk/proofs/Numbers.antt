@@ -7,7 +7,7 @@ use borrow.Author.Tests.{eqb-true}
 use lib.Dec.{eqb, leb}
 use Rattle.layout.specs.Sizes.{stateCountIn}
 use Rattle.loader.specs.Load.{faultOf, loadedOf}
-use Rattle.walk.specs.Walk.{startIn}
+use Rattle.walk.specs.Walk.{startIn, walkedBy}
 use Rattle.walk.specs.declared.Outcome.{Outcome}
 use Rattle.walk.specs.declared.Outcome.the-variants.{Pass, Fail}
 use Rattle.walk.specs.declared.Walked.{Walked}
@@ -18,7 +18,6 @@ use Rattle.desk.specs.declared.AfterLoad.{AfterLoad}
 use Rattle.desk.specs.declared.AfterAdvance.{AfterAdvance}
 use Rattle.desk.specs.declared.AfterVerdict.{AfterVerdict}
 use Rattle.desk.specs.declared.AfterDrop.{AfterDrop}
-use Rattle.desk.specs.Said.{walkedBy}
 use Rattle.answers.specs.Answers.{doneNumber, refusalNumber, countSaid, verdictNumbers, advanceNumber, verdictNumbersBy, dropNumber, answerAfter}
 use Rattle.desk.specs.Answers.{loadNumber, countOpen, countBy, advanceCount}
 use Rattle.desk.specs.Desk.{loadEmpty, loadBy, loadOf, afterWalk, walkOn, failStart, ahead, examineNext, examineOpen, advanceOpen, advanceBy, advanceOf, tellBy, tellOf, dropBy, dropOf}

@@ -14,11 +14,10 @@ use Rattle.design.specs.Loaded.{fieldsHeld, startsHeld}
 use Rattle.layout.specs.Sizes.{stateCountIn, initialNumberIn}
 use Rattle.loader.specs.declared.Loaded.{Loaded}
 use Rattle.loader.specs.Load.{loadedOf}
-use Rattle.walk.specs.Walk.{startIn, planOf}
+use Rattle.walk.specs.Walk.{startIn, planOf, walkedBy}
 use Rattle.verdicts.specs.declared.Failure.{Failure}
 use Rattle.walk.specs.declared.Walked.{Walked}
 use Rattle.walk.specs.declared.Outcome.{Outcome}
-use Rattle.desk.specs.Said.{walkedBy}
 use Rattle.answers.specs.declared.Phase.{Phase}
 use Rattle.answers.specs.declared.Phase.the-variants as phase
 use Rattle.answers.specs.declared.Done.{Done}

@@ -1,4 +1,3 @@
-pub mod Said
 pub mod Desk
 pub mod Answers
 pub mod Limits

@@ -36,7 +36,8 @@ use Rattle.state_passes.specs.Quick.{passesIn}
 use Rattle.state_passes.proofs.Decided.{quick-held}
 use Rattle.walk.specs.Told.{told, toldWalked, noWalk, namedBy}
 use Rattle.walk.specs.Examine.{examineAt, examineIn, walkOn}
-use Rattle.walk.specs.Walk.{startIn, walkIn, statesThere, planOf, walkBy, startMeets}
+use Rattle.walk.specs.Walk.{startIn, walkIn, statesThere, planOf, walkBy, walkedBy, startMeets}
+use Rattle.walk.proofs.Told.{walked-so}
 use Rattle.walk.specs.declared.Outcome.{Outcome as Answer}
 use Rattle.walk.specs.declared.Outcome.the-variants.{Pass, Fail}
 use Rattle.walk.specs.declared.Walked.{Walked as WalkAnswer}
@@ -213,17 +214,17 @@ module _ (f s : List ℕ) (c : Counts) (m n from : ℕ) (most : m ≡ min (state
       rw e (lt-leb (from + n) (min (states (designIn f s c)) 65536) (omega arith))
 
   module _ (p : List ℕ) (r : WalkAnswer) where
-    pub none-past : m < from → toldWalked r ≡ noWalk → toldWalked r ≡ walkBy f s c p n from
+    pub none-past : m < from → toldWalked r ≡ noWalk → r ≡ walkedBy f s c p n from
     unfolding walkBy
-    none-past l er = er ∙ rw (not-there (countsFit c) refl (omega arith))
+    none-past l er = walked-so f s c p n from r (er ∙ rw (not-there (countsFit c) refl (omega arith)))
 
-    pub none-so-many : from ≤ m → m - from < n → toldWalked r ≡ noWalk → toldWalked r ≡ walkBy f s c p n from
+    pub none-so-many : from ≤ m → m - from < n → toldWalked r ≡ noWalk → r ≡ walkedBy f s c p n from
     unfolding walkBy
-    none-so-many l k er = er ∙ rw (not-there (countsFit c) refl (omega arith))
+    none-so-many l k er = walked-so f s c p n from r (er ∙ rw (not-there (countsFit c) refl (omega arith)))
 
-    pub walked : (h : Shape) → from ≤ m → n ≤ m - from → h ≡ shapeOf c → toldWalked r ≡ walkOn f s h p n from → toldWalked r ≡ walkBy f s c p n from
+    pub walked : (h : Shape) → from ≤ m → n ≤ m - from → h ≡ shapeOf c → toldWalked r ≡ walkOn f s h p n from → r ≡ walkedBy f s c p n from
     unfolding walkBy walkOn theWalk.walk
-    walked h l k eh er = er ∙ ap (λ q. walkOn f s q p n from) eh ∙ go (countsFit c) refl
+    walked h l k eh er = walked-so f s c p n from r (er ∙ ap (λ q. walkOn f s q p n from) eh ∙ go (countsFit c) refl)
       where
         go : (b : Bool) → countsFit c ≡ b → walkOn f s (shapeOf c) p n from ≡ pick (statesThere f s c n from) (walkOn f s (shapeOf c) p n from) noWalk
         go false e =

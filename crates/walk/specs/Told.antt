@@ -1,4 +1,4 @@
--- What the code's answers say, in the words of the crates foundation and criteria.
+-- What the code's answers say, in the words of the crates foundation and criteria, and back.
 use Prim.Native.Nat.{ℕ}
 use Rattle.foundation.specs.First.{Outcome, pass, fail}
 use Rattle.foundation.specs.Walk.{Walked}
@@ -24,3 +24,12 @@ noWalk = record { outcome = pass; count = 0 }
 -- what was found at the state with a number
 unfoldable pub namedBy : ℕ → Finding → Outcome Failure
 namedBy n r = named n (toldPlace r)
+
+-- ---- the other way round: what was found, in the code's own types
+
+abbrev pub said : Outcome Failure → Answer
+said pass = Pass
+said (fail x) = Fail x
+
+abbrev pub saidWalked : Walked Failure → WalkAnswer
+saidWalked w = record { outcome = said (w .outcome); count = w .count }

@@ -17,8 +17,9 @@ use Rattle.design.specs.declared.Shape.{Shape}
 use Rattle.layout.specs.Sizes.{countsFit, shapeOf}
 use Rattle.plan.specs.Plan.{planIn}
 use Rattle.steps.specs.Arrays.{initialIn, invariantIn, mappedIn, sameIn}
-use Rattle.walk.specs.Told.{noWalk}
+use Rattle.walk.specs.Told.{noWalk, saidWalked}
 use Rattle.walk.specs.Examine.{walkOn}
+use Rattle.walk.specs.declared.Walked.{Walked as WalkAnswer}
 
 -- criterion 1
 unfoldable pub startIn : List ℕ → List ℕ → Counts → Bool
@@ -37,6 +38,9 @@ planOf f s c = planIn f s (shapeOf c)
 
 unfoldable pub walkBy : List ℕ → List ℕ → Counts → List ℕ → ℕ → ℕ → Walked Failure
 walkBy f s c p n from = pick (statesThere f s c n from) (walkOn f s (shapeOf c) p n from) noWalk
+
+unfoldable pub walkedBy : List ℕ → List ℕ → Counts → List ℕ → ℕ → ℕ → WalkAnswer
+walkedBy f s c p n from = saidWalked (walkBy f s c p n from)
 
 -- criterion 1 as the code tries it
 unfoldable pub startMeets : List ℕ → List ℕ → Shape → Bool

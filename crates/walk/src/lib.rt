@@ -9,7 +9,7 @@ ghost use mathlib.Core.Path.{_≡_};
 ghost use Prim.Native.Nat.{_+_, _≤_, min};
 ghost use Rattle.layout.specs.Sizes.{Fits, stateCountIn};
 ghost use Rattle.walk.specs.Told.{told, toldWalked, noWalk, namedBy};
-ghost use Rattle.walk.specs.Walk.{startMeets, startIn, planOf, walkBy};
+ghost use Rattle.walk.specs.Walk.{startMeets, startIn, planOf, walkedBy};
 ghost use Rattle.walk.specs.Examine.{examineIn, walkOn};
 
 pub enum Outcome {
@@ -60,7 +60,7 @@ pub fn walk<'a>(
     from: usize,
     n: usize,
 ) -> Walked
-    ensures { λ r. ⌜ toldWalked r ≡ walkBy (now (fields .entry)) (now (starts .entry)) counts (now (plan .entry)) n from ⌝ }
+    ensures { λ r. ⌜ r ≡ walkedBy (now (fields .entry)) (now (starts .entry)) counts (now (plan .entry)) n from ⌝ }
 {
     let most = walkable(fields, starts, counts);
     if most < from {
