@@ -2,7 +2,7 @@
 -- criteria, rows and sum values are looked at. And for a design that is admitted it says whether criteria 2 to 9 hold.
 use mathlib.Core.Path.{_≡_, refl, sym, _∙_, ap}
 use mathlib.Core.Logic.{_↔_}
-use mathlib.Core.Bool.{Bool, true, false, not, _&&_, true≢false}
+use mathlib.Core.Bool.{Bool, true, false, not, _&&_, true≢false, Bool·not-not}
 use mathlib.Core.List.{List, [], _∷_}
 use Prim.Native.Nat.{ℕ, suc}
 use lib.ListN.{length, getD}
@@ -23,21 +23,17 @@ use Rattle.decision.proofs.Examine.{state-passes}
 -- ---- one criterion over rows
 
 -- each of a list, by its numbers
-by-numbers : (G : Row → Bool) (rows : List Row) → allIn (λ k. G (getD rows k noRow)) (length rows) 0 ≡ eachB G rows
+pub by-numbers : (G : Row → Bool) (rows : List Row) → allIn (λ k. G (getD rows k noRow)) (length rows) 0 ≡ eachB G rows
 unfolding allIn
 by-numbers G [] = refl
 by-numbers G (r ∷ rows) = ap (λ b. G r && b) (all-from (λ k. G (getD (r ∷ rows) k noRow)) (length rows) 0 ∙ by-numbers G rows)
-
-not-twice : (b : Bool) → not (not b) ≡ b
-not-twice true = refl
-not-twice false = refl
 
 rows-pass : (rows : List Row) (holds : Row → ℕ → Bool) (c : ℕ)
     → passes (firstPlace (suc (length rows)) (λ k. rowAt rows k .span) (λ k e. not (holds (rowAt rows k) e)) (place c)) ≡ allRows rows holds
 unfolding allIn
 rows-pass rows holds c =
     place-passes (suc (length rows)) (λ k. rowAt rows k .span) (λ k e. not (holds (rowAt rows k) e)) (place c)
-    ∙ all-alike _ (λ k. G (rowAt rows k)) (suc (length rows)) 0 (λ k. all-alike _ (λ e. holds (rowAt rows k) e) (rowAt rows k .span) 0 (λ e. not-twice (holds (rowAt rows k) e)))
+    ∙ all-alike _ (λ k. G (rowAt rows k)) (suc (length rows)) 0 (λ k. all-alike _ (λ e. holds (rowAt rows k) e) (rowAt rows k .span) 0 (λ e. Bool·not-not (holds (rowAt rows k) e)))
     ∙ all-from (λ k. G (rowAt rows k)) (length rows) 0
     ∙ by-numbers G rows
   where

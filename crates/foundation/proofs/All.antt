@@ -1,7 +1,7 @@
--- The test whether all say yes, as a loop that counts up: what is left of it, from i on, is the whole.
-use mathlib.Core.Path.{_≡_}
+-- The test whether all say yes: as a loop that counts up, what is left of it, from i on, being the whole; and two tests that agree.
+use mathlib.Core.Path.{_≡_, refl}
 use mathlib.Core.Bool.{Bool, true, false}
-use Prim.Native.Nat.{ℕ, suc, _+_, _-_, _≤_, _<_}
+use Prim.Native.Nat.{ℕ, zero, suc, _+_, _-_, _≤_, _<_}
 use native.Mathlib.Numerals.{add-one}
 use native.Mathlib.Omega.{arith}
 use Rattle.foundation.specs.First.{allIn}
@@ -22,3 +22,15 @@ module _ (t : ℕ → Bool) (n : ℕ) where
   pub all-end : (i : ℕ) → n ≤ i → allIn t (n - i) i ≡ true
   unfolding allIn
   all-end i l = let e : n - i ≡ 0 = omega arith in rw e
+
+-- all say yes
+pub all-yes : (g : ℕ → Bool) → ((i : ℕ) → g i ≡ true) → (n i : ℕ) → allIn g n i ≡ true
+unfolding allIn
+all-yes g h zero i = refl
+all-yes g h (suc n) i = rw (h i, all-yes g h n (suc i))
+
+-- two tests that say the same as far as they are asked
+pub all-in : (g h : ℕ → Bool) (n i : ℕ) → ((j : ℕ) → i ≤ j → j < i + n → g j ≡ h j) → allIn g n i ≡ allIn h n i
+unfolding allIn
+all-in g h zero i e = refl
+all-in g h (suc n) i e = rw (e i (omega arith) (omega arith), all-in g h n (suc i) (λ j l u. e j (omega arith) (omega arith)))

@@ -2,7 +2,7 @@
 -- for an enabled internal row.
 use mathlib.Core.Path.{_≡_, refl, sym, _∙_, ap}
 use mathlib.Core.Logic.{_⊎_, inl, inr, _≢_}
-use mathlib.Core.Bool.{Bool, true, false, not, _&&_, _||_}
+use mathlib.Core.Bool.{Bool, true, false, not, _&&_, _||_, Bool·not-not}
 use mathlib.Core.List.{List}
 use Prim.Native.Nat.{ℕ, zero, suc, _+_, _-_, _≤_, _<_}
 use native.Mathlib.Omega.{arith}
@@ -30,8 +30,7 @@ use Rattle.lowest_failure.specs.Search.{Known, quietIn, ofImpl, ofSpec}
 use Rattle.lowest_failure.specs.declared.Here.{Here}
 
 twice : (b x : Bool) → b || x ≡ not (not b) || x
-twice true x = refl
-twice false x = refl
+twice b x = ap (λ z. z || x) (sym (Bool·not-not b))
 
 -- two tests that agree where there is a row agree behind the test whether there is one
 where-some : (j : ℕ) (a b : Bool) → (j ≢ 0 → a ≡ b) → (not (eqb j 0) ⇒ a) ≡ (not (eqb j 0) ⇒ b)

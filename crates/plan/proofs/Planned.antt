@@ -1,7 +1,7 @@
 -- What the functions that make the plan return, as specs/Plan says it, and the turns of their loops; and that an entry of the plan of a
 -- design is that of its row.
 use mathlib.Core.Path.{_≡_, refl, sym, _∙_, ap}
-use mathlib.Core.Bool.{Bool, true, false, not, _&&_}
+use mathlib.Core.Bool.{Bool, true, false, not, _&&_, and-true}
 use mathlib.Core.List.{List, _∷_, _++_, append-nil}
 use Prim.Native.Nat.{ℕ, zero, suc, _+_, _-_, _*_, _≤_, _<_}
 use native.Mathlib.Numerals.{add-one}
@@ -53,10 +53,6 @@ module _ (f : List ℕ) (at n : ℕ) where
     where
       go : true ≡ freeLeft p i
       go = let e : n - i ≡ 0 = omega arith in rw e
-
-and-true : (a : Bool) → a && true ≡ a
-and-true true = refl
-and-true false = refl
 
 module _ (f : List ℕ) (line n : ℕ) (whole : Bool) (h : Found) (eh : h ≡ foundF (line + 3) (readF 32 (drop (line + 3) f))) where
   pub condition-free-is : not whole ≡ true → h .free ≡ freeOf whole (rowOf n (drop line f))

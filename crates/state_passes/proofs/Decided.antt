@@ -14,6 +14,7 @@ use Rattle.foundation.specs.Nth.{eachB}
 use Rattle.foundation.specs.Radix.{sameB}
 use Rattle.foundation.specs.Reflects.{_⇒_}
 use Rattle.foundation.proofs.First.{all-alike, all-both, all-from}
+use Rattle.foundation.proofs.All.{all-in, all-yes}
 use Rattle.foundation.proofs.Nth.{each-alike}
 use Rattle.foundation.proofs.Trial.{place-passes}
 use Rattle.terms.specs.Tree.{Value, pick, evalF}
@@ -28,6 +29,7 @@ use Rattle.criteria.specs.Rows.{noRow, rowAt, internalTest}
 use Rattle.criteria.proofs.Rows.{is-row-below}
 use Rattle.decision.specs.Tests.{enabledB, internalB, invariantStateB, focusB, rowOf, partner, holds2, holds7}
 use Rattle.decision.specs.Quick.{allRows, rowHolds, stateHolds}
+use Rattle.decision.proofs.Quick.{by-numbers}
 use Rattle.decision.proofs.Alike.{formula-alike}
 use Rattle.decision.proofs.Find.{Found, Missing, find, found-at, found-partner}
 use Rattle.design.specs.Line as line
@@ -54,17 +56,6 @@ onIn r v free e = enabledB r v (pick free 0 e)
 
 -- ---- tests of numbers, one after the other
 
--- two tests that say the same as far as they are asked
-all-in : (g h : ℕ → Bool) (n i : ℕ) → ((j : ℕ) → i ≤ j → j < i + n → g j ≡ h j) → allIn g n i ≡ allIn h n i
-unfolding allIn
-all-in g h zero i e = refl
-all-in g h (suc n) i e = rw (e i (omega arith) (omega arith), all-in g h n (suc i) (λ j l u. e j (omega arith) (omega arith)))
-
-all-yes : (n i : ℕ) → allIn (λ _. true) n i ≡ true
-unfolding allIn
-all-yes zero i = refl
-all-yes (suc n) i = all-yes n (suc i)
-
 -- one that says the same for all numbers is asked once
 all-once : (g : ℕ → Bool) (n : ℕ) → ((j : ℕ) → g j ≡ g 0) → allIn g (min n 1) 0 ≡ allIn g n 0
 unfolding allIn
@@ -72,7 +63,7 @@ all-once g zero h = refl
 all-once g (suc n) h = let e : min (suc n) 1 ≡ 1 = omega arith in rw e (go (g 0) refl)
   where
     go : (b : Bool) → g 0 ≡ b → g 0 && true ≡ g 0 && allIn g n 1
-    go true e = rw e (sym (all-in g (λ _. true) n 1 (λ j l u. h j ∙ e) ∙ all-yes n 1))
+    go true e = rw e (sym (all-in g (λ _. true) n 1 (λ j l u. h j ∙ e) ∙ all-yes (λ _. true) (λ _. refl) n 1))
     go false e = rw e
 
 all-looks : (g : ℕ → Bool) (free : Bool) (n : ℕ) → (free ≡ true → (j : ℕ) → g j ≡ g 0) → allIn g (looksOf free n) 0 ≡ allIn g n 0
@@ -96,12 +87,7 @@ each-yes : (rows : List Row) → eachB (λ (_ : Row). true) rows ≡ true
 each-yes [] = refl
 each-yes (r ∷ rows) = each-yes rows
 
--- each of a list of rows, by their numbers from 1
-by-numbers : (G : Row → Bool) (rows : List Row) → allIn (λ k. G (getD rows k noRow)) (length rows) 0 ≡ eachB G rows
-unfolding allIn
-by-numbers G [] = refl
-by-numbers G (r ∷ rows) = ap (λ b. G r && b) (all-from (λ k. G (getD (r ∷ rows) k noRow)) (length rows) 0 ∙ by-numbers G rows)
-
+-- the same from 1
 numbered : (G : Row → Bool) (rows : List Row) → G noRow ≡ true → allIn (λ k. G (rowAt rows k)) (suc (length rows)) 0 ≡ eachB G rows
 unfolding allIn
 numbered G rows none = rw none (all-from (λ k. G (rowAt rows k)) (length rows) 0 ∙ by-numbers G rows)
@@ -220,7 +206,7 @@ module _ (f s : List ℕ) (h : Shape) (v t : List ℕ) (l : ℕ) where
               (rw (
                 all-alike held (λ _. true) (en .looks) 0 (λ e. ap (λ b. b ⇒ stepOfRow f s h row (en .partner) v t m e) (none e)),
                 all-alike off (λ _. true) (en .looks) 0 (λ e. ap not (none e)),
-                all-yes (en .looks) 0,
+                all-yes (λ _. true) (λ _. refl) (en .looks) 0,
                 or-true (not (internalB row)),
               ))
 
@@ -244,7 +230,7 @@ module _ (f s : List ℕ) (h : Shape) (v t : List ℕ) (l : ℕ) where
         go : (b : Bool) → front t .holds ≡ b → pick b (replyLooks f s (h .implementation) (rowFor (front t) en false) v t) true ≡ allIn held (en .looks) 0
         go true y = all-alike _ held (en .looks) 0 (λ e. ap (λ b. b ⇒ enabledBack e) (sym (on e ∙ ap (λ b. b && rest t (pick (en .free) 0 e)) y)))
         go false y =
-            sym (all-alike held (λ _. true) (en .looks) 0 (λ e. ap (λ b. b ⇒ enabledBack e) (on e ∙ ap (λ b. b && rest t (pick (en .free) 0 e)) y)) ∙ all-yes (en .looks) 0)
+            sym (all-alike held (λ _. true) (en .looks) 0 (λ e. ap (λ b. b ⇒ enabledBack e) (on e ∙ ap (λ b. b && rest t (pick (en .free) 0 e)) y)) ∙ all-yes (λ _. true) (λ _. refl) (en .looks) 0)
 
 -- ---- the rows of a process
 
@@ -392,7 +378,7 @@ module _ (f s : List ℕ) (h : Shape) (fits : Fits h) (v : State) where
       where
         go : (b : Bool) → internalB r ≡ b → not b || allIn (λ e. not (enabledB r v e)) (r .span) 0 ≡ allQuiet
         go true z = all-alike (λ e. not (enabledB r v e)) (λ e. not (internalTest v r e)) (r .span) 0 (λ e. ap (λ b. not (b && enabledB r v e)) (sym z))
-        go false z = sym (all-alike (λ e. not (internalTest v r e)) (λ _. true) (r .span) 0 (λ e. ap (λ b. not (b && enabledB r v e)) z) ∙ all-yes (r .span) 0)
+        go false z = sym (all-alike (λ e. not (internalTest v r e)) (λ _. true) (r .span) 0 (λ e. ap (λ b. not (b && enabledB r v e)) z) ∙ all-yes (λ _. true) (λ _. refl) (r .span) 0)
 
   -- ---- the rows of the implementation by the plan
 
@@ -536,7 +522,7 @@ module _ (f s : List ℕ) (h : Shape) (fits : Fits h) (v : State) where
     where
       go : (b : Bool) → (b ⇒ sevens) ≡ allRows (d .spec .rows) (λ z e. b ⇒ enabledB z y e ⇒ enabledB (partner (d .impl) (z .action)) v e)
       go true = refl
-      go false = sym (each-alike _ (λ _. true) (d .spec .rows) (λ z. all-yes (z .span) 0) ∙ each-yes (d .spec .rows))
+      go false = sym (each-alike _ (λ _. true) (d .spec .rows) (λ z. all-yes (λ _. true) (λ _. refl) (z .span) 0) ∙ each-yes (d .spec .rows))
 
   -- ---- the state
 

@@ -1,6 +1,6 @@
 -- What the functions of the quick test return, as specs/Quick says it, and the turns of their loops.
 use mathlib.Core.Path.{_≡_, refl, sym, _∙_, ap}
-use mathlib.Core.Bool.{Bool, true, false, not, _&&_, _||_, or-true}
+use mathlib.Core.Bool.{Bool, true, false, not, _&&_, _||_, or-true, and-true, and-assoc}
 use mathlib.Core.List.{List}
 use Prim.Native.Nat.{ℕ, zero, suc, _+_, _-_, _≤_, _<_}
 use native.Mathlib.Numerals.{add-one}
@@ -10,7 +10,7 @@ use lib.Dec.{eqb, ltb, eqb·suc-zero}
 use lib.ListN.{getD, drop}
 use Rattle.foundation.specs.First.{allIn}
 use Rattle.foundation.specs.Reflects.{_⇒_}
-use Rattle.foundation.proofs.All.{all-begin, all-turn, all-fail, all-end}
+use Rattle.foundation.proofs.All.{all-begin, all-turn, all-fail, all-end, all-yes}
 use Rattle.terms.specs.Tree.{pick, evalV, evalF}
 use Rattle.terms.specs.Read.{readV, readF}
 use Rattle.terms.proofs.Read.{place}
@@ -135,19 +135,6 @@ module _ (f s v t : List ℕ) (h : Shape) (row : Row) (first o : Held) (m e : �
 
 -- ---- all sum values of a row
 
-all-yes : (g : ℕ → Bool) → ((i : ℕ) → g i ≡ true) → (n i : ℕ) → allIn g n i ≡ true
-unfolding allIn
-all-yes g h zero i = refl
-all-yes g h (suc n) i = rw (h i, all-yes g h n (suc i))
-
-and-three : (a b r : Bool) → a && (b && r) ≡ (a && b) && r
-and-three true b r = refl
-and-three false b r = refl
-
-and-true : (a : Bool) → a && true ≡ a
-and-true true = refl
-and-true false = refl
-
 -- one more that holds, whose second says q
 all-step : (g : ℕ → Bool) (n i : ℕ) → i < n → allIn g (n - i) i ≡ g i && allIn g (n - (i + 1)) (i + 1)
 unfolding allIn
@@ -163,7 +150,7 @@ module _ (h q : ℕ → Bool) (u : Bool → Bool) (n : ℕ) where
 
   seen-turn : (a : Bool) (i : ℕ) → i < n → h i ≡ true → seenLeft a i ≡ seenLeft (a && q i) (i + 1)
   seen-turn a i l e =
-      rw (all-turn h n i l e, all-step q n i l) (ap (λ b. seen (allIn h (n - (i + 1)) (i + 1)) (u b)) (and-three a (q i) (allIn q (n - (i + 1)) (i + 1))))
+      rw (all-turn h n i l e, all-step q n i l) (ap (λ b. seen (allIn h (n - (i + 1)) (i + 1)) (u b)) (sym (and-assoc a (q i) (allIn q (n - (i + 1)) (i + 1)))))
 
   seen-fail : (a : Bool) (i : ℕ) → i < n → h i ≡ false → record { holds = false; quiet = false } ≡ seenLeft a i
   seen-fail a i l e = rw (all-fail h n i l e)
