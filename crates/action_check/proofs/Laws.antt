@@ -2,7 +2,7 @@
 -- the loops are in Lines.
 use mathlib.Core.Path.{_≡_, refl, sym, ap, _∙_}
 use mathlib.Core.Logic.{_≢_}
-use mathlib.Core.Bool.{Bool, true, false, not}
+use mathlib.Core.Bool.{Bool, true, false, not, cond}
 use mathlib.Core.List.{List, [], _∷_}
 use Prim.Native.Nat.{ℕ, _+_, _<_, _≤_}
 use native.Mathlib.Omega.{arith}
@@ -11,7 +11,7 @@ use borrow.Author.Tests.{eq-eqb, ne-eqb}
 use lib.Dec.{eqb}
 use lib.ListN.{length, getD, drop, drop-of-length-le}
 use lib.Seq.{getD-drop, drop-cons, drop-drop}
-use Rattle.terms.specs.Tree.{Value, Formula, pick}
+use Rattle.terms.specs.Tree.{Value, Formula}
 use Rattle.terms.specs.Mark.{valueMark}
 use Rattle.terms.specs.Read.{Reader, readV, readF, valueBy}
 use Rattle.terms.proofs.Read.{step-v, place}
@@ -40,7 +40,7 @@ NotNumber (vm.Arithmetic o) = Unit {0}
 NotNumber vm.Choice = Unit {0}
 NotNumber vm.Wrong = Unit {0}
 
-of-either : {A : Type 0} (P : A → Type 0) (b : Bool) (x y : A) → P x → P y → P (pick b x y)
+of-either : {A : Type 0} (P : A → Type 0) (b : Bool) (x y : A) → P x → P y → P (cond b x y)
 of-either P true x y px py = px
 of-either P false x y px py = py
 

@@ -3,7 +3,6 @@ use Prim.Native.Nat.{ℕ, suc, _+_, _-_, _≤_, _<_}
 use mathlib.Core.Path.{_≡_}
 use mathlib.Core.Bool.{cond}
 use lib.Dec.{eqb, ltb}
-use Rattle.terms.specs.Tree.{pick}
 use Rattle.criteria.specs.Design.{Design, states}
 use Rattle.criteria.specs.Verdict.{Verdict, accepted, failed}
 use Rattle.answers.specs.declared.Phase.{Phase}
@@ -15,7 +14,7 @@ use Rattle.answers.specs.declared.Advance.the-variants as advance
 -- "The check is decided when a criterion fails or the last state is done": how many are examined till then
 abbrev pub stopOf : Design → Verdict → ℕ
 stopOf d accepted = states d
-stopOf d (failed x) = pick (eqb (x .criterion) 1) 0 (suc (x .state))
+stopOf d (failed x) = cond (eqb (x .criterion) 1) 0 (suc (x .state))
 
 -- what the call that decides answers
 abbrev pub decidedBy : Verdict → ℕ → Advance

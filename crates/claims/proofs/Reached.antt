@@ -3,13 +3,12 @@
 use Prim.Native.Nat.{ℕ, _+_, _≤_, min}
 use mathlib.Core.Path.{_≡_, refl, sym, ap, _∙_}
 use mathlib.Core.Logic.{_≢_, _⊎_, inl, inr}
-use mathlib.Core.Bool.{Bool, true, false}
+use mathlib.Core.Bool.{Bool, true, false, cond}
 use mathlib.Core.List.{List, _∷_, nil≢cons}
 use native.Mathlib.Omega.{arith}
 use borrow.Author.Tests.{eqb-true, eqb-false}
 use lib.Dec.{eqb}
 use Rattle.foundation.specs.Walk.{walk}
-use Rattle.terms.specs.Tree.{pick}
 use Rattle.criteria.specs.Design.{Design, states}
 use Rattle.decision.specs.Tests.{holds1}
 use Rattle.decision.specs.Verdict.{verdictOf}
@@ -90,7 +89,7 @@ none-yet : (d : Design) → examined d 0 ≡ 0
 unfolding examined walk
 none-yet d = let e : min 0 (states d) ≡ 0 = omega arith in rw e (either (holds1 d))
   where
-    either : (b : Bool) → _≡_ {A = ℕ} (pick b 0 0) 0
+    either : (b : Bool) → _≡_ {A = ℕ} (cond b 0 0) 0
     either true = refl
     either false = refl
 

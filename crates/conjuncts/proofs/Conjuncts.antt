@@ -1,7 +1,7 @@
 -- A condition holds exactly if the conjuncts in front of it and its rest do. Where the conjuncts do not read the sum value they may be
 -- evaluated for 0. And the laws of the two loops that count and evaluate them.
 use mathlib.Core.Path.{_≡_, refl, sym, _∙_, ap, subst}
-use mathlib.Core.Bool.{Bool, true, false, not, _&&_, true≢false}
+use mathlib.Core.Bool.{Bool, true, false, not, _&&_, true≢false, cond}
 use mathlib.Core.List.{List}
 use Prim.Native.Nat.{ℕ, zero, suc, _+_, _-_, _≤_, _<_}
 use native.Mathlib.Numerals.{sub-one}
@@ -9,7 +9,7 @@ use native.Mathlib.Omega.{arith}
 use borrow.Author.Tests.{not-true, not-false, eqb-true, ltb-true, ne-eqb, lt-ltb, le-ltb}
 use lib.Dec.{eqb, ltb, eqb·suc-zero}
 use lib.ListN.{length, getD, drop}
-use Rattle.terms.specs.Tree.{pick, evalF}
+use Rattle.terms.specs.Tree.{evalF}
 use Rattle.terms.specs.Mark.{formulaMark}
 use Rattle.terms.specs.Read.{readF}
 use Rattle.terms.proofs.Read.{step-f, place}
@@ -82,7 +82,7 @@ guards f v e (suc d) at = go (isAnd f at (suc d)) refl (foundF (at + 1) (readF d
 
     go : (b : Bool) → isAnd f at (suc d) ≡ b → (c : Bool) → sumFreeF (readF d (drop (at + 1) f) .tree) ≡ c
         → Guards f v left d (guardIn f v 0 (frontOf f left d) left d) e
-        → Guards f v at (suc d) (guardIn f v 0 (pick (b && c) (suc (frontOf f left d)) 0) at (suc d)) e
+        → Guards f v at (suc d) (guardIn f v 0 (cond (b && c) (suc (frontOf f left d)) 0) at (suc d)) e
     go false h c k ih = record { says = refl; ends = λ z. refl }
     go true h false k ih = record { says = refl; ends = λ z. refl }
     go true h true k ih = subst (λ g. Guards f v at (suc d) g e) (sym opened) (by (evalF (readF d (drop (at + 1) f) .tree) v 0) refl)
@@ -93,13 +93,13 @@ guards f v e (suc d) at = go (isAnd f at (suc d)) refl (foundF (at + 1) (readF d
         off : Guarded
         off = record { holds = false; at = at; depth = suc d }
 
-        opened : guardIn f v 0 (suc m) at (suc d) ≡ pick (evalF (readF d (drop (at + 1) f) .tree) v 0) (guardIn f v 0 m left d) off
+        opened : guardIn f v 0 (suc m) at (suc d) ≡ cond (evalF (readF d (drop (at + 1) f) .tree) v 0) (guardIn f v 0 m left d) off
         opened = rw (h, sub-one)
 
         here : (x : Bool) → evalF (readF d (drop (at + 1) f) .tree) v 0 ≡ x → evalF (readF d (drop (at + 1) f) .tree) v e ≡ x
         here x ex = same-f (readF d (drop (at + 1) f) .tree) v e 0 k ∙ ex
 
-        by : (x : Bool) → evalF (readF d (drop (at + 1) f) .tree) v 0 ≡ x → Guards f v at (suc d) (pick x (guardIn f v 0 m left d) off) e
+        by : (x : Bool) → evalF (readF d (drop (at + 1) f) .tree) v 0 ≡ x → Guards f v at (suc d) (cond x (guardIn f v 0 m left d) off) e
         by true ex = record { says = and-read f at d h v e .0 ∙ rw (here true ex) (ih .says); ends = λ z. and-read f at d h v e .1 ∙ ih .ends z }
         by false ex = record { says = and-read f at d h v e .0 ∙ rw (here false ex); ends = λ z. absurd (true≢false (sym z)) }
 
@@ -123,10 +123,10 @@ guards-any f v e (suc n) (suc d) at = go (isAnd f at (suc d)) refl (guards-any f
         closed = rw h
     go true h ih = subst (λ g. Guards f v at (suc d) g e) (sym opened) (by (evalF (readF d (drop (at + 1) f) .tree) v e) refl)
       where
-        opened : guardIn f v e (suc n) at (suc d) ≡ pick (evalF (readF d (drop (at + 1) f) .tree) v e) (guardIn f v e n left d) off
+        opened : guardIn f v e (suc n) at (suc d) ≡ cond (evalF (readF d (drop (at + 1) f) .tree) v e) (guardIn f v e n left d) off
         opened = rw (h, sub-one)
 
-        by : (x : Bool) → evalF (readF d (drop (at + 1) f) .tree) v e ≡ x → Guards f v at (suc d) (pick x (guardIn f v e n left d) off) e
+        by : (x : Bool) → evalF (readF d (drop (at + 1) f) .tree) v e ≡ x → Guards f v at (suc d) (cond x (guardIn f v e n left d) off) e
         by true ex = record { says = and-read f at d h v e .0 ∙ rw ex (ih .says); ends = λ z. and-read f at d h v e .1 ∙ ih .ends z }
         by false ex = record { says = and-read f at d h v e .0 ∙ rw ex; ends = λ z. absurd (true≢false (sym z)) }
 
@@ -242,7 +242,7 @@ module _ (f v : List ℕ) (e at n : ℕ) where
   guard-begin = let z : n - 0 ≡ n = omega arith in rw z
 
   module _ (p d i : ℕ) (x : Conjunct) (l : i < n) (ex : x ≡ conjunctIn f v e p d) (inv : guardLeft p d i ≡ whole) where
-    goes : guardLeft p d i ≡ pick (x .there) (pick (x .holds) (guardLeft (x .next) (x .depth) (i + 1)) (record { holds = false; at = p; depth = d })) (record { holds = true; at = p; depth = d })
+    goes : guardLeft p d i ≡ cond (x .there) (cond (x .holds) (guardLeft (x .next) (x .depth) (i + 1)) (record { holds = false; at = p; depth = d })) (record { holds = true; at = p; depth = d })
     unfolding guardLeft guardIn
     goes = let z : n - i ≡ suc (n - (i + 1)) = omega arith in rw (z, ← ex)
 

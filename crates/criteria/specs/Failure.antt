@@ -1,12 +1,12 @@
 -- Failures: what one is, the order in which they are compared, which there are in a design, and which is the lowest (01, "Nine
 -- criteria"; 00, demand 2). How the lowest is found is not here.
 use mathlib.Core.List.{List, [], _∷_}
+use mathlib.Core.Bool.{cond}
 use Prim.Native.Nat.{ℕ}
 use lib.Dec.{eqb}
 use Rattle.verdicts.specs.declared.Failure as words
 use Rattle.foundation.specs.Lowest.{Lowest}
 use Rattle.foundation.specs.Trial.{Place, place}
-use Rattle.terms.specs.Tree.{pick}
 use Rattle.criteria.specs.Design.{Design, Row, State, RowIs, InvariantState, initialState, stateNumber}
 use Rattle.criteria.specs.Criteria.{Criterion1, Criterion2, Criterion3, Criterion4, Criterion5, Criterion6, Criterion7, Criterion8, Criterion9}
 
@@ -16,7 +16,7 @@ Failure = words.Failure
 
 -- "Criterion 1 comes before state 0": 0 for the start, 1 for any other
 abbrev pub stage : Failure → ℕ
-stage x = pick (eqb (x .criterion) 1) 0 1
+stage x = cond (eqb (x .criterion) 1) 0 1
 
 -- what failures are compared by, the first difference deciding: the failed start before all, "Then states rise; within a state
 -- criteria, rows and sum values rise."

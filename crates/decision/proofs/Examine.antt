@@ -2,7 +2,7 @@
 -- state passes exactly if criteria 2 to 9 hold there or the invariant does not.
 use mathlib.Core.Path.{_≡_, refl, sym, _∙_, subst}
 use mathlib.Core.Logic.{_↔_, _≢_}
-use mathlib.Core.Bool.{Bool, true, false, not, true≢false}
+use mathlib.Core.Bool.{Bool, true, false, not, true≢false, cond}
 use mathlib.Core.List.{List}
 use Prim.Native.Nat.{ℕ, zero, suc, _<_}
 use native.Mathlib.Omega.{arith}
@@ -20,7 +20,6 @@ use Rattle.foundation.proofs.Reflects.{says-no, is-not}
 use Rattle.criteria.specs.Design.{Design, Row, State, RowIs, InvariantState, Admitted, sizes, states}
 use Rattle.criteria.specs.Criteria.{Criterion2, Criterion3, Criterion4, Criterion5, Criterion6, Criterion7, Criterion8, Criterion9, Criteria}
 use Rattle.criteria.specs.Failure.{Failure, failureAt, FailsAt, second, third, fourth, fifth, sixth, seventh, eighth, ninth}
-use Rattle.terms.specs.Tree.{pick}
 use Rattle.foundation.proofs.Radix.{values-below}
 use Rattle.criteria.specs.Rows.{rowAt}
 use Rattle.criteria.proofs.Rows.{is-row-at, is-row-below, row-at-is}
@@ -183,7 +182,7 @@ module _ (d : Design) (a : Admitted d) (n : ℕ) (below : n < states d) where
   unfolding examine
   examined = go (invariantB d (stateAt d n)) refl
     where
-      go : (b : Bool) → invariantB d (stateAt d n) ≡ b → Examined d n (pick b (named n (firstFailing d (stateAt d n))) pass)
+      go : (b : Bool) → invariantB d (stateAt d n) ≡ b → Examined d n (cond b (named n (firstFailing d (stateAt d n))) pass)
       go true h = searched (record { in-size = values-below (sizes (d .impl)) n below; invariant = h }) (firstFailing d (stateAt d n)) refl
       go false h = met (λ i. absurd (true≢false (sym (i .invariant) ∙ h)))
 

@@ -2,7 +2,7 @@
 -- criteria hold. By mixed radix every state is examined, and each under its own number.
 use mathlib.Core.Path.{_≡_, refl, sym, _∙_, ap, subst}
 use mathlib.Core.Logic.{_↔_}
-use mathlib.Core.Bool.{Bool}
+use mathlib.Core.Bool.{Bool, cond}
 use Prim.Native.Nat.{ℕ, _<_, zero-le}
 use native.Mathlib.Omega.{arith}
 use Rattle.foundation.specs.First.{Outcome, pass, fail}
@@ -12,7 +12,6 @@ use Rattle.foundation.specs.Reflects.{Reflects, so, not-so}
 use Rattle.foundation.proofs.Lowest.{lower-not-self}
 use Rattle.foundation.proofs.Radix.{number-below, values-of-number, number-of-values}
 use Rattle.foundation.proofs.Walk.{walk-all, all-walk, walk-fails}
-use Rattle.terms.specs.Tree.{pick}
 use Rattle.criteria.specs.Design.{Design, State, InvariantState, Admitted, sizes, states, stateNumber}
 use Rattle.criteria.specs.Criteria.{Criteria, Criterion1, Meets}
 use Rattle.criteria.specs.Failure.{Failure, turn, FailsAt, startFailure, failureAt, Fails, start, at}
@@ -96,6 +95,6 @@ module _ (d : Design) (a : Admitted d) where
   unfolding checked
   check-settled = go (by-1 d)
     where
-      go : {b : Bool} → Reflects (Criterion1 d) b → Settled turn (Fails d) (pick b (overStates d) (fail (startFailure d)))
+      go : {b : Bool} → Reflects (Criterion1 d) b → Settled turn (Fails d) (cond b (overStates d) (fail (startFailure d)))
       go (so c) = walked c (overStates d) refl
       go (not-so n) = lowest (record { fails = start n; none-before = before-start })

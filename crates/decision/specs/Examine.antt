@@ -1,13 +1,12 @@
 -- The examination of one state: which rows and sum values are tried for which criterion, in 01's order, and what is found there.
 -- The walk over the states and the verdict are in specs/Verdict; a faster way to the same in specs/Quick.
-use mathlib.Core.Bool.{Bool, false, not}
+use mathlib.Core.Bool.{Bool, false, not, cond}
 use mathlib.Core.List.{List, [], _∷_}
 use Prim.Native.Nat.{ℕ, suc}
 use lib.ListN.{length, getD}
 use Rattle.foundation.specs.First.{Outcome, pass, fail}
 use Rattle.foundation.specs.Trial.{Place, Trial, firstOf}
 use Rattle.foundation.specs.Radix.{valuesOf}
-use Rattle.terms.specs.Tree.{pick}
 use Rattle.criteria.specs.Design.{Design, Row, State, sizes}
 use Rattle.criteria.specs.Failure.{Failure, failureAt}
 use Rattle.criteria.specs.Rows.{rowAt}
@@ -87,4 +86,4 @@ unfoldable pub examine : Design → ℕ → Outcome Failure
 examine d n =
     let s : State = stateAt d n in
     let o = named n (firstFailing d s) in
-    pick (invariantB d s) o pass
+    cond (invariantB d s) o pass

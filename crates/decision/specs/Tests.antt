@@ -1,13 +1,13 @@
 -- The nine criteria as tests that compute, row by row and sum value by sum value. What they decide is said in criteria/specs/Criteria;
 -- that they decide it, in proofs/Tests.
-use mathlib.Core.Bool.{Bool, not, _&&_}
+use mathlib.Core.Bool.{Bool, not, _&&_, cond}
 use mathlib.Core.List.{List, [], _∷_}
 use Prim.Native.Nat.{ℕ, suc}
 use lib.Dec.{eqb, ltb}
 use Rattle.foundation.specs.First.{passes}
 use Rattle.foundation.specs.Radix.{belowB, sameB}
 use Rattle.foundation.specs.Reflects.{_⇒_}
-use Rattle.terms.specs.Tree.{pick, evalF}
+use Rattle.terms.specs.Tree.{evalF}
 use Rattle.criteria.specs.Design.{Design, Process, Row, State, sizes, initialState, mapped, measureAt}
 use Rattle.criteria.specs.Step.{nextState, dataNumber}
 use Rattle.criteria.specs.Rows.{rowAt, firstInternal}
@@ -31,7 +31,7 @@ focusB d s = passes (firstInternal d s)
 -- the number of the first row of an action, counted from k; 0 if there is none
 unfoldable pub rowFrom : List Row → ℕ → ℕ → ℕ
 rowFrom [] action k = 0
-rowFrom (r ∷ rows) action k = let n = rowFrom rows action (suc k) in pick (eqb (r .action) action) k n
+rowFrom (r ∷ rows) action k = let n = rowFrom rows action (suc k) in cond (eqb (r .action) action) k n
 
 abbrev pub rowOf : Process → ℕ → ℕ
 rowOf p action = rowFrom (p .rows) action 1

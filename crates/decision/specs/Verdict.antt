@@ -1,7 +1,7 @@
 -- The verdict as it is computed: criterion 1, then the walk over all states.
 use Rattle.foundation.specs.First.{Outcome, pass, fail}
+use mathlib.Core.Bool.{cond}
 use Rattle.foundation.specs.Walk.{walk}
-use Rattle.terms.specs.Tree.{pick}
 use Rattle.criteria.specs.Design.{Design, states}
 use Rattle.criteria.specs.Failure.{Failure, startFailure}
 use Rattle.criteria.specs.Verdict.{Verdict, accepted, failed}
@@ -14,7 +14,7 @@ overStates d = walk (examine d) (states d) 0 .outcome
 
 -- "Criterion 1 comes before state 0 .. Then states rise"
 unfoldable pub checked : Design → Outcome Failure
-checked d = let w = overStates d in pick (holds1 d) w (fail (startFailure d))
+checked d = let w = overStates d in cond (holds1 d) w (fail (startFailure d))
 
 abbrev pub byOutcome : Outcome Failure → Verdict
 byOutcome pass = accepted

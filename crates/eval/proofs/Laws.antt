@@ -3,13 +3,13 @@
 -- Each law's premises are what the code knows there, one fact each, and its conclusion is the answer as the code builds it; so the
 -- proof of the functions only names the law. Marks 3, 4 and 5 are one law over the operation, as are 12 and 13, and 15 and 16.
 use mathlib.Core.Path.{_≡_, refl, _∙_}
-use mathlib.Core.Bool.{Bool, true, false, not}
+use mathlib.Core.Bool.{Bool, true, false, not, cond}
 use mathlib.Core.List.{List, []}
 use Prim.Native.Nat.{ℕ, zero, suc, _+_, _-_, _<_, _≤_}
 use native.Mathlib.Omega.{arith}
 use lib.ListN.{length, getD, drop, drop-of-length-le}
 use lib.Seq.{drop-cons}
-use Rattle.terms.specs.Tree.{evalV, evalF, pick, arithOf, compareOf, joinOf}
+use Rattle.terms.specs.Tree.{evalV, evalF, arithOf, compareOf, joinOf}
 use Rattle.terms.specs.Mark.{valueMark, formulaMark}
 use Rattle.terms.specs.Read.{readV, readF}
 use Rattle.terms.proofs.Read.{step-v, step-f, place}
@@ -111,7 +111,7 @@ module _ (ps : List ℕ) (x : ℕ) where
             (valued-eq (cc) (omega (arith, next-v ea, next-v eb)))
 
         choice : w ≡ vm.Choice → (f : Held) (a b : Valued) → f ≡ subF (at + 1) → a ≡ subV (f .next) → b ≡ subV (a .next)
-            → valued (pick (f .holds) (a .value) (b .value)) (b .next) ≡ whole-v
+            → valued (cond (f .holds) (a .value) (b .value)) (b .next) ≡ whole-v
         unfolding evalV
         choice m f a b ef ea eb =
             rw (step-v s at d deep inside, ← ew, m, place s (at + 1) _ (next-f ef), place s (f .next) _ (next-v ea))

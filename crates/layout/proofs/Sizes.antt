@@ -2,7 +2,7 @@
 -- A number that is cut off stays cut off whatever it is multiplied by, and by 0 it is 0 in either case: so cutting off at every turn
 -- is cutting off at the end.
 use mathlib.Core.Path.{_≡_, refl, sym, _∙_, ap}
-use mathlib.Core.Bool.{Bool, true, false, not, _&&_}
+use mathlib.Core.Bool.{Bool, true, false, not, _&&_, cond}
 use mathlib.Core.List.{List, [], _∷_}
 use Prim.Native.Nat.{ℕ, zero, suc, _+_, _-_, _*_, _≤_, _<_, min}
 use native.Mathlib.Numerals.{add-one}
@@ -13,7 +13,6 @@ use borrow.Author.Tests.{leb-true, not-true, not-false}
 use lib.Dec.{leb}
 use lib.ListN.{getD}
 use Rattle.foundation.specs.Radix.{product, numberOf, numberFrom}
-use Rattle.terms.specs.Tree.{pick}
 use Rattle.terms.proofs.And.{and-left, and-right}
 use Rattle.criteria.specs.Design.{Parameter}
 use Rattle.design.specs.Loaded.{lineFrom, eachLine, sections}
@@ -58,7 +57,7 @@ pub shape-fits : (c : Counts) → Fits (shapeOf c)
 unfolding shapeOf sectionsOf
 shape-fits c = go (countsFit c) refl
   where
-    go : (b : Bool) → countsFit c ≡ b → Fits (pick b (sections c) (sectionsOf 0 0 0 0))
+    go : (b : Bool) → countsFit c ≡ b → Fits (cond b (sections c) (sectionsOf 0 0 0 0))
     go true e =
         let q : Fit c = fit c true (sym e) refl in
         record {

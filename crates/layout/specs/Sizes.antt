@@ -1,12 +1,11 @@
 -- Which counts of lines fit, how many states the design in a desk's arrays has, and which number its initial state has, each for every
 -- arrays and counts. The design itself is in design/specs/Loaded; that a loaded design has at most 65,536 states, and that its
 -- initial state is one of them, is no matter here: where it is so, nothing is cut off.
-use mathlib.Core.Bool.{Bool, _&&_}
+use mathlib.Core.Bool.{Bool, _&&_, cond}
 use mathlib.Core.List.{List, []}
 use Prim.Native.Nat.{ℕ, _≤_, min}
 use lib.Dec.{leb}
 use Rattle.foundation.specs.Radix.{product, numberOf}
-use Rattle.terms.specs.Tree.{pick}
 use Rattle.criteria.specs.Design.{Parameter, sizes, initialState, states, stateNumber}
 use Rattle.design.specs.Line.{parameterOf}
 use Rattle.design.specs.Loaded.{lineFrom, eachLine, sections, designIn}
@@ -31,7 +30,7 @@ sectionsOf n m k l = sections (record { kind1 = n; kind2 = m; kind3 = k; kind4 =
 
 -- of lines that are counted, where the counts fit, and else of none
 unfoldable pub shapeOf : Counts → Shape
-shapeOf c = pick (countsFit c) (sections c) (sectionsOf 0 0 0 0)
+shapeOf c = cond (countsFit c) (sections c) (sectionsOf 0 0 0 0)
 
 -- no more parameters than a state has values, and no more rows than there may be
 pub record FitsIn (p : Process) : Type 0 where
@@ -61,10 +60,10 @@ numberUpTo fields starts n = let ps = parametersFrom fields starts n 0 in min (n
 
 -- how many states, 65,537 standing for all that are too many
 unfoldable pub stateCountIn : List ℕ → List ℕ → Counts → ℕ
-stateCountIn fields starts c = pick (countsFit c) (min (states (designIn fields starts c)) 65537) 0
+stateCountIn fields starts c = cond (countsFit c) (min (states (designIn fields starts c)) 65537) 0
 
 -- the number of the initial state
 unfoldable pub initialNumberIn : List ℕ → List ℕ → Counts → ℕ
 initialNumberIn fields starts c =
     let d = designIn fields starts c in
-    pick (countsFit c) (min (stateNumber d (initialState (d .impl))) 65535) 0
+    cond (countsFit c) (min (stateNumber d (initialState (d .impl))) 65535) 0

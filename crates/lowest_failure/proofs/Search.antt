@@ -1,7 +1,7 @@
 -- What the search of the code returns: the arms of the choice of a criterion, and the turns of the loops over sum values, rows and
 -- criteria, each the search for a first failure of foundation/proofs/First; and that it is the search of decision/specs/Examine.
 use mathlib.Core.Path.{_≡_, refl, sym, _∙_, ap}
-use mathlib.Core.Bool.{Bool, true, false, not}
+use mathlib.Core.Bool.{Bool, true, false, not, cond}
 use mathlib.Core.List.{List}
 use Prim.Native.Nat.{ℕ, zero, suc, _+_, _-_, _≤_, _<_}
 use native.Mathlib.Omega.{arith}
@@ -10,7 +10,6 @@ use lib.ListN.{length}
 use Rattle.foundation.specs.First.{Outcome, fail, failIf, orElse, firstIn}
 use Rattle.foundation.specs.Trial.{Place as At, place, firstPlace, inCriterion}
 use Rattle.foundation.proofs.First.{first-alike, loop-begins, loop-turns, loop-fails, loop-ends, test-turns, test-fails}
-use Rattle.terms.specs.Tree.{pick}
 use Rattle.criteria.specs.Design.{Design, Row, State}
 use Rattle.criteria.specs.Rows.{rowAt}
 use Rattle.decision.specs.Tests.{focusB, holds2, holds3, holds4, holds5, holds6, holds7, holds8, holds9}
@@ -192,11 +191,11 @@ module _ (f s : List ℕ) (h : Shape) (v : State) where
   unfolding inCriteria
   later = first-alike _ _ 7 3 (λ n l u. criterion n l (omega arith))
 
-  whole : (b : Bool) → b ≡ holds2 d v → pick b (inCriteria h d v) (fail (place 2 0 0)) ≡ firstFailing d v
+  whole : (b : Bool) → b ≡ holds2 d v → cond b (inCriteria h d v) (fail (place 2 0 0)) ≡ firstFailing d v
   unfolding firstIn
   whole b eb = rw (later, eb) (go (holds2 d v))
     where
-      go : (b : Bool) → pick b (firstIn (λ n. inCriterion (trial d v) n) 7 3) (fail (place 2 0 0))
+      go : (b : Bool) → cond b (firstIn (λ n. inCriterion (trial d v) n) 7 3) (fail (place 2 0 0))
           ≡ orElse (firstPlace 1 (λ _. 1) (λ _ _. not b) (place 2)) (firstIn (λ n. inCriterion (trial d v) n) 7 3)
       go true = refl
       go false = refl

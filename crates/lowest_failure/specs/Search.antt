@@ -2,13 +2,12 @@
 -- criteria 3 to 9 its rows, of each its sum values, by the tests of the crate decision. It is the search of decision/specs/Examine
 -- (proofs/Search).
 use mathlib.Core.Path.{_≡_}
-use mathlib.Core.Bool.{Bool, not}
+use mathlib.Core.Bool.{Bool, not, cond}
 use mathlib.Core.List.{List}
 use Prim.Native.Nat.{ℕ, suc}
 use lib.Dec.{eqb}
 use Rattle.foundation.specs.First.{Outcome, pass, fail, failIf, firstIn, allIn}
 use Rattle.foundation.specs.Trial.{Place, place}
-use Rattle.terms.specs.Tree.{pick}
 use Rattle.criteria.specs.Design.{Design, Row, State, mapped}
 use Rattle.criteria.specs.Rows.{rowAt, internalTest}
 use Rattle.decision.specs.Tests.{focusB, holds3, holds4, holds5, holds6, holds7, holds8, holds9}
@@ -45,19 +44,19 @@ ofSpec holds d v k e = holds d v (rowAt (d .spec .rows) k) e
 -- specification's."
 unfoldable pub holdsFor : Design → State → ℕ → ℕ → ℕ → Bool
 holdsFor d v n k e =
-    pick (eqb n 3) (ofImpl holds3 d v k e)
-    (pick (eqb n 4) (ofImpl holds4 d v k e)
-    (pick (eqb n 5) (ofImpl holds5 d v k e)
-    (pick (eqb n 6) (ofImpl holds6 d v k e)
-    (pick (eqb n 7) (ofSpec holds7 d v k e)
-    (pick (eqb n 8) (ofImpl holds8 d v k e)
+    cond (eqb n 3) (ofImpl holds3 d v k e)
+    (cond (eqb n 4) (ofImpl holds4 d v k e)
+    (cond (eqb n 5) (ofImpl holds5 d v k e)
+    (cond (eqb n 6) (ofImpl holds6 d v k e)
+    (cond (eqb n 7) (ofSpec holds7 d v k e)
+    (cond (eqb n 8) (ofImpl holds8 d v k e)
     (ofImpl holds9 d v k e))))))
 
 unfoldable pub spanFor : Design → ℕ → ℕ → ℕ
-spanFor d n k = pick (eqb n 7) (rowAt (d .spec .rows) k .span) (rowAt (d .impl .rows) k .span)
+spanFor d n k = cond (eqb n 7) (rowAt (d .spec .rows) k .span) (rowAt (d .impl .rows) k .span)
 
 unfoldable pub rowsFor : Shape → ℕ → ℕ
-rowsFor h n = pick (eqb n 7) (h .specification .rows .count) (h .implementation .rows .count)
+rowsFor h n = cond (eqb n 7) (h .specification .rows .count) (h .implementation .rows .count)
 
 unfoldable pub inRow : Design → State → ℕ → ℕ → Outcome Place
 inRow d v n k = firstIn (λ e. failIf (not (holdsFor d v n k e)) (place n k e)) (spanFor d n k) 0

@@ -1,7 +1,7 @@
 -- What the functions that make the plan return, as specs/Plan says it, and the turns of their loops; and that an entry of the plan of a
 -- design is that of its row.
 use mathlib.Core.Path.{_≡_, refl, sym, _∙_, ap}
-use mathlib.Core.Bool.{Bool, true, false, not, _&&_, and-true}
+use mathlib.Core.Bool.{Bool, true, false, not, _&&_, and-true, cond}
 use mathlib.Core.List.{List, _∷_, _++_, append-nil}
 use Prim.Native.Nat.{ℕ, zero, suc, _+_, _-_, _*_, _≤_, _<_}
 use native.Mathlib.Numerals.{add-one}
@@ -11,7 +11,7 @@ use lib.Dec.{eqb}
 use lib.ListN.{length, getD, drop, set, replicate, length-replicate, drop-of-length-le}
 use lib.Seq.{sets, sets-eq}
 use Rattle.foundation.specs.Nth.{eachB}
-use Rattle.terms.specs.Tree.{Value, pick}
+use Rattle.terms.specs.Tree.{Value}
 use Rattle.terms.specs.Read.{readV, readF}
 use Rattle.terms.proofs.Read.{place}
 use Rattle.sum_free.specs.SumFree.{sumFreeV, sumFreeF, foundV, foundF}

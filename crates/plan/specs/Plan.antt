@@ -1,12 +1,12 @@
 -- What is worked out once for all states: which rows do not read the sum value, and the plan, an entry for each row. f the fields, s the
 -- starts of lines, p a process and o the other; rows count from 1.
-use mathlib.Core.Bool.{Bool, true, false, not, _&&_, _||_}
+use mathlib.Core.Bool.{Bool, true, false, not, _&&_, _||_, cond}
 use mathlib.Core.List.{List, [], _∷_}
 use Prim.Native.Nat.{ℕ, zero, suc, _+_, _*_, _-_, min}
 use lib.Dec.{eqb, leb, ltb}
 use lib.ListN.{getD, drop}
 use Rattle.foundation.specs.Nth.{eachB}
-use Rattle.terms.specs.Tree.{Value, pick}
+use Rattle.terms.specs.Tree.{Value}
 use Rattle.sum_free.specs.SumFree.{sumFreeV, sumFreeF}
 use Rattle.criteria.specs.Design.{Row}
 use Rattle.criteria.specs.Rows.{noRow}
@@ -24,7 +24,7 @@ unfoldable pub rowBy : List ℕ → List ℕ → Process → ℕ → Row
 rowBy f s p k = rowOf (p .parameters .count) (drop (lineOf s p k) f)
 
 unfoldable pub partnerBy : List ℕ → List ℕ → Process → ℕ → Row
-partnerBy f s p k = pick (eqb k 0) noRow (rowBy f s p k)
+partnerBy f s p k = cond (eqb k 0) noRow (rowBy f s p k)
 
 -- values, and a row's condition or the whole row, that do not read the sum value
 unfoldable pub valuesFree : List ℕ → ℕ → ℕ → Bool
@@ -40,7 +40,7 @@ partnerFree f s p k whole = freeOf whole (partnerBy f s p k)
 
 -- one look does for all sum values where nothing reads them
 unfoldable pub looksOf : Bool → ℕ → ℕ
-looksOf free span = pick free (min span 1) span
+looksOf free span = cond free (min span 1) span
 
 -- of row k
 unfoldable pub entryOf : List ℕ → List ℕ → Process → Process → Bool → ℕ → Entry
@@ -59,18 +59,18 @@ noEntry = record { partner = 0; looks = 0; free = false; front = 0 }
 
 -- where there is one
 unfoldable pub entryIn : List ℕ → List ℕ → Process → Process → Bool → ℕ → Entry
-entryIn f s p o whole k = pick (leb k (p .rows .count)) (entryOf f s p o whole k) noEntry
+entryIn f s p o whole k = cond (leb k (p .rows .count)) (entryOf f s p o whole k) noEntry
 
 -- entry number i: the rows of the implementation, whole, then those of the specification, of which only the conditions count
 unfoldable pub entryFor : List ℕ → List ℕ → Shape → ℕ → Entry
 entryFor f s h i =
-    pick (ltb i 32) (entryIn f s (h .implementation) (h .specification) true (i + 1))
+    cond (ltb i 32) (entryIn f s (h .implementation) (h .specification) true (i + 1))
     (entryIn f s (h .specification) (h .implementation) false (i - 32 + 1))
 
 -- ---- the plan: four numbers for each entry
 
 unfoldable pub flagOf : Bool → ℕ
-flagOf b = pick b 1 0
+flagOf b = cond b 1 0
 
 -- n entries from the i-th on
 unfoldable pub entriesFrom : List ℕ → List ℕ → Shape → ℕ → ℕ → List ℕ

@@ -2,7 +2,7 @@
 -- state t holds. Where nothing in a row and its partner reads the sum value, one look does for all.
 use mathlib.Core.Path.{_≡_, refl, sym, _∙_, ap}
 use mathlib.Core.Logic.{_⊎_, inl, inr}
-use mathlib.Core.Bool.{Bool, true, false, not, _&&_, _||_, true≢false, or-true}
+use mathlib.Core.Bool.{Bool, true, false, not, _&&_, _||_, true≢false, or-true, cond}
 use mathlib.Core.List.{List, [], _∷_}
 use Prim.Native.Nat.{ℕ, zero, suc, _+_, _-_, _≤_, _<_, min}
 use native.Mathlib.Omega.{arith}
@@ -17,7 +17,7 @@ use Rattle.foundation.proofs.First.{all-alike, all-both, all-from}
 use Rattle.foundation.proofs.All.{all-in, all-yes}
 use Rattle.foundation.proofs.Nth.{each-alike}
 use Rattle.foundation.proofs.Trial.{place-passes}
-use Rattle.terms.specs.Tree.{Value, pick, evalF}
+use Rattle.terms.specs.Tree.{Value, evalF}
 use Rattle.terms.specs.Read.{readF}
 use Rattle.terms.proofs.Read.{place}
 use Rattle.terms.proofs.And.{and-left, and-right}
@@ -52,7 +52,7 @@ use Rattle.state_passes.specs.declared.Seen.{Seen}
 
 -- a row's condition for the sum value e, taken for 0 where it is said to be sum-free
 abbrev onIn : Row → List ℕ → Bool → ℕ → Bool
-onIn r v free e = enabledB r v (pick free 0 e)
+onIn r v free e = enabledB r v (cond free 0 e)
 
 -- ---- tests of numbers, one after the other
 
@@ -108,7 +108,7 @@ arranged false b r = refl
 -- ---- all criteria at a row and a sum value
 
 at-once : (en i int s4 l5 q6 j0 d8 s9 : Bool) → (j0 ≡ true → q6 ≡ false)
-    → (en ⇒ (i && pick int (s4 && l5) (q6 && (d8 && s9))))
+    → (en ⇒ (i && cond int (s4 && l5) (q6 && (d8 && s9))))
     ≡ (en ⇒ i) && ((en ⇒ int ⇒ s4) && ((en ⇒ int ⇒ l5) && ((en ⇒ not int ⇒ q6) && ((en ⇒ not int ⇒ not j0 ⇒ d8) && (en ⇒ not int ⇒ not j0 ⇒ s9)))))
 at-once false i int s4 l5 q6 j0 d8 s9 h = refl
 at-once true false int s4 l5 q6 j0 d8 s9 h = refl
@@ -151,7 +151,7 @@ condition-free r h = and-left (sumFreeF (r .condition)) true h
 on-held : (r : Row) (x : State) (e : ℕ) → onIn r x (sumFreeF (r .condition)) e ≡ enabledB r x e
 on-held r x e = go (sumFreeF (r .condition)) refl
   where
-    go : (b : Bool) → sumFreeF (r .condition) ≡ b → evalF (r .condition) x (pick b 0 e) ≡ enabledB r x e
+    go : (b : Bool) → sumFreeF (r .condition) ≡ b → evalF (r .condition) x (cond b 0 e) ≡ enabledB r x e
     go true h = same-f (r .condition) x 0 e h
     go false h = refl
 
@@ -178,7 +178,7 @@ module _ (f s : List ℕ) (h : Shape) (v t : List ℕ) (l : ℕ) where
       unfolding stepIn stepOfRow valuesAt
       step-by-place g e = rw (place f l 3 refl, place f (l + 3) _ refl, place f (l + 3 + _) _ refl)
 
-      guarded-row : pick (front v .holds) (looksIn f s h (rowFor (front v) en (internalB row)) v t m) (seen true true)
+      guarded-row : cond (front v .holds) (looksIn f s h (rowFor (front v) en (internalB row)) v t m) (seen true true)
           ≡ seen (allIn (λ e. onIn row v (en .free) e ⇒ stepOfRow f s h row (en .partner) v t m e) (en .looks) 0)
           (not (internalB row) || allIn (λ e. not (onIn row v (en .free) e)) (en .looks) 0)
       unfolding looksIn
@@ -190,18 +190,18 @@ module _ (f s : List ℕ) (h : Shape) (v t : List ℕ) (l : ℕ) where
           off : ℕ → Bool
           off e = not (onIn row v (en .free) e)
 
-          go : (b : Bool) → front v .holds ≡ b → pick b (looksIn f s h (rowFor (front v) en (internalB row)) v t m) (seen true true)
+          go : (b : Bool) → front v .holds ≡ b → cond b (looksIn f s h (rowFor (front v) en (internalB row)) v t m) (seen true true)
               ≡ seen (allIn held (en .looks) 0) (not (internalB row) || allIn off (en .looks) 0)
           go true y =
-              let on : (e : ℕ) → rest v (pick (en .free) 0 e) ≡ onIn row v (en .free) e =
-              λ e. sym (on-guarded v (h .implementation .parameters .count) (pick (en .free) 0 e) ∙ ap (λ b. b && rest v (pick (en .free) 0 e)) y) in
+              let on : (e : ℕ) → rest v (cond (en .free) 0 e) ≡ onIn row v (en .free) e =
+              λ e. sym (on-guarded v (h .implementation .parameters .count) (cond (en .free) 0 e) ∙ ap (λ b. b && rest v (cond (en .free) 0 e)) y) in
               let step : (e : ℕ) → stepIn f s h (rowFor (front v) en (internalB row)) (front v .at + readF (front v .depth) (drop (front v .at) f) .used) v t m e
               ≡ stepOfRow f s h row (en .partner) v t m e =
               λ e. ap (λ k. stepIn f s h (rowFor (front v) en (internalB row)) k v t m e) (sym (guards f v e 32 (l + 3) .ends y)) ∙ step-by-place (front v) e in
               λ i. seen (all-alike _ held (en .looks) 0 (λ e k. on e k ⇒ step e k) i) (not (internalB row) || all-alike _ off (en .looks) 0 (λ e. ap not (on e)) i)
           go false y =
               let none : (e : ℕ) → onIn row v (en .free) e ≡ false =
-              λ e. on-guarded v (h .implementation .parameters .count) (pick (en .free) 0 e) ∙ ap (λ b. b && rest v (pick (en .free) 0 e)) y in
+              λ e. on-guarded v (h .implementation .parameters .count) (cond (en .free) 0 e) ∙ ap (λ b. b && rest v (cond (en .free) 0 e)) y in
               sym
               (rw (
                 all-alike held (λ _. true) (en .looks) 0 (λ e. ap (λ b. b ⇒ stepOfRow f s h row (en .partner) v t m e) (none e)),
@@ -216,7 +216,7 @@ module _ (f s : List ℕ) (h : Shape) (v t : List ℕ) (l : ℕ) where
     abbrev enabledBack : ℕ → Bool
     enabledBack e = enabledB (partnerBy f s (h .implementation) (en .partner)) v e
 
-    guarded-reply : pick (front t .holds) (replyLooks f s (h .implementation) (rowFor (front t) en false) v t) true
+    guarded-reply : cond (front t .holds) (replyLooks f s (h .implementation) (rowFor (front t) en false) v t) true
         ≡ allIn (λ e. onIn back t (en .free) e ⇒ enabledBack e) (en .looks) 0
     unfolding replyLooks
     guarded-reply = go (front t .holds) refl
@@ -224,13 +224,13 @@ module _ (f s : List ℕ) (h : Shape) (v t : List ℕ) (l : ℕ) where
         held : ℕ → Bool
         held e = onIn back t (en .free) e ⇒ enabledBack e
 
-        on : (e : ℕ) → onIn back t (en .free) e ≡ front t .holds && rest t (pick (en .free) 0 e)
-        on e = on-guarded t (h .specification .parameters .count) (pick (en .free) 0 e)
+        on : (e : ℕ) → onIn back t (en .free) e ≡ front t .holds && rest t (cond (en .free) 0 e)
+        on e = on-guarded t (h .specification .parameters .count) (cond (en .free) 0 e)
 
-        go : (b : Bool) → front t .holds ≡ b → pick b (replyLooks f s (h .implementation) (rowFor (front t) en false) v t) true ≡ allIn held (en .looks) 0
-        go true y = all-alike _ held (en .looks) 0 (λ e. ap (λ b. b ⇒ enabledBack e) (sym (on e ∙ ap (λ b. b && rest t (pick (en .free) 0 e)) y)))
+        go : (b : Bool) → front t .holds ≡ b → cond b (replyLooks f s (h .implementation) (rowFor (front t) en false) v t) true ≡ allIn held (en .looks) 0
+        go true y = all-alike _ held (en .looks) 0 (λ e. ap (λ b. b ⇒ enabledBack e) (sym (on e ∙ ap (λ b. b && rest t (cond (en .free) 0 e)) y)))
         go false y =
-            sym (all-alike held (λ _. true) (en .looks) 0 (λ e. ap (λ b. b ⇒ enabledBack e) (on e ∙ ap (λ b. b && rest t (pick (en .free) 0 e)) y)) ∙ all-yes (λ _. true) (λ _. refl) (en .looks) 0)
+            sym (all-alike held (λ _. true) (en .looks) 0 (λ e. ap (λ b. b ⇒ enabledBack e) (on e ∙ ap (λ b. b && rest t (cond (en .free) 0 e)) y)) ∙ all-yes (λ _. true) (λ _. refl) (en .looks) 0)
 
 -- ---- the rows of a process
 
@@ -326,7 +326,7 @@ module _ (f s : List ℕ) (h : Shape) (fits : Fits h) (v : State) where
               ∙ states.rows-length f s (h .specification) (g .at) (g .row) (g .is-row) in
               rw (states.same-held (mapped d n) (nextState q y e) n2 (states.mapped-length f s h n) long-next (fits .specification .parameters))
 
-      step-held : stepOfRow f s h r j v t (measureAt d v) e ≡ invariantStateB d n && pick (internalB r) (sameB y (mapped d n) && ltb (measureAt d n) (measureAt d v)) answers
+      step-held : stepOfRow f s h r j v t (measureAt d v) e ≡ invariantStateB d n && cond (internalB r) (sameB y (mapped d n) && ltb (measureAt d n) (measureAt d v)) answers
       unfolding stepOfRow keptIn
       step-held =
           rw (
@@ -470,7 +470,7 @@ module _ (f s : List ℕ) (h : Shape) (fits : Fits h) (v : State) where
 
     replied-held : (e : ℕ) → (onIn w t (sumFreeF (w .condition)) e ⇒ enabledB (partnerBy f s (h .implementation) (rowOf (d .impl) (w .action))) v e) ≡ replies e
     replied-held e =
-        rw (partner-by f s (h .implementation) (w .action), formula-alike t y (states.same-values y short) (w .condition) (pick (sumFreeF (w .condition)) 0 e))
+        rw (partner-by f s (h .implementation) (w .action), formula-alike t y (states.same-values y short) (w .condition) (cond (sumFreeF (w .condition)) 0 e))
         (ap (λ b. b ⇒ enabledB other v e) (on-held w y e))
 
     replies-once : otherFree ≡ true → (e : ℕ) → replies e ≡ replies 0

@@ -1,6 +1,6 @@
 -- What the functions of the quick test return, as specs/Quick says it, and the turns of their loops.
 use mathlib.Core.Path.{_≡_, refl, sym, _∙_, ap}
-use mathlib.Core.Bool.{Bool, true, false, not, _&&_, _||_, or-true, and-true, and-assoc}
+use mathlib.Core.Bool.{Bool, true, false, not, _&&_, _||_, or-true, and-true, and-assoc, cond}
 use mathlib.Core.List.{List}
 use Prim.Native.Nat.{ℕ, zero, suc, _+_, _-_, _≤_, _<_}
 use native.Mathlib.Numerals.{add-one}
@@ -11,7 +11,7 @@ use lib.ListN.{getD, drop}
 use Rattle.foundation.specs.First.{allIn}
 use Rattle.foundation.specs.Reflects.{_⇒_}
 use Rattle.foundation.proofs.All.{all-begin, all-turn, all-fail, all-end, all-yes}
-use Rattle.terms.specs.Tree.{pick, evalV, evalF}
+use Rattle.terms.specs.Tree.{evalV, evalF}
 use Rattle.terms.specs.Read.{readV, readF}
 use Rattle.terms.proofs.Read.{place}
 use Rattle.terms.proofs.And.{and-left, and-right}
@@ -44,11 +44,11 @@ module _ (f : List ℕ) (row : Row) (v : List ℕ) (first : Held) (e : ℕ) wher
   not-kept r y er = er ∙ rw y
 
   -- it is the condition, evaluated for 0 where nothing reads the sum value
-  on-is : first ≡ answerF (row .at) v 0 (left f row) → knownIn f row v first e ≡ answerF (row .at) v (pick (row .free) 0 e) (left f row)
+  on-is : first ≡ answerF (row .at) v 0 (left f row) → knownIn f row v first e ≡ answerF (row .at) v (cond (row .free) 0 e) (left f row)
   unfolding knownIn
   on-is ef = go (row .free) e
     where
-      go : (b : Bool) (x : ℕ) → pick (b || eqb x 0) first (answerF (row .at) v x (left f row)) ≡ answerF (row .at) v (pick b 0 x) (left f row)
+      go : (b : Bool) (x : ℕ) → cond (b || eqb x 0) first (answerF (row .at) v x (left f row)) ≡ answerF (row .at) v (cond b 0 x) (left f row)
       go true x = ef
       go false zero = ef
       go false (suc x) = rw (eqb·suc-zero x)
@@ -104,7 +104,7 @@ module _ (f s y t : List ℕ) (p : Process) (j w e : ℕ) where
 module _ (f s v t x : List ℕ) (h : Shape) (row : Row) (at m e : ℕ) (i : Bool) (d : Valued) (ed : d ≡ answerV at v e (readV 32 (drop at f)))
     (ex : x ≡ padded (valuesAt f (d .next) (h .implementation .parameters .count) v e)) (ei : i ≡ insideIn f s h x) where
   abbrev rest : Bool
-  rest = pick (row .internal) (keptIn f s h x t m) (answeredIn f s (h .specification) (row .partner) (d .value) (mappedIn f s h x) t e)
+  rest = cond (row .internal) (keptIn f s h x t m) (answeredIn f s (h .specification) (row .partner) (d .value) (mappedIn f s h x) t e)
 
   step-so : insideIn f s h x && rest ≡ stepIn f s h row at v t m e
   unfolding stepIn
@@ -161,7 +161,7 @@ module _ (h q : ℕ → Bool) (u : Bool → Bool) (n : ℕ) where
 -- a condition that does not read the sum value, and does not hold for 0, never holds
 never : (f v : List ℕ) (row : Row) (first : Held) → row .free && not (first .holds) ≡ true → first ≡ answerF (row .at) v 0 (left f row) → (e : ℕ) → onAt f row v e ≡ false
 never f v row first y ef e =
-    ap (λ b. evalF (left f row .tree) v (pick b 0 e)) (and-left (row .free) (not (first .holds)) y)
+    ap (λ b. evalF (left f row .tree) v (cond b 0 e)) (and-left (row .free) (not (first .holds)) y)
     ∙ sym (ap (λ x. x .holds) ef) ∙ not-true (first .holds) (and-right (row .free) (not (first .holds)) y)
 
 module _ (f s v t : List ℕ) (h : Shape) (row : Row) (m : ℕ) where

@@ -1,13 +1,13 @@
 -- The quick test of a state as the code makes it, by any plan p: f the fields, s the starts of lines, h the shape; v the state, t its
 -- mapped state, m its measure. By the right plan it is that of decision/specs/Quick (proofs/Decided).
-use mathlib.Core.Bool.{Bool, true, false, not, _&&_, _||_}
+use mathlib.Core.Bool.{Bool, true, false, not, _&&_, _||_, cond}
 use mathlib.Core.List.{List}
 use Prim.Native.Nat.{ℕ, _+_}
 use lib.Dec.{eqb, ltb}
 use lib.ListN.{drop}
 use Rattle.foundation.specs.First.{allIn}
 use Rattle.foundation.specs.Reflects.{_⇒_}
-use Rattle.terms.specs.Tree.{Formula, pick, evalV, evalF}
+use Rattle.terms.specs.Tree.{Formula, evalV, evalF}
 use Rattle.terms.specs.Read.{Read, readV, readF}
 use Rattle.eval.specs.Answer.{answerF}
 use Rattle.eval.specs.declared.Held.{Held}
@@ -34,11 +34,11 @@ abbrev pub left : List ℕ → Row → Read Formula
 left f row = readF (row .depth) (drop (row .at) f)
 
 abbrev pub onAt : List ℕ → Row → List ℕ → ℕ → Bool
-onAt f row v e = evalF (left f row .tree) v (pick (row .free) 0 e)
+onAt f row v e = evalF (left f row .tree) v (cond (row .free) 0 e)
 
 -- the same where `first` is known for the sum value 0
 unfoldable pub knownIn : List ℕ → Row → List ℕ → Held → ℕ → Held
-knownIn f row v first e = pick (row .free || eqb e 0) first (answerF (row .at) v e (left f row))
+knownIn f row v first e = cond (row .free || eqb e 0) first (answerF (row .at) v e (left f row))
 
 -- ---- a step
 
@@ -54,7 +54,7 @@ answeredIn f s p j w y t e =
 
 -- a step to x with the data number w, of an internal row or of one whose partner is j
 abbrev pub stepTo : List ℕ → List ℕ → Shape → Bool → ℕ → List ℕ → ℕ → ℕ → List ℕ → ℕ → Bool
-stepTo f s h b j t m w x e = insideIn f s h x && pick b (keptIn f s h x t m) (answeredIn f s (h .specification) j w (mappedIn f s h x) t e)
+stepTo f s h b j t m w x e = insideIn f s h x && cond b (keptIn f s h x t m) (answeredIn f s (h .specification) j w (mappedIn f s h x) t e)
 
 -- of a row whose data stand at a place
 unfoldable pub stepIn : List ℕ → List ℕ → Shape → Row → ℕ → List ℕ → List ℕ → ℕ → ℕ → Bool
@@ -70,7 +70,7 @@ stepOfRow f s h r j v t m e = stepTo f s h (internalB r) j t m (dataNumber r v e
 
 -- of rows that do not all hold nothing more is said
 abbrev pub seen : Bool → Bool → Seen
-seen h q = pick h (record { holds = true; quiet = q }) (record { holds = false; quiet = false })
+seen h q = cond h (record { holds = true; quiet = q }) (record { holds = false; quiet = false })
 
 -- one look, and all
 unfoldable pub lookIn : List ℕ → List ℕ → Shape → Row → Held → List ℕ → List ℕ → ℕ → ℕ → Seen
@@ -87,7 +87,7 @@ looksIn f s h row v t m =
 unfoldable pub rowIn : List ℕ → List ℕ → Shape → ℕ → Entry → List ℕ → List ℕ → ℕ → Seen
 rowIn f s h k e v t m =
     let front = guardIn f v 0 (e .front) (lineOf s (h .implementation) k + 3) 32 in
-    pick (front .holds) (looksIn f s h (rowFor front e (internalB (rowBy f s (h .implementation) k))) v t m) (seen true true)
+    cond (front .holds) (looksIn f s h (rowFor front e (internalB (rowBy f s (h .implementation) k))) v t m) (seen true true)
 
 unfoldable pub implIn : List ℕ → List ℕ → Shape → List ℕ → List ℕ → List ℕ → ℕ → Seen
 implIn f s h p v t m =
@@ -105,7 +105,7 @@ replyLooks f s p row v t = allIn (λ e. onAt f row t e ⇒ enabledB (partnerBy f
 unfoldable pub replyIn : List ℕ → List ℕ → Shape → ℕ → Entry → List ℕ → List ℕ → Bool
 replyIn f s h k e v t =
     let front = guardIn f t 0 (e .front) (lineOf s (h .specification) k + 3) 32 in
-    pick (front .holds) (replyLooks f s (h .implementation) (rowFor front e false) v t) true
+    cond (front .holds) (replyLooks f s (h .implementation) (rowFor front e false) v t) true
 
 unfoldable pub specIn : List ℕ → List ℕ → Shape → List ℕ → List ℕ → List ℕ → Bool
 specIn f s h p v t = allIn (λ i. replyIn f s h (i + 1) (entryAt p (32 + i)) v t) (h .specification .rows .count) 0

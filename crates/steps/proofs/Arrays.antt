@@ -1,7 +1,7 @@
 -- What the functions of the code return, and the turns of their loops, as the definitions of specs/Arrays say it: what is left gives
 -- the whole. That these are the state, the steps and the tests of a design is in proofs/States.
 use mathlib.Core.Path.{_≡_, refl, sym, _∙_, ap}
-use mathlib.Core.Bool.{Bool, true, false}
+use mathlib.Core.Bool.{Bool, true, false, cond}
 use mathlib.Core.List.{List, [], _∷_}
 use Prim.Native.Nat.{ℕ, zero, suc, _+_, _-_, _≤_, _<_, _%_, _/_, min}
 use native.Mathlib.Numerals.{add-one}
@@ -12,7 +12,7 @@ use lib.Dec.{eqb}
 use lib.ListN.{length, getD, drop, set, replicate, List·getD-eq-default}
 use lib.Seq.{sets, set-comm, set-out}
 use Rattle.foundation.specs.Radix.{belowB, sameB, splitOf}
-use Rattle.terms.specs.Tree.{pick, evalV, evalF}
+use Rattle.terms.specs.Tree.{evalV, evalF}
 use Rattle.terms.specs.Read.{readV, readF}
 use Rattle.terms.proofs.Read.{place}
 use Rattle.criteria.specs.Design.{Row}
@@ -308,7 +308,7 @@ module _ (f s : List ℕ) (p : Process) (a : ℕ) where
   withLeft i = rowFrom (eachLine says (lineFrom f s) (many - i) (top + i)) a (i + 1)
 
   withs : (i x : ℕ) (line : ℕ) → i < many → line ≡ getD s (top + i) 0 → x ≡ getD (drop line f) 1 0
-      → withLeft i ≡ pick (eqb x a) (i + 1) (rowFrom (eachLine says (lineFrom f s) (many - (i + 1)) (top + (i + 1))) a (i + 1 + 1))
+      → withLeft i ≡ cond (eqb x a) (i + 1) (rowFrom (eachLine says (lineFrom f s) (many - (i + 1)) (top + (i + 1))) a (i + 1 + 1))
   unfolding withLeft rowFrom
   withs i x line l el ex = rw (each-on says (lineFrom f s) top many i l, ex, el, add-one (i + 1))
 

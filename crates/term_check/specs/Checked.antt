@@ -3,15 +3,15 @@
 -- line that ends early").
 --
 -- Well formed is okV, okF of the crate terms. Depth is the reading's: what is deeper than was asked for is read as no term.
-use mathlib.Core.Bool.{Bool}
+use mathlib.Core.Bool.{Bool, cond}
 use Prim.Native.Nat.{ℕ}
-use Rattle.terms.specs.Tree.{Value, Formula, okV, okF, pick}
+use Rattle.terms.specs.Tree.{Value, Formula, okV, okF}
 use Rattle.terms.specs.Read.{Read}
 use Rattle.term_check.specs.declared.Checked.{Checked}
 use Rattle.term_check.specs.declared.Checked.the-variants.{Next, Wrong}
 
 abbrev pub checked : Bool → ℕ → Checked
-checked ok used = pick ok (Next used) Wrong
+checked ok used = cond ok (Next used) Wrong
 
 abbrev pub checkedV : ℕ → Bool → Read Value → Checked
 checkedV n row r = checked (okV (r .tree) n row) (r .used)

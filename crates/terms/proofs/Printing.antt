@@ -6,7 +6,7 @@
 -- Each stands once for values (-v) and once for formulas (-f). The first two go by induction, on the tree and on the depth, with
 -- one law for "two terms follow" and one for "three"; the last two follow from them.
 use mathlib.Core.Path.{_≡_, refl, sym, ap, _∙_}
-use mathlib.Core.Bool.{Bool, true, false, false≢true}
+use mathlib.Core.Bool.{Bool, true, false, false≢true, cond}
 use mathlib.Core.List.{List, [], _∷_, _++_, append-assoc}
 use Prim.Native.Nat.{ℕ, zero, suc, _+_, _≤_}
 use native.Mathlib.Omega.{arith}
@@ -16,7 +16,7 @@ use lib.Dec.{eqb}
 use lib.ListN.{length, take, drop, length-append, length-drop, take-append-drop}
 use lib.Seq.{drop-append-seam, length-take-le, take-add}
 use Rattle.terms.specs.Tree as tree
-use Rattle.terms.specs.Tree.{Value, Formula, okV, okF, pick}
+use Rattle.terms.specs.Tree.{Value, Formula, okV, okF}
 use Rattle.terms.specs.Mark.{valueMark, formulaMark}
 use Rattle.terms.specs.Read.{Read, Reader, leaf, one, two, three, readV, readF, valueBy, formulaBy}
 use Rattle.terms.specs.Depth.{depthV, depthF}
@@ -77,9 +77,9 @@ numberF m (fm.Connective o) = joinMark o
 numberF m fm.Wrong = m
 
 -- what holds of x where m is k, and of y, holds of the one that the test picks
-by-test : {W : Type 0} (P : W → Type 0) (m k : ℕ) (x y : W) → (k ≡ m → P x) → P y → P (pick (eqb m k) x y)
+by-test : {W : Type 0} (P : W → Type 0) (m k : ℕ) (x y : W) → (k ≡ m → P x) → P y → P (cond (eqb m k) x y)
 by-test {W} P m k x y hx hy = go (eqb m k) refl where
-  go : (b : Bool) → eqb m k ≡ b → P (pick b x y)
+  go : (b : Bool) → eqb m k ≡ b → P (cond b x y)
   go true e = hx (sym (eqb-true m k e))
   go false e = hy
 

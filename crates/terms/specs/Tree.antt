@@ -2,7 +2,7 @@
 --
 -- A tree has the marks' meaning and not their numbers: those are in Mark, how fields are read as a tree is in Read, how a
 -- tree is written as fields in Print, and how deep one is in Depth.
-use mathlib.Core.Bool.{Bool, true, false, not, _&&_, _||_}
+use mathlib.Core.Bool.{Bool, true, false, not, _&&_, _||_, cond}
 use mathlib.Core.List.{List}
 use Prim.Native.Nat.{ℕ, _+_, _-_, _%_}
 use lib.ListN.{getD}
@@ -37,17 +37,12 @@ mutual
     join : Join → Formula → Formula → Formula
     noFormula : Formula
 
--- the first if the test holds, else the second
-abbrev pub pick : {A : Type 0} → Bool → A → A → A
-pick true a b = a
-pick false a b = b
-
 -- "`3 v v` sum and `4 v v` difference, both modulo 65,536; `5 v v` remainder, by zero the dividend itself".
 -- Numbers are below 65,536, so that 65,536 - y is never cut off (proofs/Eval).
 abbrev pub arithOf : Arith → ℕ → ℕ → ℕ
 arithOf Sum x y = (x + y) % 65536
 arithOf Difference x y = (x + (65536 - y)) % 65536
-arithOf Remainder x y = pick (eqb y 0) x (x % y)
+arithOf Remainder x y = cond (eqb y 0) x (x % y)
 
 -- "`12 v v` equal; `13 v v` less"
 abbrev pub compareOf : Compare → ℕ → ℕ → Bool
@@ -66,7 +61,7 @@ unfoldable mutual
   evalV (par i) ps s = getD ps i 0
   evalV sumValue ps s = s
   evalV (arith o a b) ps s = arithOf o (evalV a ps s) (evalV b ps s)
-  evalV (choice f a b) ps s = pick (evalF f ps s) (evalV a ps s) (evalV b ps s)
+  evalV (choice f a b) ps s = cond (evalF f ps s) (evalV a ps s) (evalV b ps s)
   evalV noValue ps s = 0
 
   pub evalF : Formula → List ℕ → ℕ → Bool

@@ -3,14 +3,13 @@
 -- end finds nothing exactly if the design meets all nine criteria.
 use mathlib.Core.Path.{_≡_, refl, sym, _∙_, ap}
 use mathlib.Core.Logic.{_↔_}
-use mathlib.Core.Bool.{Bool, true, false}
+use mathlib.Core.Bool.{Bool, true, false, cond}
 use mathlib.Core.List.{List}
 use Prim.Native.Nat.{ℕ, _+_, _≤_, min}
 use native.Mathlib.Omega.{arith}
 use borrow.Author.Tests.{le-leb}
 use Rattle.foundation.specs.First.{Outcome, pass, fail}
 use Rattle.foundation.specs.Walk.{walk}
-use Rattle.terms.specs.Tree.{pick}
 use Rattle.criteria.specs.Design.{Design, Admitted, states}
 use Rattle.criteria.specs.Criteria.{Meets}
 use Rattle.criteria.specs.Failure.{Failure, startFailure}
@@ -48,7 +47,7 @@ module _ (f s : List ℕ) (c : Counts) (fits : countsFit c ≡ true) where
       λ m. let v = accepts (holds1 d) (overStates d) (demand2 d a .accepts .1 m) in (start-tried ∙ v .0, all-walked ∙ v .1),
     )
       where
-        accepts : (b : Bool) (o : Outcome Failure) → byOutcome (pick b o (fail (startFailure d))) ≡ accepted → (b ≡ true) × (o ≡ pass)
+        accepts : (b : Bool) (o : Outcome Failure) → byOutcome (cond b o (fail (startFailure d))) ≡ accepted → (b ≡ true) × (o ≡ pass)
         accepts true pass h = (refl, refl)
         accepts true (fail x) h = (refl, cc)
         accepts false o h = (cc, cc)

@@ -1,12 +1,11 @@
 -- What was told is said again as it was, so the answer of a walk is what was found; and a walk examines no more states than it may.
 use Prim.Native.Nat.{ℕ, _≤_}
 use mathlib.Core.Path.{_≡_, refl, sym, ap, _∙_}
-use mathlib.Core.Bool.{Bool, true, false}
+use mathlib.Core.Bool.{Bool, true, false, cond}
 use mathlib.Core.List.{List}
 use native.Mathlib.Omega.{arith}
 use Rattle.foundation.specs.Walk.{Walked}
 use Rattle.foundation.proofs.Walk.{count-most}
-use Rattle.terms.specs.Tree.{pick}
 use Rattle.criteria.specs.Failure.{Failure}
 use Rattle.design.specs.declared.Counts.{Counts}
 use Rattle.walk.specs.Told.{told, toldWalked, noWalk, said, saidWalked}
@@ -32,6 +31,6 @@ pub count-within : (f s : List ℕ) (c : Counts) (p : List ℕ) (n from : ℕ) �
 unfolding walkedBy walkBy walkOn
 count-within f s c p n from = go (statesThere f s c n from)
   where
-    go : (b : Bool) → pick b (walkOn f s (shapeOf c) p n from) noWalk .count ≤ n
+    go : (b : Bool) → cond b (walkOn f s (shapeOf c) p n from) noWalk .count ≤ n
     go true = count-most (λ k. examineIn f s (shapeOf c) p k) n from
     go false = omega arith

@@ -1,7 +1,7 @@
 -- What the code returns, as specs/Examine and specs/Walk say it; the turns of the walk's loop; and that the examination of a number is
 -- that of the state with this number, so that the walk is the walk over the states of the design.
 use mathlib.Core.Path.{_≡_, refl, sym, _∙_, ap}
-use mathlib.Core.Bool.{Bool, true, false, not, _&&_}
+use mathlib.Core.Bool.{Bool, true, false, not, _&&_, cond}
 use mathlib.Core.List.{List}
 use Prim.Native.Nat.{ℕ, zero, suc, _+_, _-_, _≤_, _<_, min}
 use native.Mathlib.Omega.{arith}
@@ -12,7 +12,6 @@ use Rattle.foundation.specs.First.{Outcome, pass}
 use Rattle.foundation.specs.Walk as theWalk
 use Rattle.foundation.specs.Walk.{plus}
 use Rattle.foundation.proofs.Walk.{walk-goes, walk-stops}
-use Rattle.terms.specs.Tree.{pick}
 use Rattle.criteria.specs.Design.{Design, states, mapped, initialState}
 use Rattle.criteria.specs.Failure.{Failure}
 use Rattle.decision.specs.Tests.{invariantB, holds1}
@@ -143,7 +142,7 @@ module _ (f s : List ℕ) (h : Shape) (fits : Fits h) where
   examine-held k l =
       ap (examineAt f s h (planIn f s h) k) (held.state-held f s (h .implementation) (fits .implementation) k l)
       ∙ rw (held.invariant-held f s h x short, passes-held (padded x))
-      (ap (λ o. pick (invariantB d x) o pass) (go (stateHolds d (padded x)) refl ∙ ap (named k) (failing-alike (padded x) x (held.same-values x short) d)))
+      (ap (λ o. cond (invariantB d x) o pass) (go (stateHolds d (padded x)) refl ∙ ap (named k) (failing-alike (padded x) x (held.same-values x short) d)))
     where
       d : Design
       d = designAt f s h
@@ -155,7 +154,7 @@ module _ (f s : List ℕ) (h : Shape) (fits : Fits h) where
       short = rw (held.state-length f s (h .implementation) k) (fits .implementation .parameters)
 
       -- a state that passes the quick test has no failure
-      go : (b : Bool) → stateHolds d (padded x) ≡ b → pick b pass (named k (firstFailing d (padded x))) ≡ named k (firstFailing d (padded x))
+      go : (b : Bool) → stateHolds d (padded x) ≡ b → cond b pass (named k (firstFailing d (padded x))) ≡ named k (firstFailing d (padded x))
       go true y = rw (quick-passes d (padded x) y)
       go false y = refl
 
@@ -226,7 +225,7 @@ module _ (f s : List ℕ) (c : Counts) (m n from : ℕ) (most : m ≡ min (state
     unfolding walkBy walkOn theWalk.walk
     walked h l k eh er = walked-so f s c p n from r (er ∙ ap (λ q. walkOn f s q p n from) eh ∙ go (countsFit c) refl)
       where
-        go : (b : Bool) → countsFit c ≡ b → walkOn f s (shapeOf c) p n from ≡ pick (statesThere f s c n from) (walkOn f s (shapeOf c) p n from) noWalk
+        go : (b : Bool) → countsFit c ≡ b → walkOn f s (shapeOf c) p n from ≡ cond (statesThere f s c n from) (walkOn f s (shapeOf c) p n from) noWalk
         go false e =
             let z : m ≡ 0 = none-there e in
             let n0 : n ≡ 0 = omega arith in
@@ -250,12 +249,12 @@ module _ (f s : List ℕ) (c : Counts) (n from : ℕ) where
       h : Shape
       h = sections c
 
-      enough : Fits h → (b : Bool) → leb (from + n) (min (states d) 65536) ≡ b → pick b (walkOn f s h (planIn f s h) n from) noWalk ≡ pick b (theWalk.walk (examine d) n from) noWalk
+      enough : Fits h → (b : Bool) → leb (from + n) (min (states d) 65536) ≡ b → cond b (walkOn f s h (planIn f s h) n from) noWalk ≡ cond b (theWalk.walk (examine d) n from) noWalk
       enough fits false l = refl
       enough fits true l =
           let within : from + n ≤ min (states d) 65536 = leb-true (from + n) (min (states d) 65536) l in
           walk-alike (λ j. examineIn f s h (planIn f s h) j) (examine d) n from (λ j p u. examine-held f s h fits j (omega arith))
 
-      go : (b : Bool) → countsFit c ≡ b → pick (statesThere f s c n from) (walkOn f s (shapeOf c) (planIn f s (shapeOf c)) n from) noWalk ≡ walkIn f s c n from
+      go : (b : Bool) → countsFit c ≡ b → cond (statesThere f s c n from) (walkOn f s (shapeOf c) (planIn f s (shapeOf c)) n from) noWalk ≡ walkIn f s c n from
       go false e = rw e
       go true e = rw (sections-kept c e, e) (enough (fits-of c h (sym (sections-kept c e))) _ refl)

@@ -1,12 +1,11 @@
 -- What the public functions compute, for every arrays, counts and numbers: criterion 1 of the design in the arrays, and the walk over n
 -- of its states from a number on. Where the counts do not fit, or there are not so many states, nothing is walked. The walk goes by a
 -- plan; by the plan of the arrays it is the walk over the states of the design (`by-plan` in proofs/Walking).
-use mathlib.Core.Bool.{Bool, false, _&&_}
+use mathlib.Core.Bool.{Bool, false, _&&_, cond}
 use mathlib.Core.List.{List}
 use Prim.Native.Nat.{ℕ, _+_, min}
 use lib.Dec.{leb}
 use Rattle.foundation.specs.Walk.{Walked, walk}
-use Rattle.terms.specs.Tree.{pick}
 use Rattle.criteria.specs.Design.{states}
 use Rattle.criteria.specs.Failure.{Failure}
 use Rattle.decision.specs.Tests.{holds1}
@@ -23,21 +22,21 @@ use Rattle.walk.specs.declared.Walked.{Walked as WalkAnswer}
 
 -- criterion 1
 unfoldable pub startIn : List ℕ → List ℕ → Counts → Bool
-startIn f s c = pick (countsFit c) (holds1 (designIn f s c)) false
+startIn f s c = cond (countsFit c) (holds1 (designIn f s c)) false
 
 -- there are the states with the numbers from, .., from + n - 1, and their numbers fit 16 bits
 abbrev pub statesThere : List ℕ → List ℕ → Counts → ℕ → ℕ → Bool
 statesThere f s c n from = countsFit c && leb (from + n) (min (states (designIn f s c)) 65536)
 
 unfoldable pub walkIn : List ℕ → List ℕ → Counts → ℕ → ℕ → Walked Failure
-walkIn f s c n from = let w = walk (examine (designIn f s c)) n from in pick (statesThere f s c n from) w noWalk
+walkIn f s c n from = let w = walk (examine (designIn f s c)) n from in cond (statesThere f s c n from) w noWalk
 
 -- the plan of the arrays, and the walk by any plan
 unfoldable pub planOf : List ℕ → List ℕ → Counts → List ℕ
 planOf f s c = planIn f s (shapeOf c)
 
 unfoldable pub walkBy : List ℕ → List ℕ → Counts → List ℕ → ℕ → ℕ → Walked Failure
-walkBy f s c p n from = pick (statesThere f s c n from) (walkOn f s (shapeOf c) p n from) noWalk
+walkBy f s c p n from = cond (statesThere f s c n from) (walkOn f s (shapeOf c) p n from) noWalk
 
 unfoldable pub walkedBy : List ℕ → List ℕ → Counts → List ℕ → ℕ → ℕ → WalkAnswer
 walkedBy f s c p n from = saidWalked (walkBy f s c p n from)
