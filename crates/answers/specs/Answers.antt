@@ -6,8 +6,8 @@ use lib.Dec.{eqb}
 use Rattle.verdicts.specs.declared.Report.{Report}
 use Rattle.writer.specs.Report.{report}
 use Rattle.verdicts.specs.declared.Failure.{Failure}
-use Rattle.walk.specs.declared.Outcome.{Outcome}
-use Rattle.walk.specs.declared.Outcome.the-variants.{Pass, Fail}
+use Rattle.verdicts.specs.declared.Outcome.{Outcome}
+use Rattle.verdicts.specs.declared.Outcome.the-variants.{Pass, Fail}
 use Rattle.answers.specs.declared.Phase.{Phase}
 use Rattle.answers.specs.declared.Phase.the-variants as phase
 use Rattle.answers.specs.declared.Done.{Done}

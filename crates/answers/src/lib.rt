@@ -1,8 +1,8 @@
 // What a desk call answers, by the phase of its desk and by what a walk over states came to; the crate desk has the arrays. The paper's
 // numbers for each answer are in specs/Answers (01, "The desk", "Turned down by the input" 8, "Turned down by the state").
 use verdicts::Failure;
+use verdicts::Outcome;
 use verdicts::Report;
-use walk::Outcome;
 ghost use mathlib.Core.Path.{_≡_};
 ghost use Rattle.writer.specs.Report.{report};
 ghost use Rattle.answers.specs.Answers.{verdictNumbers, heldNumber, advanceNumber, dropNumber, toldBy, answerAfter, phaseAfter};

@@ -25,7 +25,7 @@ use Rattle.design.specs.Lines.{designText}
 use Rattle.layout.specs.Sizes.{initialNumberIn}
 use Rattle.loader.proofs.Passed.{admitted}
 use Rattle.walk.specs.Told.{said}
-use Rattle.walk.specs.declared.Outcome.the-variants.{Pass}
+use Rattle.verdicts.specs.declared.Outcome.the-variants.{Pass}
 use Rattle.answers.specs.declared.Phase.{Phase}
 use Rattle.answers.specs.declared.Phase.the-variants as phase
 use Rattle.answers.specs.declared.Advance.the-variants as advance

@@ -12,7 +12,7 @@ use Rattle.loader.specs.declared.Loaded.{Loaded}
 use Rattle.loader.specs.Load.{loadedOf}
 use Rattle.walk.specs.Walk.{startIn, planOf, walkedBy}
 use Rattle.verdicts.specs.declared.Failure.{Failure}
-use Rattle.walk.specs.declared.Walked.{Walked}
+use Rattle.verdicts.specs.declared.Walked.{Walked}
 use Rattle.desk.specs.Answers.{loadNumber, advanceCount}
 use Rattle.walk.proofs.Told.{count-within}
 use Rattle.desk.proofs.Numbers.{load-number, advance-count}

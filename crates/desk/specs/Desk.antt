@@ -16,8 +16,8 @@ use Rattle.loader.specs.declared.Loaded.{Loaded}
 use Rattle.loader.specs.Load.{loadedOf}
 use Rattle.walk.specs.Walk.{startIn, planOf, walkedBy}
 use Rattle.verdicts.specs.declared.Failure.{Failure}
-use Rattle.walk.specs.declared.Walked.{Walked}
-use Rattle.walk.specs.declared.Outcome.{Outcome}
+use Rattle.verdicts.specs.declared.Walked.{Walked}
+use Rattle.verdicts.specs.declared.Outcome.{Outcome}
 use Rattle.answers.specs.declared.Phase.{Phase}
 use Rattle.answers.specs.declared.Phase.the-variants as phase
 use Rattle.answers.specs.declared.Done.{Done}

@@ -8,7 +8,7 @@ use answers::Phase;
 use answers::Verdict;
 use design::Counts;
 use verdicts::Failure;
-use walk::Walked;
+use verdicts::Walked;
 ghost use mathlib.Core.Path.{_≡_};
 ghost use Prim.Native.Nat.{_+_, _<_};
 ghost use Rattle.loader.specs.Load.{loadedOf};

@@ -27,7 +27,7 @@ pub struct Loaded {
 pub fn load(text: &[u8]) -> Loaded
     ensures { λ r. ⌜ r ≡ loadedOf (now (text .entry)) ⌝ }
 {
-    let fault = reader::columns_fault(text);
+    let fault = text_check::columns_fault(text);
     if fault != 0 {
         return refused(fault);
     }

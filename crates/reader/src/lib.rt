@@ -1,13 +1,13 @@
-// From bytes to fields and lines: what six columns are a field, the fields of a line, and whether a text's columns are at fault.
+// From bytes to fields: what six columns are a field, and the fields of a line. The lines of a text are in specs/Text, and whether its
+// columns are at fault is looked for in the crate text_check.
 // Every field is read through a `LineReader`, which goes over a line field by field. `field_at` and `rest` have plain parameters: a
 // function that has a reader in its hands is proved step by step, and a caller of theirs is not. Every public function answers any
-// bytes. The definitions are in specs/Columns, specs/Line and specs/Text.
+// bytes. The definitions are in specs/Columns and specs/Line.
 ghost use mathlib.Core.Path.{_≡_};
 ghost use Prim.Native.Nat.{_+_, _*_, _≤_};
 ghost use lib.ListN.{length, take, drop};
 ghost use Rattle.reader.specs.Columns.{fieldOf};
 ghost use Rattle.reader.specs.Line.{fieldAt, fieldsOf, readerAt, nextOf, stepAt};
-ghost use Rattle.reader.specs.Text.{columnsFault, linesFault};
 ghost use Rattle.reader.specs.Scan.{blanksOf, digitsFrom};
 
 // What six columns are.
@@ -24,8 +24,6 @@ const BLANK: u8 = 32;
 const DIGIT_0: u8 = 48;
 
 const DIGIT_9: u8 = 57;
-
-const LINE_END: u8 = 10;
 
 // A read-only look at one line of the lent text, or at a part of one: its bytes, and the number of the field that is next.
 pub struct LineReader<'a> {
@@ -112,49 +110,6 @@ pub fn count(part: &[u8]) -> usize
         }
         reader = next.reader;
     }
-}
-
-// The lowest of the faults 1, 2 and 3 that a text has, or 0.
-pub fn columns_fault(text: &[u8]) -> u16
-    ensures { λ r. ⌜ r ≡ columnsFault (now (text .entry)) ⌝ }
-{
-    if limits::MAX_BYTES < text.len() {
-        return 1;
-    }
-    lines_fault(text)
-}
-
-// The lower of the faults 2 and 3 that a text has, or 0. A line is where fields stand one after the other up to a byte 10, so
-// that no search for the line's end is needed.
-fn lines_fault(text: &[u8]) -> u16
-    ensures { λ r. ⌜ r ≡ linesFault (now (text .entry)) ⌝ }
-{
-    let mut at = 0;
-    let mut total = 0;
-    let mut long = false;
-    while at < text.len() {
-        let n = count(&text[at..]);
-        let end = at + COLUMNS * n;
-        if n == 0 {
-            return 2;
-        }
-        if text.len() <= end {
-            return 2;
-        }
-        if text[end] != LINE_END {
-            return 2;
-        }
-        long = long | (limits::MAX_LINE_FIELDS < n);
-        total += n;
-        at = end + 1;
-    }
-    if long {
-        return 3;
-    }
-    if limits::MAX_FIELDS < total {
-        return 3;
-    }
-    0
 }
 
 // The field in the k-th six columns of a line, and the number of the field after it: k again if there is no field.

@@ -248,7 +248,7 @@ fn report(verdict: u16, number: u16, state: u16, row: u16, sum: u16) {
 
 fn write_fault(text: &[u8]) {
     io::write_all(1, b", fault ");
-    io::print_decimal(1, reader::columns_fault(text) as u64);
+    io::print_decimal(1, text_check::columns_fault(text) as u64);
 }
 
 // The fault of the text in the first n bytes.

@@ -1,4 +1,5 @@
-// The words of a verdict, for definitions and for code: a place of failure at a state, a failure, and the report's numbers.
+// The words of a verdict, for definitions and for code: a place of failure at a state, a failure, what a walk comes to, and the report's
+// numbers.
 
 // Criterion, row and sum value.
 pub struct Place {
@@ -13,6 +14,18 @@ pub struct Failure {
     pub state: u16,
     pub row: u16,
     pub sum: u16,
+}
+
+// What an examination comes to.
+pub enum Outcome {
+    Pass,
+    Fail(Failure),
+}
+
+// What came of a walk, and how many states were examined, the failing one included.
+pub struct Walked {
+    pub outcome: Outcome,
+    pub count: usize,
 }
 
 // The report's five numbers; those that are not used are 0.

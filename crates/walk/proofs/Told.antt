@@ -12,9 +12,9 @@ use Rattle.walk.specs.Told.{told, toldWalked, noWalk, said, saidWalked}
 use Rattle.layout.specs.Sizes.{shapeOf}
 use Rattle.walk.specs.Examine.{examineIn, walkOn}
 use Rattle.walk.specs.Walk.{statesThere, walkBy, walkedBy}
-use Rattle.walk.specs.declared.Outcome.{Outcome as Answer}
-use Rattle.walk.specs.declared.Outcome.the-variants.{Pass, Fail}
-use Rattle.walk.specs.declared.Walked.{Walked as WalkAnswer}
+use Rattle.verdicts.specs.declared.Outcome.{Outcome as Answer}
+use Rattle.verdicts.specs.declared.Outcome.the-variants.{Pass, Fail}
+use Rattle.verdicts.specs.declared.Walked.{Walked as WalkAnswer}
 
 said-back : (o : Answer) → said (told o) ≡ o
 said-back Pass = refl

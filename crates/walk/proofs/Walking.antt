@@ -37,9 +37,9 @@ use Rattle.walk.specs.Told.{told, toldWalked, noWalk, namedBy}
 use Rattle.walk.specs.Examine.{examineAt, examineIn, walkOn}
 use Rattle.walk.specs.Walk.{startIn, walkIn, statesThere, planOf, walkBy, walkedBy, startMeets}
 use Rattle.walk.proofs.Told.{walked-so}
-use Rattle.walk.specs.declared.Outcome.{Outcome as Answer}
-use Rattle.walk.specs.declared.Outcome.the-variants.{Pass, Fail}
-use Rattle.walk.specs.declared.Walked.{Walked as WalkAnswer}
+use Rattle.verdicts.specs.declared.Outcome.{Outcome as Answer}
+use Rattle.verdicts.specs.declared.Outcome.the-variants.{Pass, Fail}
+use Rattle.verdicts.specs.declared.Walked.{Walked as WalkAnswer}
 
 -- ---- one state
 

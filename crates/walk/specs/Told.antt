@@ -6,9 +6,9 @@ use Rattle.criteria.specs.Failure.{Failure}
 use Rattle.decision.specs.Examine.{named}
 use Rattle.lowest_failure.specs.Search.{toldPlace}
 use Rattle.lowest_failure.specs.declared.Finding.{Finding}
-use Rattle.walk.specs.declared.Outcome.{Outcome as Answer}
-use Rattle.walk.specs.declared.Outcome.the-variants.{Pass, Fail}
-use Rattle.walk.specs.declared.Walked.{Walked as WalkAnswer}
+use Rattle.verdicts.specs.declared.Outcome.{Outcome as Answer}
+use Rattle.verdicts.specs.declared.Outcome.the-variants.{Pass, Fail}
+use Rattle.verdicts.specs.declared.Walked.{Walked as WalkAnswer}
 
 abbrev pub told : Answer → Outcome Failure
 told Pass = pass

@@ -18,7 +18,7 @@ use Rattle.plan.specs.Plan.{planIn}
 use Rattle.steps.specs.Arrays.{initialIn, invariantIn, mappedIn, sameIn}
 use Rattle.walk.specs.Told.{noWalk, saidWalked}
 use Rattle.walk.specs.Examine.{walkOn}
-use Rattle.walk.specs.declared.Walked.{Walked as WalkAnswer}
+use Rattle.verdicts.specs.declared.Walked.{Walked as WalkAnswer}
 
 -- criterion 1
 unfoldable pub startIn : List ℕ → List ℕ → Counts → Bool

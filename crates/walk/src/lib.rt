@@ -5,23 +5,14 @@ use design::Counts;
 use design::Shape;
 use lowest_failure::Finding;
 use verdicts::Failure;
+use verdicts::Outcome;
+use verdicts::Walked;
 ghost use mathlib.Core.Path.{_≡_};
 ghost use Prim.Native.Nat.{_+_, _≤_, min};
 ghost use Rattle.layout.specs.Sizes.{Fits, stateCountIn};
 ghost use Rattle.walk.specs.Told.{told, toldWalked, noWalk, namedBy};
 ghost use Rattle.walk.specs.Walk.{startMeets, startIn, planOf, walkedBy};
 ghost use Rattle.walk.specs.Examine.{examineIn, walkOn};
-
-pub enum Outcome {
-    Pass,
-    Fail(Failure),
-}
-
-// What came of a walk, and how many states were examined, the failing one included.
-pub struct Walked {
-    pub outcome: Outcome,
-    pub count: usize,
-}
 
 // The entries of a plan.
 pub const ENTRIES: usize = plan::ENTRIES;

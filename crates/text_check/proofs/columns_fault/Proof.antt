@@ -1,9 +1,9 @@
--- `reader::columns_fault` finds the lowest of the faults 1, 2 and 3.
+-- `text_check::columns_fault` finds the lowest of the faults 1, 2 and 3.
 use borrow.Author.Needs.{needs}
 use borrow.Author.Tests.{lt-ltb, le-ltb}
 use Rattle.reader.specs.Text.{columnsFault}
-use Rattle.reader.proofs.columns_fault.Statement.{statement}
-use Rattle.reader.proofs.columns_fault.Tie as tie
+use Rattle.text_check.proofs.columns_fault.Statement.{statement}
+use Rattle.text_check.proofs.columns_fault.Tie as tie
 
 pub columns-fault-spec : {M : Type 1} → statement M
 unfolding columnsFault

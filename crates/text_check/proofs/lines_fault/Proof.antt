@@ -1,14 +1,14 @@
--- `reader::lines_fault` finds the lower of the faults 2 and 3: at each line's start the fault of what is left, with what was found so
+-- `text_check::lines_fault` finds the lower of the faults 2 and 3: at each line's start the fault of what is left, with what was found so
 -- far, is that of the whole text.
 use Prim.Native.Nat.{_-_, _*_, _≤_}
 use mathlib.Core.Path.{_≡_}
 use native.Mathlib.Omega.{arith}
 use borrow.Author.Needs.{needs}
 use lib.ListN.{length, drop}
 use Rattle.reader.specs.Text.{linesFault}
 use Rattle.reader.proofs.Turns as turns
-use Rattle.reader.proofs.lines_fault.Statement.{statement}
-use Rattle.reader.proofs.lines_fault.Tie as tie
+use Rattle.text_check.proofs.lines_fault.Statement.{statement}
+use Rattle.text_check.proofs.lines_fault.Tie as tie
 
 abbrev Inv-loop : tie.InvT-loop
 Inv-loop text at₀ total₀ long₀ at total long =
