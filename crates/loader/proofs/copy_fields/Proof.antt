@@ -3,7 +3,6 @@
 -- is stored, and the reader moved on takes the reader's place. The array is lent to `store` for a lifetime of the call, and comes back.
 -- The invariant (`Upto`) is that the fields passed and those ahead are all of them, and that storing those ahead gives the whole.
 use mathlib.Core.Path.{_≡_, refl, sym, ap, _∙_, subst}
-use mathlib.Core.Bool.{cond}
 use Prim.Native.Nat.{ℕ, _+_, _-_, _*_, _<_, _≤_, _^_}
 use mathlib.Core.List.{List, [], _∷_}
 use mathlib.Core.WellFounded.{WellFounded, InvImage·wf}
@@ -24,7 +23,7 @@ use prog.Wp.{Heap, Out, Env, afterSeq, afterBlock, afterTurn, Calls, Loops, Wp, 
 use ghost.Atoms.{Atoms, sem}
 use contract.Monad.{Fun, fact, fact-use}
 use contract.Running.{givenOf, tables, tablesOf}
-use types.Kit.{Given, Item, ‵, raw, _⊛_, ⋆, some, later, runs, anyQ, Sq, _$_, _∵_, !, qed, by, move, drop as let-go, use1, use2, use3, split, join, cond, rewrite, fsplit, fjoin, feqL, suffices, frame, await, done}
+use types.Kit.{Given, Item, ‵, raw, _⊛_, ⋆, some, later, runs, anyQ, Sq, _$_, _∵_, !, qed, by, move, drop as let-go, use1, use2, use3, split, join, pick, rewrite, fsplit, fjoin, feqL, suffices, frame, await, done}
 use types.Part.{whole, sub, look-in}
 use types.Run.{look, store as store-to, init, forget, stop, hop, fld, from, load, of-opd, bin, addr, and-then, no-more, assigns, assigns-last, first, skips, blocks, branches, land, returns-within, enter, alloc1, alloc0, params1, pass1, pass0, free1, free0, exec, Below, again, loops}
 use types.Tokens.{lft-new, lft-end}
@@ -264,7 +263,7 @@ module _ {M : Type 1} (𝓤 : URA M) (H : Heap 𝓤) (A : Atoms 𝓤) (W : Given
           use1 W (‵ (OwnReader κ r) ⊛ ‵ (OwnBytes κ s)) (made.reader-had 𝓤 H A W κ s k (fits i)) $ split ! $ move ! (0 ∷ 2 ∷ []) $
           use2 W (raw (Next 𝓤 H A mem run .pre (made.to-next 𝓤 H A W mem run κ q r (T′.lowered r)))) (made.goes-next 𝓤 H A W mem run κ q r (T′.lowered r)) $
           calls-at ! fm (Next 𝓤 H A mem run) known-next (made.to-next 𝓤 H A W mem run κ q r (T′.lowered r)) (and-then ! (load ! (from ! (stop !)) (look ! 20 refl)) (no-more !)) (λ u.
-          use1 W (later (some (λ (y : Answer). ((‵ (flft κ q) ⊛ ‵ ftrue) ⊛ ‵ (NextRow (κ, tt) .own y (u ∷ []))) ⊛ raw (ensured 𝓤 H A next.ended (next.clauses 𝓤 H A mem run) (κ, tt) (r, tt) tt y)))) (id⊢ 𝓤 _) $ await ! tt $ cond ! (λ y.
+          use1 W (later (some (λ (y : Answer). ((‵ (flft κ q) ⊛ ‵ ftrue) ⊛ ‵ (NextRow (κ, tt) .own y (u ∷ []))) ⊛ raw (ensured 𝓤 H A next.ended (next.clauses 𝓤 H A mem run) (κ, tt) (r, tt) tt y)))) (id⊢ 𝓤 _) $ await ! tt $ pick ! (λ y.
           split ! $ move ! (1 ∷ []) $ use1 W (raw (fact 𝓤 (y ≡ t))) (made.next-said 𝓤 H A W mem run κ q r y) $ heard ! (y ≡ t) (λ e. split ! $ move ! (1 ∷ []) $
           rewrite ! 0 (λ (z : Answer). ‵ (NextRow (κ, tt) .own z (u ∷ []))) e refl $
           -- [the answer; the token; what the part owns; the array; its token; room for _14; …; room for _5; …; _4; …; _3; …; _2; …; _1; …; room for _0; …]
@@ -293,10 +292,10 @@ module _ {M : Type 1} (𝓤 : URA M) (H : Heap 𝓤) (A : Atoms 𝓤) (W : Given
           assigns ! (of-opd ! (load ! (from ! (fld ! refl (stop !))) (look-in ! 23 (sub ! 0 refl (whole !))))) (from ! (stop !)) (init ! 5 refl (EL.lawful F.the-type F′.the-laws 𝓤 H A W tt .typed (t .field) _ (LL.owed (NextDecl (κ, tt)) (NextLaws (κ, tt)) t _ is .0) .0)) $
           -- the array is lent again for a lifetime ν of the call
           lft-new ! tt (λ ν. move ! (3 ∷ 4 ∷ []) $
-          use2 W (later (some (λ (δ : GName). ‵ (OwnArray (ν ∷ []) δ into) ⊛ ‵ (LentAgain Numbers κ′ (ν ∷ []) q′ γ b o δ into)))) (lends-again 𝓤 H A W Numbers (named 1) κ′ (ν ∷ []) q′ γ b o (named 1) into) $ await ! tt $ cond ! (λ δ. split ! $
+          use2 W (later (some (λ (δ : GName). ‵ (OwnArray (ν ∷ []) δ into) ⊛ ‵ (LentAgain Numbers κ′ (ν ∷ []) q′ γ b o δ into)))) (lends-again 𝓤 H A W Numbers (named 1) κ′ (ν ∷ []) q′ γ b o (named 1) into) $ await ! tt $ pick ! (λ δ. split ! $
           move ! (2 ∷ 0 ∷ 5 ∷ []) $ use3 W (raw (Store 𝓤 H A mem run .pre (to-store ν δ into (to + k) (t .field)))) (goes-store ν δ into (to + k) (t .field) room) $
           calls-at ! fm (Store 𝓤 H A mem run) known-store (to-store ν δ into (to + k) (t .field)) (and-then ! (load ! (from ! (stop !)) (look ! 10 refl)) (and-then ! (load ! (from ! (stop !)) (look ! 6 refl)) (and-then ! (load ! (from ! (stop !)) (look ! 4 refl)) (no-more !)))) (λ w.
-          use1 W (later (some (λ (z : Unit {0}). ((‵ (flft (ν ∷ []) fullShare) ⊛ ‵ ftrue) ⊛ ‵ (Nothing .own z (w ∷ []))) ⊛ raw (ensured 𝓤 H A store.ended (store.clauses 𝓤 H A mem run) (ν ∷ [], tt) (at δ into, (to + k, (t .field, tt))) tt z)))) (id⊢ 𝓤 _) $ await ! tt $ cond ! (λ z.
+          use1 W (later (some (λ (z : Unit {0}). ((‵ (flft (ν ∷ []) fullShare) ⊛ ‵ ftrue) ⊛ ‵ (Nothing .own z (w ∷ []))) ⊛ raw (ensured 𝓤 H A store.ended (store.clauses 𝓤 H A mem run) (ν ∷ [], tt) (at δ into, (to + k, (t .field, tt))) tt z)))) (id⊢ 𝓤 _) $ await ! tt $ pick ! (λ z.
           split ! $ move ! (1 ∷ []) $ use1 W (‵ (fres δ (Numbers .coded .code (stored into (to + k) (t .field))))) (store-said ν δ into (to + k) (t .field) z) $ move ! (1 ∷ []) $ split ! $ move ! (1 ∷ []) $ feqL ! (λ ew. split ! $
           land ! (from ! (stop !)) (init ! 14 refl (subst (λ (v : Val). Holds (hasTy tyUnit v) × WT v) (sym (ap only ew)) (tt, tt))) $
           -- the lifetime is ended, and the array comes back at the list with the field
@@ -316,7 +315,7 @@ module _ {M : Type 1} (𝓤 : URA M) (H : Heap 𝓤) (A : Atoms 𝓤) (W : Given
         nothing ! $ move ! (4 ∷ 0 ∷ []) $ fjoin ! $ move ! (1 ∷ 0 ∷ []) $
         use2 W (raw (New 𝓤 H A mem run .pre (made.to-new 𝓤 H A W mem run κ q s)) ⊛ ‵ (OwnBytes κ s)) (made.goes-new 𝓤 H A W mem run κ q s ftrue) $ split ! $
         calls-at ! fm (New 𝓤 H A mem run) known-new (made.to-new 𝓤 H A W mem run κ q s) (and-then ! (load ! (from ! (stop !)) (look ! 30 refl)) (no-more !)) (λ u.
-        use1 W (later (some (λ (r : LineReader). ((‵ (flft κ q) ⊛ ‵ ftrue) ⊛ ‵ (Reader (κ, tt) .own r (u ∷ []))) ⊛ raw (ensured 𝓤 H A new.ended (new.clauses 𝓤 H A mem run) (κ, tt) (s, tt) tt r)))) (id⊢ 𝓤 _) $ await ! tt $ cond ! (λ r.
+        use1 W (later (some (λ (r : LineReader). ((‵ (flft κ q) ⊛ ‵ ftrue) ⊛ ‵ (Reader (κ, tt) .own r (u ∷ []))) ⊛ raw (ensured 𝓤 H A new.ended (new.clauses 𝓤 H A mem run) (κ, tt) (s, tt) tt r)))) (id⊢ 𝓤 _) $ await ! tt $ pick ! (λ r.
         split ! $ move ! (1 ∷ []) $ use1 W (raw (fact 𝓤 (r ≡ readerAt s 0))) (made.new-said 𝓤 H A W mem run κ q s r) $ heard ! (r ≡ readerAt s 0) (λ e. split ! $ move ! (1 ∷ []) $
         -- [what the reader owns; the token; what the part owns; the array's token; the array; room for _14; …]
         peeks ! (Reader (κ, tt)) (Is (Reader (κ, tt))) (shows 𝓤 H A (Reader (κ, tt))) r (u ∷ []) (λ is.

@@ -4,7 +4,6 @@
 -- the part. What a reader owns is made anew each turn of what the part owns (`Made.reader-had`). Of `new` and `next` the proof knows their
 -- contracts alone; the calls are in proofs/Made.
 use mathlib.Core.Path.{_≡_, refl, ap, _∙_}
-use mathlib.Core.Bool.{cond}
 use Prim.Native.Nat.{ℕ, _+_, _-_, _*_, _<_, _^_}
 use mathlib.Core.List.{List, [], _∷_}
 use mathlib.Core.WellFounded.{WellFounded, InvImage·wf}
@@ -24,7 +23,7 @@ use prog.Wp.{Heap, Out, Env, afterSeq, afterBlock, afterTurn, Calls, Loops, Wp, 
 use ghost.Atoms.{Atoms}
 use contract.Monad.{Fun, fact}
 use contract.Running.{givenOf, tables, tablesOf}
-use types.Kit.{Given, Item, ‵, raw, _⊛_, ⋆, some, later, runs, anyQ, Sq, _$_, _∵_, !, qed, by, move, drop as let-go, use1, use2, split, cond, rewrite, fjoin, suffices, frame, await, done}
+use types.Kit.{Given, Item, ‵, raw, _⊛_, ⋆, some, later, runs, anyQ, Sq, _$_, _∵_, !, qed, by, move, drop as let-go, use1, use2, split, pick, rewrite, fjoin, suffices, frame, await, done}
 use types.Part.{whole, sub, look-in}
 use types.Run.{look, store, init, forget, stop, fld, from, load, of-opd, bin, and-then, no-more, assigns, assigns-last, first, skips, blocks, branches, land, returns-within, enter, alloc1, alloc0, params1, pass1, pass0, free1, free0, exec, Below, again, loops}
 use sound.WpLaws.{FmC, fmOf, WpFn-mono}
@@ -165,7 +164,7 @@ module _ {M : Type 1} (𝓤 : URA M) (H : Heap 𝓤) (A : Atoms 𝓤) (W : Given
           use1 W (‵ (OwnReader κ r) ⊛ ‵ (OwnBytes κ s)) (made.reader-had 𝓤 H A W κ s k (fits i)) $ split ! $ move ! (0 ∷ 2 ∷ []) $
           use2 W (raw (Next 𝓤 H A mem run .pre (made.to-next 𝓤 H A W mem run κ q r (T′.lowered r)))) (made.goes-next 𝓤 H A W mem run κ q r (T′.lowered r)) $
           calls-at ! fm (Next 𝓤 H A mem run) known-next (made.to-next 𝓤 H A W mem run κ q r (T′.lowered r)) (and-then ! (load ! (from ! (stop !)) (look ! 8 refl)) (no-more !)) (λ u.
-          use1 W (later (some (λ (t : Answer). ((‵ (flft κ q) ⊛ ‵ ftrue) ⊛ ‵ (NextRow (κ, tt) .own t (u ∷ []))) ⊛ raw (ensured 𝓤 H A next.ended (next.clauses 𝓤 H A mem run) (κ, tt) (r, tt) tt t)))) (id⊢ 𝓤 _) $ await ! tt $ cond ! (λ t.
+          use1 W (later (some (λ (t : Answer). ((‵ (flft κ q) ⊛ ‵ ftrue) ⊛ ‵ (NextRow (κ, tt) .own t (u ∷ []))) ⊛ raw (ensured 𝓤 H A next.ended (next.clauses 𝓤 H A mem run) (κ, tt) (r, tt) tt t)))) (id⊢ 𝓤 _) $ await ! tt $ pick ! (λ t.
           split ! $ move ! (1 ∷ []) $ use1 W (raw (fact 𝓤 (t ≡ nextOf r))) (made.next-said 𝓤 H A W mem run κ q r t) $ heard ! (t ≡ nextOf r) (λ e. split ! $ move ! (1 ∷ []) $
           -- [the answer; the token; what the part owns; room for _7; …; room for _6; …; room for _5; …; _4; …; room for _3; …; _2; …; _1; …; room for _0; …]
           peeks ! (NextRow (κ, tt)) (Is (NextRow (κ, tt))) (shows 𝓤 H A (NextRow (κ, tt))) t (u ∷ []) (λ is.
@@ -194,7 +193,7 @@ module _ {M : Type 1} (𝓤 : URA M) (H : Heap 𝓤) (A : Atoms 𝓤) (W : Given
         alloc1 ! (λ l₀. alloc1 ! (λ l₁. alloc1 ! (λ l₂. alloc1 ! (λ l₃. alloc1 ! (λ l₄. alloc1 ! (λ l₅. alloc1 ! (λ l₆. alloc1 ! (λ l₇. alloc0 ! $ params1 ! $ pass1 ! (init ! 12 refl typed) $ pass0 ! $
         move ! (16 ∷ []) $ use1 W (raw (New 𝓤 H A mem run .pre (made.to-new 𝓤 H A W mem run κ q s)) ⊛ ‵ (OwnBytes κ s)) (made.goes-new 𝓤 H A W mem run κ q s ftrue) $ split ! $
         calls-at ! fm (New 𝓤 H A mem run) known-new (made.to-new 𝓤 H A W mem run κ q s) (and-then ! (load ! (from ! (stop !)) (look ! 14 refl)) (no-more !)) (λ u.
-        use1 W (later (some (λ (r : LineReader). ((‵ (flft κ q) ⊛ ‵ ftrue) ⊛ ‵ (Reader (κ, tt) .own r (u ∷ []))) ⊛ raw (ensured 𝓤 H A new.ended (new.clauses 𝓤 H A mem run) (κ, tt) (s, tt) tt r)))) (id⊢ 𝓤 _) $ await ! tt $ cond ! (λ r.
+        use1 W (later (some (λ (r : LineReader). ((‵ (flft κ q) ⊛ ‵ ftrue) ⊛ ‵ (Reader (κ, tt) .own r (u ∷ []))) ⊛ raw (ensured 𝓤 H A new.ended (new.clauses 𝓤 H A mem run) (κ, tt) (s, tt) tt r)))) (id⊢ 𝓤 _) $ await ! tt $ pick ! (λ r.
         split ! $ move ! (1 ∷ []) $ use1 W (raw (fact 𝓤 (r ≡ readerAt s 0))) (made.new-said 𝓤 H A W mem run κ q s r) $ heard ! (r ≡ readerAt s 0) (λ e. split ! $ move ! (1 ∷ []) $
         -- [what the reader owns; the token; what the part owns; room for _7; …; room for _2; …; _1; …; room for _0; …]
         peeks ! (Reader (κ, tt)) (Is (Reader (κ, tt))) (shows 𝓤 H A (Reader (κ, tt))) r (u ∷ []) (λ is.

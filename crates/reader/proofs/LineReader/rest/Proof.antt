@@ -1,7 +1,6 @@
 -- `LineReader::rest` meets its contract: its MIR is gone through by hand. The reader is taken apart (proofs/Look), and `part_from` called on
 -- its bytes and its number. Of `part_from` the proof knows its contract alone; the part that it returns is returned as it is.
 use mathlib.Core.Path.{_≡_, refl}
-use mathlib.Core.Bool.{cond}
 use Prim.Native.Nat.{ℕ, _*_}
 use mathlib.Core.List.{List, [], _∷_}
 use lib.ListN.{drop}
@@ -17,7 +16,7 @@ use prog.Wp.{Heap, Calls, Loops, WpFn, Tables}
 use ghost.Atoms.{Atoms, sem}
 use contract.Monad.{Fun, fact}
 use contract.Running.{givenOf, tables, tablesOf}
-use types.Kit.{Given, ‵, raw, _⊛_, ⋆, some, later, _$_, _∵_, !, qed, by, move, use1, split, join, cond, fjoin, suffices, frame, await, done}
+use types.Kit.{Given, ‵, raw, _⊛_, ⋆, some, later, _$_, _∵_, !, qed, by, move, use1, split, join, pick, fjoin, suffices, frame, await, done}
 use types.Part.{whole, sub, look-in}
 use types.Run.{look, init, forget, stop, fld, from, load, of-opd, and-then, no-more, assigns, land, returns, enter, alloc1, alloc0, params1, pass1, pass0, free1, free0}
 use sound.WpLaws.{FmC, fmOf, WpFn-mono}
@@ -91,7 +90,7 @@ module _ {M : Type 1} (𝓤 : URA M) (H : Heap 𝓤) (A : Atoms 𝓤) (W : Given
         assigns ! (of-opd ! (load ! (from ! (fld ! refl (stop !))) (look-in ! 4 (sub ! 1 refl (whole !))))) (from ! (stop !)) (init ! 0 refl (tt, wt .1 .1 .0)) $
         move ! (8 ∷ []) $ use1 W (raw (PartFrom 𝓤 H A mem run .pre to) ⊛ ‵ (OwnReader κ d)) (apart 𝓤 H A W κ q d (wt .1 .1 .0 .fits) asked) $ split ! $
         calls-at ! fm (PartFrom 𝓤 H A mem run) known to (and-then ! (load ! (from ! (stop !)) (look ! 4 refl)) (and-then ! (load ! (from ! (stop !)) (look ! 2 refl)) (no-more !))) (λ u.
-        use1 W (later (some (λ (r : RefT (List ℕ)). ((‵ (flft κ q) ⊛ ‵ ftrue) ⊛ ‵ (Bytes κ .own r (u ∷ []))) ⊛ raw (ensured 𝓤 H A part-from.ended (part-from.clauses 𝓤 H A mem run) (κ, tt) (d .line, (d .at, tt)) tt r)))) (id⊢ 𝓤 _) $ await ! tt $ cond ! (λ r.
+        use1 W (later (some (λ (r : RefT (List ℕ)). ((‵ (flft κ q) ⊛ ‵ ftrue) ⊛ ‵ (Bytes κ .own r (u ∷ []))) ⊛ raw (ensured 𝓤 H A part-from.ended (part-from.clauses 𝓤 H A mem run) (κ, tt) (d .line, (d .at, tt)) tt r)))) (id⊢ 𝓤 _) $ await ! tt $ pick ! (λ r.
         split ! $ move ! (1 ∷ []) $ use1 W (raw (fact 𝓤 (now r ≡ left))) (said r) $ heard ! (now r ≡ left) (λ e. split ! $ move ! (1 ∷ []) $
         -- [the part; the token; what the reader owns; _3; …; _2; …; _1; …; room for _0; …]
         peeks ! (Bytes κ) (Is (Bytes κ)) (shows 𝓤 H A (Bytes κ)) r (u ∷ []) (λ is.
