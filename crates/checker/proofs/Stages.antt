@@ -35,7 +35,7 @@ use Rattle.answers.specs.Answers.{countSaid, Decided, answerAfter, phaseAfter}
 use Rattle.answers.specs.Answers as answers
 use Rattle.checker.specs.Count.{stopOf, decidedBy, dueOf, Due}
 use Rattle.checker.proofs.Examined.{examined}
-use Rattle.desk.specs.Desk.{placed, ahead, failStart, afterWalk, walkOn, examineNext, examineOpen, advanceOpen, advanceBy, advanceOf}
+use Rattle.desk.specs.Desk.{placed, ahead, failStart, afterWalk, walkedOn, examineNext, examineOpen, advanceOpen, advanceBy, advanceOf}
 use Rattle.checker.proofs.Opened.{Ready, start-is, total-is, initial-is, walk-is}
 
 pub data Stage (text : List ℕ) (desk : Desk) : Type 0 where
@@ -121,7 +121,7 @@ pub stop-failed : (d : Design) (x : Failure) → x .criterion ≢ 1 → stopOf d
 stop-failed d x o = rw (ne-eqb (x .criterion) 1 o)
 
 -- what an advance came to
-pub record Advances (text : List ℕ) (desk : Desk) (n : ℕ) (r : AfterAdvance) : Type 0 where
+pub record AdvanceDue (text : List ℕ) (desk : Desk) (n : ℕ) (r : AfterAdvance) : Type 0 where
   pub stage : Stage text (r .desk)
   -- "accepted" is answered only for an accepted design
   pub accepted-is : (k : ℕ) → r .answer ≡ advance.Accepted k → verdictOf (designText text) ≡ accepted
@@ -149,7 +149,7 @@ module _ (text : List ℕ) (desk : Desk) (h : Ready text desk) where
   ahead-of n = min n (states d - m)
 
   -- the start failed
-  start-stage : (n : ℕ) → m ≡ 0 → holds1 d ≡ false → Advances text desk n (failStart desk)
+  start-stage : (n : ℕ) → m ≡ 0 → holds1 d ≡ false → AdvanceDue text desk n (failStart desk)
   unfolding failStart
   start-stage n z e =
       let f : Phase = phase.Failed (record { criterion = 1; state = initialNumberIn (desk .fields) (desk .starts) (desk .counts); row = 0; sum = 0 }) in
@@ -196,7 +196,7 @@ module _ (text : List ℕ) (desk : Desk) (h : Ready text desk) where
             omega arith
 
     walked-by : (o : Outcome Failure) → walk (examine d) (ahead-of n) m .outcome ≡ o
-        → Advances text desk n (afterWalk (said o) desk (walk (examine d) (ahead-of n) m .count) (m + walk (examine d) (ahead-of n) m .count) (states d))
+        → AdvanceDue text desk n (afterWalk (said o) desk (walk (examine d) (ahead-of n) m .count) (m + walk (examine d) (ahead-of n) m .count) (states d))
     walked-by (fail x) e =
         record {
           stage = fails x (moved _ _ h) refl (ends-badly d m (ahead-of n) x p (omega arith) e);
@@ -214,7 +214,7 @@ module _ (text : List ℕ) (desk : Desk) (h : Ready text desk) where
         rw count (passed (leb (states d) (m + ahead-of n)) refl (goes-on d m (ahead-of n) p e) (rw count at sum))
       where
         passed : (done : Bool) → leb (states d) (m + ahead-of n) ≡ done → Progress d (m + ahead-of n) → examined d m + ahead-of n ≡ examined d (m + n)
-            → Advances text desk n (record { answer = answerAfter Pass done (ahead-of n); desk = placed desk (m + ahead-of n) (phaseAfter Pass done) })
+            → AdvanceDue text desk n (record { answer = answerAfter Pass done (ahead-of n); desk = placed desk (m + ahead-of n) (phaseAfter Pass done) })
         passed true l q sum =
             let g = leb-true (states d) (m + ahead-of n) l in
             let all : m + ahead-of n ≡ states d = omega arith in
@@ -242,8 +242,8 @@ module _ (text : List ℕ) (desk : Desk) (h : Ready text desk) where
               due = goes-due (omega arith) (omega arith) q;
             }
 
-    examines : Advances text desk n (examineNext desk n)
-    unfolding examineNext walkOn ahead
+    examines : AdvanceDue text desk n (examineNext desk n)
+    unfolding examineNext walkedOn ahead
     examines =
         rw (total-is text desk h, walk-is text desk h (ahead-of n) m (omega arith)) (walked-by (walk (examine d) (ahead-of n) m .outcome) refl)
 
@@ -256,7 +256,7 @@ some-states text desk h =
     omega arith
 
 module _ (text : List ℕ) (desk : Desk) (n : ℕ) (some : n ≢ 0) where
-  from-start : (b : Bool) → holds1 (designText text) ≡ b → Ready text desk → desk .next ≡ 0 → Advances text desk n (advanceOpen desk n)
+  from-start : (b : Bool) → holds1 (designText text) ≡ b → Ready text desk → desk .next ≡ 0 → AdvanceDue text desk n (advanceOpen desk n)
   unfolding advanceOpen examineOpen
   from-start true e h z =
       rw (ne-eqb n 0 some, eq-eqb (desk .next) 0 z, start-is text desk h, e)
@@ -264,7 +264,7 @@ module _ (text : List ℕ) (desk : Desk) (n : ℕ) (some : n ≢ 0) where
   from-start false e h z =
       rw (ne-eqb n 0 some, eq-eqb (desk .next) 0 z, start-is text desk h, e) (start-stage text desk h n z e)
 
-  from-later : Ready text desk → 0 < desk .next → desk .next < states (designText text) → Progress (designText text) (desk .next) → Advances text desk n (advanceOpen desk n)
+  from-later : Ready text desk → 0 < desk .next → desk .next < states (designText text) → Progress (designText text) (desk .next) → AdvanceDue text desk n (advanceOpen desk n)
   unfolding advanceOpen examineOpen
   from-later h l u p = rw (ne-eqb n 0 some, ne-eqb (desk .next) 0 (omega arith)) (examines text desk h n some u p)
 
@@ -272,9 +272,9 @@ module _ (text : List ℕ) (desk : Desk) (n : ℕ) (some : n ≢ 0) where
   unfolding advanceOf
   by-phase e = ap (λ p. advanceBy p desk n) e
 
-  pub advance-fresh : Ready text desk → desk .phase ≡ phase.Open → desk .next ≡ 0 → Advances text desk n (advanceOf desk n)
+  pub advance-fresh : Ready text desk → desk .phase ≡ phase.Open → desk .next ≡ 0 → AdvanceDue text desk n (advanceOf desk n)
   advance-fresh h e z = rw (by-phase e) (from-start _ refl h z)
 
   pub advance-going : Ready text desk → desk .phase ≡ phase.Open → 0 < desk .next → desk .next < states (designText text)
-      → Progress (designText text) (desk .next) → Advances text desk n (advanceOf desk n)
+      → Progress (designText text) (desk .next) → AdvanceDue text desk n (advanceOf desk n)
   advance-going h e l u p = rw (by-phase e) (from-later h l u p)

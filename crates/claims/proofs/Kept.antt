@@ -21,7 +21,7 @@ use Rattle.desk.specs.declared.Desk.{Desk}
 use Rattle.desk.specs.declared.AfterAdvance.{AfterAdvance}
 use Rattle.desk.specs.Desk.{loadEmpty, loadBy, loadOf, notAdvanced, advanceOpen, advanceBy, advanceOf, tellBy, tellOf, dropBy, dropOf}
 use Rattle.design.specs.Lines.{designText}
-use Rattle.checker.proofs.Stages.{Stage, fresh, going, accepts, fails, Advances, advance-fresh, advance-going}
+use Rattle.checker.proofs.Stages.{Stage, fresh, going, accepts, fails, AdvanceDue, advance-fresh, advance-going}
 use Rattle.checker.proofs.Judging.{opened-stage, loaded-free, loaded-fault}
 use Rattle.claims.specs.Calls.{Called, load, advance, verdict, drop, NoLoad, refused, advanced, told, dropped, LastLoad, here, before, AcceptedIn}
 use Rattle.claims.specs.Calls as calls
@@ -94,11 +94,11 @@ pub record Advanced (text : List ℕ) (r : AfterAdvance) : Type 0 where
 stays : (text : List ℕ) (d : Desk) (k : ℕ) → Stage text d → Advanced text (notAdvanced k d)
 stays text d k s = record { stage = s; accepted-is = λ j e. absurd (refused-none e) }
 
-goes : {text : List ℕ} {d : Desk} {n : ℕ} {r : AfterAdvance} → Advances text d n r → Advanced text r
+goes : {text : List ℕ} {d : Desk} {n : ℕ} {r : AfterAdvance} → AdvanceDue text d n r → Advanced text r
 goes a = record { stage = a .stage; accepted-is = a .accepted-is }
 
 open-by : (text : List ℕ) (d : Desk) (n : ℕ) (none : Bool) → eqb n 0 ≡ none → d .phase ≡ phase.Open → Stage text d
-    → (n ≢ 0 → Advances text d n (advanceOf d n)) → Advanced text (advanceOf d n)
+    → (n ≢ 0 → AdvanceDue text d n (advanceOf d n)) → Advanced text (advanceOf d n)
 open-by text d n true z e s go = rw (advance-at d n e, by-none d n (eqb-true n 0 z)) (stays text d 8 s)
 open-by text d n false z e s go = goes (go (eqb-false n 0 z))
 

@@ -34,7 +34,7 @@ use Rattle.checker.proofs.Examined.{examined}
 use Rattle.desk.specs.Desk.{opened, loadEmpty, loadOf, advanceOf, tellOf}
 use Rattle.design.specs.Lines.{designText}
 use Rattle.checker.specs.Count.{Due}
-use Rattle.checker.proofs.Stages.{Stage, fresh, going, accepts, fails, Advances, advance-fresh, advance-going, some-states}
+use Rattle.checker.proofs.Stages.{Stage, fresh, going, accepts, fails, AdvanceDue, advance-fresh, advance-going, some-states}
 use Rattle.checker.proofs.Judging.{opened-stage, loaded-free, loaded-fault, decided-answer, decided-report}
 use Rattle.claims.specs.Calls.{Called, load, advance, verdict, NoLoad, LastLoad, here, before, AcceptedIn, Walked}
 use Rattle.claims.specs.Calls as calls
@@ -133,7 +133,7 @@ tells d r = rw (tell-desk d (d .phase)) (same _ calls.told r)
 
 -- ---- an advance
 
-moves : {cs : List Called} {text : List ℕ} {d : Desk} {m k n : ℕ} {r : AfterAdvance} → Reached cs text d m k → d .phase ≡ phase.Open → Advances text d n r
+moves : {cs : List Called} {text : List ℕ} {d : Desk} {m k n : ℕ} {r : AfterAdvance} → Reached cs text d m k → d .phase ≡ phase.Open → AdvanceDue text d n r
     → Reached (advance n (r .answer) ∷ cs) text (r .desk) (m + n) (k + countSaid (r .answer))
 moves {cs} {text} {d} {m} {k} {n} {r} q e a =
     let there : m ≡ d .next = q .at e in
@@ -147,7 +147,7 @@ moves {cs} {text} {d} {m} {k} {n} {r} q e a =
     }
 
 module _ {cs : List Called} {text : List ℕ} {d : Desk} {m k : ℕ} (n : ℕ) (q : Reached cs text d m k) where
-  advance-open : (none : Bool) → eqb n 0 ≡ none → d .phase ≡ phase.Open → (n ≢ 0 → Advances text d n (advanceOf d n))
+  advance-open : (none : Bool) → eqb n 0 ≡ none → d .phase ≡ phase.Open → (n ≢ 0 → AdvanceDue text d n (advanceOf d n))
       → Reached (advance n (advanceOf d n .answer) ∷ cs) text (advanceOf d n .desk) (m + n) (k + countSaid (advanceOf d n .answer))
   advance-open true z e go =
       let none = eqb-true n 0 z in

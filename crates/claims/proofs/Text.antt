@@ -10,15 +10,15 @@ use Rattle.design.specs.Lines.{designText}
 use Rattle.design.specs.Faults.{DesignText, second, fourth, sixth}
 use Rattle.design.specs.Print.{printLines}
 use Rattle.design.proofs.Fault4.{layout-of}
-use Rattle.design.proofs.Same.{Made}
-use Rattle.design.proofs.Again.{lines-again}
+use Rattle.design.proofs.Held.{TermsFit}
+use Rattle.design.proofs.Reprinted.{lines-again}
 use Rattle.line_check.proofs.LineFits.{made-of}
 
 module _ (text : List ℕ) (is : DesignText text) where
   abbrev lines : List (List ℕ)
   lines = fieldsByLine text
 
-  made : Made lines
+  made : TermsFit lines
   made line m h = made-of lines (λ f. is 6 (sixth f)) m h
 
   pub printed-again : textOf (printLines (designText text)) ≡ text

@@ -11,7 +11,7 @@ use Rattle.foundation.specs.Nth.{first, later}
 use Rattle.foundation.proofs.Nth.{nth-nil, nth-cons, nth-positive}
 use Rattle.criteria.specs.Design.{Process, Row, RowIs, OneRowEach}
 use Rattle.criteria.proofs.Rows.{is-row-at, one-row}
-use Rattle.decision.specs.Tests.{rowFrom, rowOf, partner}
+use Rattle.decision.specs.Tests.{rowFrom, rowNumber, partner}
 
 -- there is one, and its number counts from k
 pub record Found (rows : List Row) (action k : ℕ) : Type 0 where
@@ -40,10 +40,10 @@ find (q ∷ rows) action k = go (eqb (q .action) action) refl (find rows action 
 -- ---- of a process: `partner` is the row that was found
 
 module _ (p : Process) (action : ℕ) where
-  pub found-at : (f : Found (p .rows) action 1) → rowOf p action ≡ f .at
+  pub found-at : (f : Found (p .rows) action 1) → rowNumber p action ≡ f .at
   found-at f = let n = f .number in omega arith
 
-  pub found-some : (f : Found (p .rows) action 1) → rowOf p action ≢ 0
+  pub found-some : (f : Found (p .rows) action 1) → rowNumber p action ≢ 0
   found-some f z = nth-positive (f .is-row) (sym (found-at f) ∙ z)
 
   pub found-partner : (f : Found (p .rows) action 1) → partner p action ≡ f .row

@@ -14,7 +14,7 @@ use Rattle.criteria.specs.Step.{Enabled, FocusPoint, ActionEnabled, InternalRow
 use Rattle.criteria.specs.Criteria.{Criterion1, Criterion2, Criterion3, Criterion4, Criterion5, Criterion6, Criterion7, Criterion8, Criterion9, Partner}
 use Rattle.criteria.specs.Rows.{rowAt, firstInternal}
 use Rattle.criteria.proofs.Rows.{pass-focus, fail-internal}
-use Rattle.decision.specs.Tests.{enabledB, internalB, invariantB, invariantStateB, focusB, rowOf, partner, holds1, holds2, holds3, holds4, holds5, holds6, holds7, holds8, holds9}
+use Rattle.decision.specs.Tests.{enabledB, internalB, invariantB, invariantStateB, focusB, rowNumber, partner, holds1, holds2, holds3, holds4, holds5, holds6, holds7, holds8, holds9}
 use Rattle.decision.proofs.Find.{Found, Missing, find, found-some, found-partner, found-only}
 
 -- ---- the parts
@@ -54,19 +54,19 @@ by-action p action s e one seen span = go (find (p .rows) action 1)
 
 -- something is so of the specification's row of a visible action, if it has one
 by-partner : (d : Design) (r : Row) (D : Row → Type 0) (t : Row → Bool) → OneRowEach (d .spec) → r .action ≢ 0 → ((q : Row) → Reflects (D q) (t q))
-    → Reflects ((q : Row) → Partner d r q → D q) (not (eqb (rowOf (d .spec) (r .action)) 0) ⇒ t (partner (d .spec) (r .action)))
+    → Reflects ((q : Row) → Partner d r q → D q) (not (eqb (rowNumber (d .spec) (r .action)) 0) ⇒ t (partner (d .spec) (r .action)))
 by-partner d r D t one seen says =
     by-iff (there (find (d .spec .rows) (r .action) 1)) (back (find (d .spec .rows) (r .action) 1))
-    (by-if (t (partner (d .spec) (r .action))) (by-not (by-eqb (rowOf (d .spec) (r .action)) 0)) (λ _. says (partner (d .spec) (r .action))))
+    (by-if (t (partner (d .spec) (r .action))) (by-not (by-eqb (rowNumber (d .spec) (r .action)) 0)) (λ _. says (partner (d .spec) (r .action))))
   where
     there : Found (d .spec .rows) (r .action) 1 ⊎ Missing (d .spec .rows) (r .action) 1
-        → (rowOf (d .spec) (r .action) ≢ 0 → D (partner (d .spec) (r .action))) → (q : Row) → Partner d r q → D q
+        → (rowNumber (d .spec) (r .action) ≢ 0 → D (partner (d .spec) (r .action))) → (q : Row) → Partner d r q → D q
     there (inl f) g q (j, (is, same)) =
         subst D (found-partner (d .spec) (r .action) f ∙ found-only (d .spec) (r .action) one seen f j q is same) (g (found-some (d .spec) (r .action) f))
     there (inr m) g q (j, (is, same)) = absurd (m .none j q is same)
 
     back : Found (d .spec .rows) (r .action) 1 ⊎ Missing (d .spec .rows) (r .action) 1
-        → ((q : Row) → Partner d r q → D q) → rowOf (d .spec) (r .action) ≢ 0 → D (partner (d .spec) (r .action))
+        → ((q : Row) → Partner d r q → D q) → rowNumber (d .spec) (r .action) ≢ 0 → D (partner (d .spec) (r .action))
     back (inl f) g n = subst D (sym (found-partner (d .spec) (r .action) f)) (g (f .row) (f .at, (f .is-row, f .same)))
     back (inr m) g n = absurd (n (m .number))
 

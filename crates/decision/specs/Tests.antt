@@ -33,11 +33,11 @@ unfoldable pub rowFrom : List Row → ℕ → ℕ → ℕ
 rowFrom [] action k = 0
 rowFrom (r ∷ rows) action k = let n = rowFrom rows action (suc k) in cond (eqb (r .action) action) k n
 
-abbrev pub rowOf : Process → ℕ → ℕ
-rowOf p action = rowFrom (p .rows) action 1
+abbrev pub rowNumber : Process → ℕ → ℕ
+rowNumber p action = rowFrom (p .rows) action 1
 
 abbrev pub partner : Process → ℕ → Row
-partner p action = rowAt (p .rows) (rowOf p action)
+partner p action = rowAt (p .rows) (rowNumber p action)
 
 -- ---- the criteria
 
@@ -66,10 +66,10 @@ holds7 d s q e = focusB d s ⇒ enabledB q (mapped d s) e ⇒ enabledB (partner 
 -- where the specification has no row of the action, criterion 6 has failed, and there is nothing to compare
 abbrev pub holds8 : Design → State → Row → ℕ → Bool
 holds8 d s r e =
-    enabledB r s e ⇒ not (internalB r) ⇒ not (eqb (rowOf (d .spec) (r .action)) 0)
+    enabledB r s e ⇒ not (internalB r) ⇒ not (eqb (rowNumber (d .spec) (r .action)) 0)
     ⇒ eqb (dataNumber r s e) (dataNumber (partner (d .spec) (r .action)) (mapped d s) e)
 
 abbrev pub holds9 : Design → State → Row → ℕ → Bool
 holds9 d s r e =
-    enabledB r s e ⇒ not (internalB r) ⇒ not (eqb (rowOf (d .spec) (r .action)) 0)
+    enabledB r s e ⇒ not (internalB r) ⇒ not (eqb (rowNumber (d .spec) (r .action)) 0)
     ⇒ sameB (mapped d (nextState r s e)) (nextState (partner (d .spec) (r .action)) (mapped d s) e)

@@ -17,7 +17,7 @@ use Rattle.kinds.specs.declared.Entry.{Entry}
 use Rattle.kinds.proofs.Table.{known-within}
 use Rattle.design.specs.Lines.{kindOf}
 use Rattle.design.specs.Faults.{entryOf, Falls, here, later, ofRank, Allowed, Fault4, unknown, falling, wrong-count, not-exactly, too-few}
-use Rattle.design.specs.Tests.{climbs, eachLineIs, countFitsBy, countFits, countsFit, lengthFitsBy, lengthFits, layoutFits}
+use Rattle.design.specs.Tests.{climbs, eachLineIs, countFitsBy, countFits, countsAllowed, lengthFitsBy, lengthFits, layoutFits}
 use Rattle.design.proofs.Each.{EachLine, each-cons, by-each-line, SomeLine, some-line, SomeNumber, some-number, one-of, AllIn, by-leb}
 
 -- ---- ranks that climb
@@ -197,15 +197,15 @@ module _ (table : Table) where
 
   pub has-fault4 : (lines : List (List ℕ)) → layoutFits table lines ≡ false → Fault4 table lines
   unfolding layoutFits
-  has-fault4 lines h = go (one-of (climbs table 0 lines) (countsFit table lines && eachLineIs (lengthFits table) lines) h)
+  has-fault4 lines h = go (one-of (climbs table 0 lines) (countsAllowed table lines && eachLineIs (lengthFits table) lines) h)
     where
-      rest : (countsFit table lines ≡ false) ⊎ (eachLineIs (lengthFits table) lines ≡ false) → Fault4 table lines
+      rest : (countsAllowed table lines ≡ false) ⊎ (eachLineIs (lengthFits table) lines ≡ false) → Fault4 table lines
       rest (inl e) = counts-fault lines (some-number (countFits table lines) (suc (lastIn table)) 0 e)
       rest (inr e) = length-fault lines (some-line (lengthFits table) lines e)
 
-      go : (climbs table 0 lines ≡ false) ⊎ ((countsFit table lines && eachLineIs (lengthFits table) lines) ≡ false) → Fault4 table lines
+      go : (climbs table 0 lines ≡ false) ⊎ ((countsAllowed table lines && eachLineIs (lengthFits table) lines) ≡ false) → Fault4 table lines
       go (inl e) = kinds-fault lines e
-      go (inr e) = rest (one-of (countsFit table lines) (eachLineIs (lengthFits table) lines) e)
+      go (inr e) = rest (one-of (countsAllowed table lines) (eachLineIs (lengthFits table) lines) e)
 
 -- ---- the lines of each rank stand together, in the order of ranks
 

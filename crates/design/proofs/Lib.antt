@@ -4,6 +4,6 @@ pub mod WholeText
 pub mod Fault5
 pub mod Loaded
 pub mod Terms
-pub mod Same
+pub mod Held
 pub mod Printed
-pub mod Again
+pub mod Reprinted

@@ -35,8 +35,8 @@ countFitsBy e n = eqb (e .most) 0 || (leb (e .fewest) n && leb n (e .most))
 abbrev pub countFits : Table → List (List ℕ) → ℕ → Bool
 countFits table lines k = let e = entryIn table k in countFitsBy e (length (ofRank table (e .rank) lines))
 
-abbrev pub countsFit : Table → List (List ℕ) → Bool
-countsFit table lines = allIn (countFits table lines) (suc (lastIn table)) 0
+abbrev pub countsAllowed : Table → List (List ℕ) → Bool
+countsAllowed table lines = allIn (countFits table lines) (suc (lastIn table)) 0
 
 abbrev pub lengthFitsBy : Entry → ℕ → Bool
 lengthFitsBy e n = cond (hasTerms (e .terms)) (leb (e .fixed) n) (eqb n (e .fixed))
@@ -45,7 +45,7 @@ abbrev pub lengthFits : Table → List ℕ → Bool
 lengthFits table line = lengthFitsBy (entryOf table line) (length line)
 
 unfoldable pub layoutFits : Table → List (List ℕ) → Bool
-layoutFits table lines = climbs table 0 lines && (countsFit table lines && eachLineIs (lengthFits table) lines)
+layoutFits table lines = climbs table 0 lines && (countsAllowed table lines && eachLineIs (lengthFits table) lines)
 
 -- ---- 5
 

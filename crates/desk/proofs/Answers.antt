@@ -26,7 +26,7 @@ use Rattle.answers.specs.Answers.{heldNumber, advanceNumber, dropNumber, toldBy
 use Rattle.desk.specs.declared.Desk.{Desk}
 use Rattle.desk.specs.declared.AfterLoad.{AfterLoad}
 use Rattle.desk.specs.declared.AfterAdvance.{AfterAdvance}
-use Rattle.desk.specs.Desk.{emptyDesk, placed, notLoaded, loadEmpty, loadBy, loadOf, notAdvanced, ahead, failStart, walkOn, examineNext, examineOpen, advanceOpen, advanceBy, advanceOf, tellOf, dropBy, dropOf}
+use Rattle.desk.specs.Desk.{emptyDesk, placed, notLoaded, loadEmpty, loadBy, loadOf, notAdvanced, ahead, failStart, walkedOn, examineNext, examineOpen, advanceOpen, advanceBy, advanceOf, tellOf, dropBy, dropOf}
 
 module _ (d : Desk) where
   -- ---- by phase: 0 where the call is done, else the number by which it is turned down
@@ -145,8 +145,8 @@ module _ (d : Desk) where
 
   pub after-walk : (w : Walked) (total : ℕ) (b : Bool) → b ≡ leb total (d .next + w .count) → (a : Advance) → a ≡ answerAfter (w .outcome) b (w .count)
       → (p : Phase) → p ≡ phaseAfter (w .outcome) b → (e : Desk) → e ≡ placed d (d .next + w .count) p
-      → record { answer = a; desk = e } ≡ walkOn d w total
-  unfolding walkOn
+      → record { answer = a; desk = e } ≡ walkedOn d w total
+  unfolding walkedOn
   after-walk w total b eb a ea p ep e ee = rw (ee, ea, ep, eb)
 
 -- ---- how many states are ahead
@@ -182,6 +182,6 @@ module _ (d : Desk) where
         omega arith
 
     pub examined : (w : Walked) → w ≡ walkedBy (d .fields) (d .starts) (d .counts) (d .plan) k (d .next)
-        → (r : AfterAdvance) → r ≡ walkOn d w total → r ≡ examineNext d n
+        → (r : AfterAdvance) → r ≡ walkedOn d w total → r ≡ examineNext d n
     unfolding examineNext
     examined w tw r e = rw (← et, ← ek, ← tw) e

@@ -20,7 +20,7 @@ use Rattle.desk.specs.declared.AfterVerdict.{AfterVerdict}
 use Rattle.desk.specs.declared.AfterDrop.{AfterDrop}
 use Rattle.answers.specs.Answers.{doneNumber, refusalNumber, countSaid, verdictNumbers, advanceNumber, verdictNumbersBy, dropNumber, answerAfter}
 use Rattle.desk.specs.Answers.{loadNumber, countOpen, countBy, advanceCount}
-use Rattle.desk.specs.Desk.{loadEmpty, loadBy, loadOf, afterWalk, walkOn, failStart, ahead, examineNext, examineOpen, advanceOpen, advanceBy, advanceOf, tellBy, tellOf, dropBy, dropOf}
+use Rattle.desk.specs.Desk.{loadEmpty, loadBy, loadOf, afterWalk, walkedOn, failStart, ahead, examineNext, examineOpen, advanceOpen, advanceBy, advanceOf, tellBy, tellOf, dropBy, dropOf}
 
 -- ---- load
 
@@ -61,7 +61,7 @@ walked-number o d count at total = go o (leb total at)
     go Pass false = refl
 
 next-number : (d : Desk) (n : ℕ) → refusalNumber (examineNext d n .answer) ≡ 0
-unfolding examineNext walkOn
+unfolding examineNext walkedOn
 next-number d n =
     let total : ℕ = stateCountIn (d .fields) (d .starts) (d .counts) in
     let w : Walked = walkedBy (d .fields) (d .starts) (d .counts) (d .plan) (ahead n (d .next) total) (d .next) in
@@ -107,7 +107,7 @@ walked-count o d count at total = go o (leb total at)
 next-count : (d : Desk) (n : ℕ)
     → countSaid (examineNext d n .answer)
     ≡ walkedBy (d .fields) (d .starts) (d .counts) (d .plan) (min n (stateCountIn (d .fields) (d .starts) (d .counts) - d .next)) (d .next) .count
-unfolding examineNext walkOn ahead
+unfolding examineNext walkedOn ahead
 next-count d n =
     let total : ℕ = stateCountIn (d .fields) (d .starts) (d .counts) in
     let w : Walked = walkedBy (d .fields) (d .starts) (d .counts) (d .plan) (min n (total - d .next)) (d .next) in

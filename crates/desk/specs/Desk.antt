@@ -94,14 +94,14 @@ afterWalk o d count at total =
     let ended = leb total at in
     record { answer = answerAfter o ended count; desk = placed d at (phaseAfter o ended) }
 
-unfoldable pub walkOn : Desk → Walked → ℕ → AfterAdvance
-walkOn d w total = afterWalk (w .outcome) d (w .count) (d .next + w .count) total
+unfoldable pub walkedOn : Desk → Walked → ℕ → AfterAdvance
+walkedOn d w total = afterWalk (w .outcome) d (w .count) (d .next + w .count) total
 
 unfoldable pub examineNext : Desk → ℕ → AfterAdvance
 examineNext d n =
     let total = stateCountIn (d .fields) (d .starts) (d .counts) in
     let k = ahead n (d .next) total in
-    walkOn d (walkedBy (d .fields) (d .starts) (d .counts) (d .plan) k (d .next)) total
+    walkedOn d (walkedBy (d .fields) (d .starts) (d .counts) (d .plan) k (d .next)) total
 
 -- "Criterion 1 comes before state 0, in the first advance"
 unfoldable pub examineOpen : Desk → ℕ → AfterAdvance

@@ -15,7 +15,7 @@ ghost use Rattle.loader.specs.Load.{loadedOf};
 ghost use Rattle.answers.specs.Answers.{doneNumber, refusalNumber, countSaid, verdictNumbers, advanceNumber, verdictNumbersBy, dropNumber};
 ghost use Rattle.desk.specs.Answers.{loadNumber, advanceCount};
 ghost use Rattle.desk.specs.Limits.{deskLimits};
-ghost use Rattle.desk.specs.Desk.{emptyDesk, loadEmpty, loadOf, failStart, examineNext, walkOn, examineOpen, advanceOf, tellOf, dropOf, placed, ahead};
+ghost use Rattle.desk.specs.Desk.{emptyDesk, loadEmpty, loadOf, failStart, examineNext, walkedOn, examineOpen, advanceOf, tellOf, dropOf, placed, ahead};
 
 pub struct Desk {
     // The fields of the text's lines, and where each line starts.
@@ -253,7 +253,7 @@ impl Desk {
     // After a walk: failed, accepted if the last state is done, or still open.
     fn walked_on(self, walked: Walked, total: usize) -> AfterAdvance
         requires { ⌜ self .next + walked .count < 18446744073709551616 ⌝ }
-        ensures { λ r. ⌜ r ≡ walkOn self walked total ⌝ }
+        ensures { λ r. ⌜ r ≡ walkedOn self walked total ⌝ }
     {
         let outcome = walked.outcome;
         let count = walked.count;

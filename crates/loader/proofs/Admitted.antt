@@ -18,7 +18,7 @@ use Rattle.design.specs.Lines.{ofKind, designOf}
 use Rattle.design.specs.Faults.{IsParameter, IsRow, second, fifth, seventh, DesignText}
 use Rattle.design.proofs.Each.{EachLine, each-cons}
 use Rattle.design.proofs.Fault5.{Bounds, bounds-of}
-use Rattle.design.proofs.Same.{of-kind}
+use Rattle.design.proofs.Held.{of-kind}
 use Rattle.action_check.proofs.ActionsFit.{rows-admitted}
 use Rattle.loader.proofs.Table.{sizes-same}
 

@@ -18,7 +18,7 @@ use Rattle.design.specs.Tests.{layoutFits, boundsFit}
 use Rattle.design.proofs.Each.{by-each-line}
 use Rattle.design.proofs.Fault4.{Layout, by-layout, layout-of}
 use Rattle.design.proofs.WholeText.{counted}
-use Rattle.design.proofs.Same.{Made, design-held}
+use Rattle.design.proofs.Held.{TermsFit, design-held}
 use Rattle.layout.specs.Sizes.{countsFit}
 use Rattle.line_check.proofs.LineFits.{by-line}
 use Rattle.action_check.specs.ActionsFit.{actionsFit}
@@ -54,7 +54,7 @@ module _ (text : List ℕ) (ok : faultOf text ≡ 0) where
   lay : Layout wholeText lines
   lay = layout-of wholeText lines (says-yes (by-layout wholeText lines) (tests .0))
 
-  made : Made lines
+  made : TermsFit lines
   made =
       says-yes (by-each-line _ (lineTest (countOf 1 lines) (countOf 2 lines)) (λ line. by-line (countOf 1 lines) (countOf 2 lines) line (kindOf line)) lines) (tests .1)
 

@@ -26,7 +26,7 @@ use Rattle.design.proofs.Fault4.{Layout, by-layout, layout-of}
 use Rattle.design.proofs.WholeText.{counted}
 use Rattle.design.proofs.Each.{by-each-line}
 use Rattle.design.proofs.Loaded.{lines-held}
-use Rattle.design.proofs.Same.{Made, parameters1, design-held}
+use Rattle.design.proofs.Held.{TermsFit, parameters1, design-held}
 use Rattle.layout.specs.Sizes.{countsFit, stateCountIn}
 use Rattle.line_check.proofs.LineFits.{by-line}
 use Rattle.action_check.specs.ActionsFit.{actionsFit, actionsFitIn}
@@ -121,7 +121,7 @@ module _ (text fields starts : List ℕ) (n : ℕ) (c : Counts) (h : Holds text 
               fault-6 e = rw (four, five, terms-are, not-true t e)
 
               module _ (ht : not t ≡ false) (u : Bool) (eu : u ≡ actionsFitIn fields starts c) where
-                made : Made lines
+                made : TermsFit lines
                 made =
                     says-yes (by-each-line _ (lineTest (countOf 1 lines) (countOf 2 lines)) (λ line. by-line (countOf 1 lines) (countOf 2 lines) line (kindOf line)) lines)
                     (terms-are ∙ not-false t ht)

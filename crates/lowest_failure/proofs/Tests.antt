@@ -18,7 +18,7 @@ use Rattle.criteria.specs.Design.{Design, Row, mapped}
 use Rattle.criteria.specs.Step.{nextState}
 use Rattle.criteria.specs.Rows.{noRow, rowAt, internalTest}
 use Rattle.terms.specs.Tree.{evalV}
-use Rattle.decision.specs.Tests.{enabledB, internalB, focusB, rowOf, holds2, holds3, holds4, holds5, holds6, holds7, holds8, holds9}
+use Rattle.decision.specs.Tests.{enabledB, internalB, focusB, rowNumber, holds2, holds3, holds4, holds5, holds6, holds7, holds8, holds9}
 use Rattle.decision.proofs.Find.{Found, Missing, find, found-partner}
 use Rattle.design.specs.Loaded.{processIn, designAt}
 use Rattle.design.specs.declared.Shape.{Shape}
@@ -74,10 +74,10 @@ module _ (f s : List ℕ) (h : Shape) (here : Here) (known : Known h (designAt f
   impl-step j e q eq = eq
 
   -- a row of an action that there is has a next value for each parameter
-  answer-length : (a : ℕ) → rowOf (d .spec) a ≢ 0 → length (specAt (rowOf (d .spec) a) .next) ≡ n
+  answer-length : (a : ℕ) → rowNumber (d .spec) a ≢ 0 → length (specAt (rowNumber (d .spec) a) .next) ≡ n
   answer-length a some = go (find (d .spec .rows) a 1)
     where
-      go : Found (d .spec .rows) a 1 ⊎ Missing (d .spec .rows) a 1 → length (specAt (rowOf (d .spec) a) .next) ≡ n
+      go : Found (d .spec .rows) a 1 ⊎ Missing (d .spec .rows) a 1 → length (specAt (rowNumber (d .spec) a) .next) ≡ n
       go (inl g) = rw (found-partner (d .spec) a g) (states.rows-length f s (h .specification) (g .at) (g .row) (g .is-row))
       go (inr m) = absurd (some (m .number))
 
@@ -135,10 +135,10 @@ module _ (f s : List ℕ) (h : Shape) (here : Here) (known : Known h (designAt f
             ap (λ x. not (r .enabled) || (eqb (r .action) 0 || x)) (twice (eqb j 0) b)
             ∙ ap (λ x. not (r .enabled) || x) (twice (eqb (r .action) 0) (not (not (eqb j 0)) || b))
             ∙ rw (eb, ew, eq, spec-step j e, ej, impl-step k e r er, states.mapped-held f s h next next-short)
-            (ap (λ x. enabledB (implAt k) v e ⇒ not (internalB (implAt k)) ⇒ x) (where-some (rowOf (d .spec) (implAt k .action)) _ _ there))
+            (ap (λ x. enabledB (implAt k) v e ⇒ not (internalB (implAt k)) ⇒ x) (where-some (rowNumber (d .spec) (implAt k .action)) _ _ there))
           where
             i : ℕ
-            i = rowOf (d .spec) (implAt k .action)
+            i = rowNumber (d .spec) (implAt k .action)
 
             there : i ≢ 0 → sameIn n (padded (mapped d next)) (padded (nextState (specAt i) (mapped d v) e)) ≡ sameB (mapped d next) (nextState (specAt i) (mapped d v) e)
             there some =

@@ -27,7 +27,7 @@ use Rattle.criteria.specs.Design.{Design, Row, State, values, mapped, measureAt
 use Rattle.criteria.specs.Step.{nextState, dataNumber}
 use Rattle.criteria.specs.Rows.{noRow, rowAt, internalTest}
 use Rattle.criteria.proofs.Rows.{is-row-below}
-use Rattle.decision.specs.Tests.{enabledB, internalB, invariantStateB, focusB, rowOf, partner, holds2, holds7}
+use Rattle.decision.specs.Tests.{enabledB, internalB, invariantStateB, focusB, rowNumber, partner, holds2, holds7}
 use Rattle.decision.specs.Quick.{allRows, rowHolds, stateHolds}
 use Rattle.decision.proofs.Quick.{by-numbers}
 use Rattle.decision.proofs.Alike.{formula-alike}
@@ -250,11 +250,11 @@ module _ (f s : List ℕ) (p : Process) where
   row-by i = rw (row-line i)
 
   -- the partner of an action, by its number
-  partner-by : (a : ℕ) → partnerBy f s p (rowOf (processIn f s p) a) ≡ partner (processIn f s p) a
+  partner-by : (a : ℕ) → partnerBy f s p (rowNumber (processIn f s p) a) ≡ partner (processIn f s p) a
   unfolding partnerBy rowBy lineOf
-  partner-by a = go (rowOf (processIn f s p) a) refl (find (processIn f s p .rows) a 1)
+  partner-by a = go (rowNumber (processIn f s p) a) refl (find (processIn f s p .rows) a 1)
     where
-      go : (j : ℕ) → rowOf (processIn f s p) a ≡ j → Found (processIn f s p .rows) a 1 ⊎ Missing (processIn f s p .rows) a 1 → partnerBy f s p j ≡ rowAt (processIn f s p .rows) j
+      go : (j : ℕ) → rowNumber (processIn f s p) a ≡ j → Found (processIn f s p .rows) a 1 ⊎ Missing (processIn f s p .rows) a 1 → partnerBy f s p j ≡ rowAt (processIn f s p .rows) j
       go zero e g = refl
       go (suc j) e (inl g) =
           let below = is-row-below (g .is-row) in
@@ -284,7 +284,7 @@ module _ (f s : List ℕ) (h : Shape) (fits : Fits h) (v : State) where
   short : length y ≤ 8
   short = rw (states.mapped-length f s h v) (fits .specification .parameters)
 
-  no-row : (a e : ℕ) → rowOf (d .spec) a ≡ 0 → enabledB (partner (d .spec) a) y e ≡ false
+  no-row : (a e : ℕ) → rowNumber (d .spec) a ≡ 0 → enabledB (partner (d .spec) a) y e ≡ false
   unfolding evalF
   no-row a e z = rw z
 
@@ -292,7 +292,7 @@ module _ (f s : List ℕ) (h : Shape) (fits : Fits h) (v : State) where
 
   module _ (r : Row) (long : length (r .next) ≡ n1) where
     abbrev j : ℕ
-    j = rowOf (d .spec) (r .action)
+    j = rowNumber (d .spec) (r .action)
 
     abbrev q : Row
     q = partner (d .spec) (r .action)
@@ -468,7 +468,7 @@ module _ (f s : List ℕ) (h : Shape) (fits : Fits h) (v : State) where
     abbrev otherFree : Bool
     otherFree = freeOf false w && freeOf false other
 
-    replied-held : (e : ℕ) → (onIn w t (sumFreeF (w .condition)) e ⇒ enabledB (partnerBy f s (h .implementation) (rowOf (d .impl) (w .action))) v e) ≡ replies e
+    replied-held : (e : ℕ) → (onIn w t (sumFreeF (w .condition)) e ⇒ enabledB (partnerBy f s (h .implementation) (rowNumber (d .impl) (w .action))) v e) ≡ replies e
     replied-held e =
         rw (partner-by f s (h .implementation) (w .action), formula-alike t y (states.same-values y short) (w .condition) (cond (sumFreeF (w .condition)) 0 e))
         (ap (λ b. b ⇒ enabledB other v e) (on-held w y e))
@@ -480,13 +480,13 @@ module _ (f s : List ℕ) (h : Shape) (fits : Fits h) (v : State) where
           same-f (other .condition) v e 0 (condition-free other (and-right (freeOf false w) (freeOf false other) z)),
         )
 
-    reply-held : allIn (λ e. onIn w t (sumFreeF (w .condition)) e ⇒ enabledB (partnerBy f s (h .implementation) (rowOf (d .impl) (w .action))) v e) (looksOf otherFree (w .span)) 0
+    reply-held : allIn (λ e. onIn w t (sumFreeF (w .condition)) e ⇒ enabledB (partnerBy f s (h .implementation) (rowNumber (d .impl) (w .action))) v e) (looksOf otherFree (w .span)) 0
         ≡ allIn replies (w .span) 0
     reply-held = all-alike _ replies (looksOf otherFree (w .span)) 0 replied-held ∙ all-looks replies otherFree (w .span) replies-once
 
   abbrev specEntry : ℕ → Entry
   specEntry i = record {
-    partner = rowOf (d .impl) (specRow i .action);
+    partner = rowNumber (d .impl) (specRow i .action);
     looks = looksOf (otherFree (specRow i)) (specRow i .span);
     free = sumFreeF (specRow i .condition);
     front = frontOf f (getD s (h .specification .rows .first + i) 0 + 3) 32;

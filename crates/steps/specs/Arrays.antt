@@ -51,7 +51,7 @@ unfoldable pub rowSpan : List ℕ → List ℕ → Process → ℕ → ℕ
 rowSpan f s p k = rowAt (processIn f s p .rows) k .span
 
 unfoldable pub rowWith : List ℕ → List ℕ → Process → ℕ → ℕ
-rowWith f s p a = tests.rowOf (processIn f s p) a
+rowWith f s p a = tests.rowNumber (processIn f s p) a
 
 -- the state with a number, of eight parameters at most; the initial state
 unfoldable pub stateIn : List ℕ → List ℕ → Process → ℕ → List ℕ

@@ -21,7 +21,7 @@ use Rattle.kinds.proofs.Table.{rank-most}
 use Rattle.design.specs.Lines.{countOf, countsOf}
 use Rattle.design.specs.Faults.{ofRank}
 use Rattle.design.specs.Loaded.{lineFrom, lineAt, eachLine, heldLines}
-use Rattle.design.specs.Tests.{climbs, countFitsBy, countFits, countsFit, layoutFits, eachLineIs, lengthFits, numbersFitBy, numbersFit}
+use Rattle.design.specs.Tests.{climbs, countFitsBy, countFits, countsAllowed, layoutFits, eachLineIs, lengthFits, numbersFitBy, numbersFit}
 use Rattle.design.proofs.WholeText.{rank-kind}
 use Rattle.table_check.specs.Tally.{Tallied, kindFits, tallyFits}
 
@@ -228,7 +228,7 @@ module _ (lines : List (List ℕ)) (tally : List ℕ) (t : Tallied lines tally) 
   same-counts : (k : ℕ) → kindFits tally k ≡ countFits wholeText lines k
   same-counts k = ap (countFitsBy (entryIn wholeText k)) (t .of-rank (entryIn wholeText k .rank) (let m = rank-most k in omega arith))
 
-  pub tally-counts : (r : Bool) → r ≡ tallyFits tally → r ≡ countsFit wholeText lines
+  pub tally-counts : (r : Bool) → r ≡ tallyFits tally → r ≡ countsAllowed wholeText lines
   tally-counts r er = er ∙ ap (λ (f : ℕ → Bool). allIn f (suc (lastIn wholeText)) 0) (λ i k. same-counts k i)
 
   pub kinds-counted : record { kind1 = getD tally 1 0; kind2 = getD tally 2 0; kind3 = getD tally 3 0; kind4 = getD tally 4 0 } ≡ countsOf lines
@@ -264,7 +264,7 @@ module _ (lines : List (List ℕ)) (a : Bool) (ea : a ≡ climbs wholeText 0 lin
   unfolding layoutFits
   layout-kinds h = rw (← ea, not-true a h)
 
-  module _ (ha : not a ≡ false) (b : Bool) (eb : b ≡ countsFit wholeText lines) where
+  module _ (ha : not a ≡ false) (b : Bool) (eb : b ≡ countsAllowed wholeText lines) where
     pub layout-counts : not b ≡ true → false ≡ layoutFits wholeText lines
     unfolding layoutFits
     layout-counts h = rw (← ea, not-false a ha, ← eb, not-true b h)

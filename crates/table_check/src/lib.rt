@@ -8,7 +8,7 @@ ghost use lib.ListN.{length, getD, replicate};
 ghost use Rattle.kinds.specs.Kinds.{wholeText, ranks};
 ghost use Rattle.design.specs.Lines.{countsOf};
 ghost use Rattle.design.specs.Loaded.{lineAt, heldLines};
-ghost use Rattle.design.specs.Tests.{climbs, countsFit, layoutFits, eachLineIs, lengthFits, numbersFitBy, numbersFit};
+ghost use Rattle.design.specs.Tests.{climbs, countsAllowed, layoutFits, eachLineIs, lengthFits, numbersFitBy, numbersFit};
 ghost use Rattle.table_check.specs.Tally.{Tallied, kindFits, tallyFits};
 
 // How many lines there are of each rank.
@@ -78,7 +78,7 @@ fn kinds_climb<'a>(fields: &'a [u16], starts: &'a [u16], n: usize) -> bool
 
 // Whether the first n lines have as many of each kind as there may be.
 fn counts_fit<'a>(fields: &'a [u16], starts: &'a [u16], n: usize) -> bool
-    ensures { λ r. ⌜ r ≡ countsFit wholeText (heldLines (now (fields .entry)) (now (starts .entry)) n) ⌝ }
+    ensures { λ r. ⌜ r ≡ countsAllowed wholeText (heldLines (now (fields .entry)) (now (starts .entry)) n) ⌝ }
 {
     let mut tally = [0usize; kinds::RANKS];
     count_ranks(fields, starts, n, &mut tally);

@@ -15,7 +15,7 @@ use Rattle.design.specs.Print.{printValues, parameterLine, rowLine, prin
 use Rattle.design.proofs.Each.{EachLine}
 use Rattle.design.proofs.Fault4.{Layout}
 use Rattle.design.proofs.WholeText.{in-order, Counted, counted, Exactly, exactly-1, exactly-2, least-3, least-4}
-use Rattle.design.proofs.Same.{Made, nth-among, of-kind, exactly, at-least, row-terms, spec-terms, invariant-terms, mapping-terms, measure-terms}
+use Rattle.design.proofs.Held.{TermsFit, nth-among, of-kind, exactly, at-least, row-terms, spec-terms, invariant-terms, mapping-terms, measure-terms}
 use Rattle.design.proofs.Terms.{FirstValue, FirstFormula, first-value, first-formula, no-terms, value-read, value-after, formula-read, formula-after}
 
 -- ---- terms: what is read of them and printed again
@@ -96,7 +96,7 @@ joined a b c x y z p q r = rw (← p, ← q, ← r)
 
 -- ---- all lines
 
-module _ (lines : List (List ℕ)) (lay : Layout wholeText lines) (made : Made lines) where
+module _ (lines : List (List ℕ)) (lay : Layout wholeText lines) (made : TermsFit lines) where
   abbrev k : ℕ → List (List ℕ)
   k i = ofKind i lines
 

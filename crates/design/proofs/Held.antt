@@ -88,11 +88,11 @@ module _ (lines : List (List ℕ)) (few : length lines ≤ 83) (fit : countAll l
       rw (line-then lines few fit (length a) (omega arith), is) (same (getD b 0 []) (nth-among b 0 (omega arith)) (later-fields lines (length a)))
 
 -- a line of a kind with terms is made of them
-abbrev pub Made : List (List ℕ) → Type 0
-Made lines = EachLine (λ line. HasTerms (kindOf line) → LineTerms (countOf 1 lines) (countOf 2 lines) line (kindOf line)) lines
+abbrev pub TermsFit : List (List ℕ) → Type 0
+TermsFit lines = EachLine (λ line. HasTerms (kindOf line) → LineTerms (countOf 1 lines) (countOf 2 lines) line (kindOf line)) lines
 
 -- which these are, by the kind
-module _ (lines : List (List ℕ)) (made : Made lines) (line : List ℕ) where
+module _ (lines : List (List ℕ)) (made : TermsFit lines) (line : List ℕ) where
   abbrev own : ℕ
   own = countOf 1 lines
 
@@ -204,38 +204,38 @@ module _ (lines : List (List ℕ)) (few : length lines ≤ 83) (fit : countAll l
   parameters2 : eachLine parameterOf line m n ≡ map parameterOf (k 2)
   parameters2 = block lines few fit parameterOf (k 1) (k 2) _ split2 (λ l h more. parameter-same l more (exactly lay 2 3 l h exactly-2))
 
-  rows3 : Made lines → eachLine (rowOf n) line (length (k 3)) (n + m) ≡ map (rowOf n) (k 3)
+  rows3 : TermsFit lines → eachLine (rowOf n) line (length (k 3)) (n + m) ≡ map (rowOf n) (k 3)
   rows3 made =
       ap (λ at. eachLine (rowOf n) line (length (k 3)) at) (sym at3)
       ∙ block lines few fit (rowOf n) before3 (k 3) _ split3
       (λ l h. row-same n l (at-least lay 3 3 l h least-3) (row-terms lines made l h))
 
-  rows4 : Made lines → eachLine (rowOf m) line (length (k 4)) (n + m + length (k 3)) ≡ map (rowOf m) (k 4)
+  rows4 : TermsFit lines → eachLine (rowOf m) line (length (k 4)) (n + m + length (k 3)) ≡ map (rowOf m) (k 4)
   rows4 made =
       ap (λ at. eachLine (rowOf m) line (length (k 4)) at) (sym at4)
       ∙ block lines few fit (rowOf m) before4 (k 4) _ split4
       (λ l h. row-same m l (at-least lay 4 3 l h least-4) (spec-terms lines made l h))
 
-  line5 : Made lines → invariantOf (line (n + m + length (k 3) + length (k 4))) ≡ invariantOf (theLine 5 lines)
+  line5 : TermsFit lines → invariantOf (line (n + m + length (k 3) + length (k 4))) ≡ invariantOf (theLine 5 lines)
   line5 made =
       ap (λ at. invariantOf (line at)) (sym at5)
       ∙ single lines few fit invariantOf before5 (k 5) _ split5 (one .kind5)
       (λ l h. invariant-same n l (at-least lay 5 1 l h least-5) (invariant-terms lines made l h))
 
-  line6 : Made lines → mappingOf m (line (n + m + length (k 3) + length (k 4) + 1)) ≡ mappingOf m (theLine 6 lines)
+  line6 : TermsFit lines → mappingOf m (line (n + m + length (k 3) + length (k 4) + 1)) ≡ mappingOf m (theLine 6 lines)
   line6 made =
       ap (λ at. mappingOf m (line at)) (sym at6)
       ∙ single lines few fit (mappingOf m) before6 (k 6) _ split6 (one .kind6)
       (λ l h. mapping-same n l (at-least lay 6 1 l h least-6) m (mapping-terms lines made l h))
 
-  line7 : Made lines → measureOf (line (n + m + length (k 3) + length (k 4) + 2)) ≡ measureOf (theLine 7 lines)
+  line7 : TermsFit lines → measureOf (line (n + m + length (k 3) + length (k 4) + 2)) ≡ measureOf (theLine 7 lines)
   line7 made =
       ap (λ at. measureOf (line at)) (sym at7)
       ∙ single lines few fit measureOf before7 (k 7) _ split7 (one .kind7)
       (λ l h. measure-same n l (at-least lay 7 1 l h least-7) (measure-terms lines made l h))
 
   -- the design that the arrays hold is that of the lines
-  pub design-held : Made lines → designIn (fieldsHeld lines) (startsHeld lines) (countsOf lines) ≡ designOf lines
+  pub design-held : TermsFit lines → designIn (fieldsHeld lines) (startsHeld lines) (countsOf lines) ≡ designOf lines
   unfolding designOf
   design-held made i = record {
     impl = record { parameters = parameters1 i; rows = rows3 made i };
