@@ -1,5 +1,5 @@
 // What a text's lines say: the design, by its lines' fields and by a desk's arrays, and the faults 4 to 7. Definitions and laws;
-// the code that finds the faults and fills the arrays is in the crate loader.
+// the code that finds the faults and fills the arrays is in the crates table_check, line_check, action_check and loader.
 
 // How many lines of kinds 1, 2, 3 and 4 a text has. Lines of kinds 5, 6 and 7 follow them, one each.
 pub struct Counts {
