@@ -93,7 +93,7 @@ pub data Terms (n : ℕ) (row : Bool) : List Sort → List ℕ → Type 0 where
 abbrev pub LineTerms : ℕ → ℕ → List ℕ → ℕ → Type 0
 LineTerms n m line k =
     let e = entryIn wholeText k in
-    let own = ownOf (e .process) n m in
+    let own = ownOf (e .side) n m in
     Terms own (inRow (e .terms)) (sortsOf (e .terms) own m) (drop (e .fixed) line)
 
 -- a kind with terms: 3 to 7

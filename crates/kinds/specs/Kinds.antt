@@ -11,13 +11,13 @@ use Rattle.kinds.specs.declared.Role.{Role}
 use Rattle.kinds.specs.declared.Role.the-variants.{Parameter, Row, Other}
 use Rattle.kinds.specs.declared.Follow.{Follow}
 use Rattle.kinds.specs.declared.Follow.the-variants.{Nothing, RowTerms, Formula, Mapped, Value}
-use Rattle.kinds.specs.declared.Process.{Process}
-use Rattle.kinds.specs.declared.Process.the-variants.{Implementation, Specification}
+use Rattle.kinds.specs.declared.Side.{Side}
+use Rattle.kinds.specs.declared.Side.the-variants.{Implementation, Specification}
 
 -- what a kind of line is: rank, fewest and most lines, fields before the terms, what these say, what terms follow, and whose parameters
 -- they read
-abbrev pub entry : ℕ → ℕ → ℕ → ℕ → Role → Follow → Process → Entry
-entry r l u n role terms p = record { rank = r; fewest = l; most = u; fixed = n; role = role; terms = terms; process = p }
+abbrev pub entry : ℕ → ℕ → ℕ → ℕ → Role → Follow → Side → Entry
+entry r l u n role terms p = record { rank = r; fewest = l; most = u; fixed = n; role = role; terms = terms; side = p }
 
 -- a kind's number, and what it is, for each kind that a call takes
 abbrev pub Table : Type 0
@@ -94,6 +94,6 @@ inRow Mapped = false
 inRow Value = false
 
 -- "of the row's process (the implementation's in kinds 5 to 7)", where n lines are of kind 1 and m of kind 2
-abbrev pub ownOf : Process → ℕ → ℕ → ℕ
+abbrev pub ownOf : Side → ℕ → ℕ → ℕ
 ownOf Implementation n m = n
 ownOf Specification n m = m

@@ -5,7 +5,7 @@ ghost use Rattle.limits.specs.Limits.{maxParameters, maxRows};
 ghost use Rattle.kinds.specs.Kinds.{entry, wholeText, noKind, entryIn, hasTerms, ownOf};
 ghost use Rattle.kinds.specs.declared.Role.the-variants.{Parameter, Row, Other};
 ghost use Rattle.kinds.specs.declared.Follow.the-variants.{Nothing, RowTerms};
-ghost use Rattle.kinds.specs.declared.Process.the-variants.{Implementation};
+ghost use Rattle.kinds.specs.declared.Side.the-variants.{Implementation};
 
 // What a kind of line is: its rank in the order of kinds, the fewest and the most lines of that rank, how many fields stand before the
 // terms, the kind included, what these say, what terms follow, and whose parameters they read.
@@ -16,7 +16,7 @@ pub struct Entry {
     pub fixed: usize,
     pub role: Role,
     pub terms: Follow,
-    pub process: Process,
+    pub side: Side,
 }
 
 // What the fields before the terms say: size and initial value, action and span, or nothing but the kind.
@@ -35,7 +35,7 @@ pub enum Follow {
     Value,
 }
 
-pub enum Process {
+pub enum Side {
     Implementation,
     Specification,
 }
@@ -50,10 +50,10 @@ pub fn entry_at(kind: u16) -> Entry
     ensures { λ r. ⌜ r ≡ entryIn wholeText kind ⌝ }
 {
     match kind {
-        1 => parameter(1, Process::Implementation),
-        2 => parameter(2, Process::Specification),
-        3 => row(3, Process::Implementation),
-        4 => row(4, Process::Specification),
+        1 => parameter(1, Side::Implementation),
+        2 => parameter(2, Side::Specification),
+        3 => row(3, Side::Implementation),
+        4 => row(4, Side::Specification),
         5 => single(5, Follow::Formula),
         6 => single(6, Follow::Mapped),
         7 => single(7, Follow::Value),
@@ -62,8 +62,8 @@ pub fn entry_at(kind: u16) -> Entry
 }
 
 // Size and initial value.
-fn parameter(rank: usize, process: Process) -> Entry
-    ensures { λ r. ⌜ r ≡ entry rank 1 maxParameters 3 Parameter Nothing process ⌝ }
+fn parameter(rank: usize, side: Side) -> Entry
+    ensures { λ r. ⌜ r ≡ entry rank 1 maxParameters 3 Parameter Nothing side ⌝ }
 {
     Entry {
         rank,
@@ -72,13 +72,13 @@ fn parameter(rank: usize, process: Process) -> Entry
         fixed: 3,
         role: Role::Parameter,
         terms: Follow::Nothing,
-        process,
+        side,
     }
 }
 
 // Action and span, then the terms of a row.
-fn row(rank: usize, process: Process) -> Entry
-    ensures { λ r. ⌜ r ≡ entry rank 0 maxRows 3 Row RowTerms process ⌝ }
+fn row(rank: usize, side: Side) -> Entry
+    ensures { λ r. ⌜ r ≡ entry rank 0 maxRows 3 Row RowTerms side ⌝ }
 {
     Entry {
         rank,
@@ -87,7 +87,7 @@ fn row(rank: usize, process: Process) -> Entry
         fixed: 3,
         role: Role::Row,
         terms: Follow::RowTerms,
-        process,
+        side,
     }
 }
 
@@ -102,7 +102,7 @@ fn single(rank: usize, terms: Follow) -> Entry
         fixed: 1,
         role: Role::Other,
         terms,
-        process: Process::Implementation,
+        side: Side::Implementation,
     }
 }
 
@@ -117,7 +117,7 @@ fn none() -> Entry
         fixed: 0,
         role: Role::Other,
         terms: Follow::Nothing,
-        process: Process::Implementation,
+        side: Side::Implementation,
     }
 }
 
@@ -134,12 +134,12 @@ pub fn has_terms(terms: Follow) -> bool
     }
 }
 
-// How many parameters a process has, where the implementation has n and the specification m.
-pub fn own(process: Process, n: u16, m: u16) -> u16
-    ensures { λ r. ⌜ r ≡ ownOf process n m ⌝ }
+// How many parameters a side has, where the implementation has n and the specification m.
+pub fn own(side: Side, n: u16, m: u16) -> u16
+    ensures { λ r. ⌜ r ≡ ownOf side n m ⌝ }
 {
-    match process {
-        Process::Implementation => n,
-        Process::Specification => m,
+    match side {
+        Side::Implementation => n,
+        Side::Specification => m,
     }
 }

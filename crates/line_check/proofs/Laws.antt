@@ -149,7 +149,7 @@ module _ (n m kind : ℕ) (line : List ℕ) (e : Entry) (ee : e ≡ entryIn whol
   unfolding lineFits
   of-nothing h = rw (← ee, ← eb, not-true b h)
 
-  pub of-terms : not b ≡ false → (part : List ℕ) → fieldsOf part ≡ drop (e .fixed) (fieldsOf line) → (own : ℕ) → own ≡ ownOf (e .process) n m
+  pub of-terms : not b ≡ false → (part : List ℕ) → fieldsOf part ≡ drop (e .fixed) (fieldsOf line) → (own : ℕ) → own ≡ ownOf (e .side) n m
       → (r : Bool) → r ≡ termsFit own (inRow (e .terms)) (sortsOf (e .terms) own m) (fieldsOf part) → r ≡ lineFits n m (fieldsOf line) kind
   unfolding lineFits
   of-terms h part ep own eo r er = rw (← ee, ← eb, not-false b h) (er ∙ rw (eo, ep))

@@ -29,5 +29,5 @@ termsFit n row (formula ∷ sorts) fields =
 unfoldable pub lineFits : ℕ → ℕ → List ℕ → ℕ → Bool
 lineFits n m line kind =
     let e = entryIn wholeText kind in
-    let own = ownOf (e .process) n m in
+    let own = ownOf (e .side) n m in
     hasTerms (e .terms) ⇒ termsFit own (inRow (e .terms)) (sortsOf (e .terms) own m) (drop (e .fixed) line)

@@ -21,8 +21,8 @@ pub fn line_fits(line: &[u8], kind: u16, n: u16, m: u16) -> bool
     if !kinds::has_terms(terms) {
         return true;
     }
-    let process = entry.process;
-    let params = kinds::own(process, n, m);
+    let side = entry.side;
+    let params = kinds::own(side, n, m);
     terms_fit(after_fields(line, entry.fixed), terms, params, m)
 }
 

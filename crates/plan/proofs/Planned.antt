@@ -22,8 +22,8 @@ use Rattle.design.specs.declared.Process.{Process}
 use Rattle.design.specs.declared.Shape.{Shape}
 use Rattle.steps.specs.Arrays.{lineOf, rowWith}
 use Rattle.conjuncts.specs.Conjuncts.{frontOf}
-use Rattle.plan.specs.Plan.{rowBy, partnerBy, valuesFree, freeOf, partnerFree, looksOf, entryOf, noEntry, entryIn, entryFor, flagOf, entriesFrom, planIn, entryAt}
-use Rattle.plan.specs.declared.Entry.{Entry}
+use Rattle.plan.specs.Plan.{rowBy, partnerBy, valuesFree, freeOf, partnerFree, looksOf, rowPlanOf, noRowPlan, rowPlanIn, rowPlanFor, flagOf, rowPlansFrom, planIn, rowPlanAt}
+use Rattle.plan.specs.declared.RowPlan.{RowPlan}
 
 -- ---- terms that do not read the sum value
 
@@ -110,45 +110,45 @@ only-condition r = and-true (sumFreeF (r .condition))
 pub entry-is : (f s : List ℕ) (p o : Process) (whole : Bool) (k line a z j n l : ℕ) (b c free : Bool) → line ≡ lineOf s p k → a ≡ getD (drop line f) 1 0 → z ≡ getD (drop line f) 2 0
     → j ≡ rowWith f s o a → b ≡ freeOf whole (rowOf (p .parameters .count) (drop line f)) → c ≡ partnerFree f s o j whole → n ≡ looksOf (b && c) z
     → free ≡ freeOf false (rowOf (p .parameters .count) (drop line f)) → l ≡ frontOf f (line + 3) 32
-    → record { partner = j; looks = n; free = free; front = l } ≡ entryOf f s p o whole k
-unfolding entryOf rowBy
+    → record { partner = j; looks = n; free = free; front = l } ≡ rowPlanOf f s p o whole k
+unfolding rowPlanOf rowBy
 entry-is f s p o whole k line a z j n l b c free el ea ez ej eb ec en ef ew =
     let e = ef ∙ only-condition (rowOf (p .parameters .count) (drop line f)) in
     rw (e, en, eb, ec, ej, ea, ez, ew, el)
 
 module _ (f s : List ℕ) (p o : Process) (whole : Bool) (k : ℕ) where
-  pub entry-there : (r : Entry) → k ≤ p .rows .count → r ≡ entryOf f s p o whole k → r ≡ entryIn f s p o whole k
-  unfolding entryIn
+  pub entry-there : (r : RowPlan) → k ≤ p .rows .count → r ≡ rowPlanOf f s p o whole k → r ≡ rowPlanIn f s p o whole k
+  unfolding rowPlanIn
   entry-there r l er = er ∙ rw (le-leb k (p .rows .count) l)
 
-  pub entry-past : p .rows .count < k → noEntry ≡ entryIn f s p o whole k
-  unfolding entryIn
+  pub entry-past : p .rows .count < k → noRowPlan ≡ rowPlanIn f s p o whole k
+  unfolding rowPlanIn
   entry-past l = rw (lt-leb k (p .rows .count) l)
 
-module _ (f s : List ℕ) (h : Shape) (i : ℕ) (r : Entry) where
-  pub of-implementation : i < 32 → r ≡ entryIn f s (h .implementation) (h .specification) true (i + 1) → r ≡ entryFor f s h i
-  unfolding entryFor
+module _ (f s : List ℕ) (h : Shape) (i : ℕ) (r : RowPlan) where
+  pub of-implementation : i < 32 → r ≡ rowPlanIn f s (h .implementation) (h .specification) true (i + 1) → r ≡ rowPlanFor f s h i
+  unfolding rowPlanFor
   of-implementation l er = er ∙ rw (lt-ltb i 32 l)
 
-  pub of-specification : 32 ≤ i → r ≡ entryIn f s (h .specification) (h .implementation) false (i - 32 + 1) → r ≡ entryFor f s h i
-  unfolding entryFor
+  pub of-specification : 32 ≤ i → r ≡ rowPlanIn f s (h .specification) (h .implementation) false (i - 32 + 1) → r ≡ rowPlanFor f s h i
+  unfolding rowPlanFor
   of-specification l er = er ∙ rw (le-ltb i 32 l)
 
 -- ---- all of them, one after the other
 
 module _ (f s : List ℕ) (h : Shape) where
   unfoldable pub planLeft : List ℕ → ℕ → List ℕ
-  planLeft w i = sets w (4 * i) (entriesFrom f s h (64 - i) i)
+  planLeft w i = sets w (4 * i) (rowPlansFrom f s h (64 - i) i)
 
-  entries-length : (n i : ℕ) → length (entriesFrom f s h n i) ≡ 4 * n
-  unfolding entriesFrom
+  entries-length : (n i : ℕ) → length (rowPlansFrom f s h n i) ≡ 4 * n
+  unfolding rowPlansFrom
   entries-length zero i = refl
   entries-length (suc n) i = rw (entries-length n (suc i)) (omega arith)
 
   -- a full array: nothing of what it held before is left
   pub plan-begin : planLeft (replicate 256 0) 0 ≡ planIn f s h
   unfolding planLeft planIn
-  plan-begin = all-stored (entriesFrom f s h 64 0) (entries-length 64 0)
+  plan-begin = all-stored (rowPlansFrom f s h 64 0) (entries-length 64 0)
     where
       all-stored : (vs : List ℕ) → length vs ≡ 256 → sets (replicate 256 0) 0 vs ≡ vs
       all-stored vs e =
@@ -156,9 +156,9 @@ module _ (f s : List ℕ) (h : Shape) where
           let u : length (replicate {A = ℕ} 256 0) ≤ 0 + length vs = omega (arith, length-replicate {A = ℕ} 256 0) in
           sets-eq vs (replicate 256 0) 0 l ∙ ap (λ r. vs ++ r) (drop-of-length-le (replicate 256 0) u) ∙ append-nil vs
 
-  pub plan-turn : (w : List ℕ) (i at x : ℕ) (e : Entry) → i < 64 → at ≡ 4 * i → e ≡ entryFor f s h i → x ≡ flagOf (e .free) → planLeft w i ≡ planIn f s h
+  pub plan-turn : (w : List ℕ) (i at x : ℕ) (e : RowPlan) → i < 64 → at ≡ 4 * i → e ≡ rowPlanFor f s h i → x ≡ flagOf (e .free) → planLeft w i ≡ planIn f s h
       → planLeft (set (set (set (set w at (e .partner)) (at + 1) (e .looks)) (at + 2) x) (at + 3) (e .front)) (i + 1) ≡ planIn f s h
-  unfolding planLeft entriesFrom
+  unfolding planLeft rowPlansFrom
   plan-turn w i at x e l ea ee ex inv = go ∙ inv
     where
       go : planLeft (set (set (set (set w at (e .partner)) (at + 1) (e .looks)) (at + 2) x) (at + 3) (e .front)) (i + 1) ≡ planLeft w i
@@ -171,7 +171,7 @@ module _ (f s : List ℕ) (h : Shape) where
           rw (n, ex, ee, ea, k1, k2, k3, k4, add-one i)
 
   pub plan-end : (w : List ℕ) (i : ℕ) → 64 ≤ i → planLeft w i ≡ planIn f s h → w ≡ planIn f s h
-  unfolding planLeft entriesFrom
+  unfolding planLeft rowPlansFrom
   plan-end w i l inv = go ∙ inv
     where
       go : w ≡ planLeft w i
@@ -185,29 +185,29 @@ flag-is true = refl
 flag-is false = refl
 
 module _ (f s : List ℕ) (h : Shape) where
-  entry-read : (n i k : ℕ) → k < n → entryAt (entriesFrom f s h n i) k ≡ entryFor f s h (i + k)
-  unfolding entriesFrom entryAt
+  entry-read : (n i k : ℕ) → k < n → rowPlanAt (rowPlansFrom f s h n i) k ≡ rowPlanFor f s h (i + k)
+  unfolding rowPlansFrom rowPlanAt
   entry-read zero i k l = absurd (omega arith)
   entry-read (suc n) i zero l =
       let e : i + 0 ≡ i = omega arith in
-      rw e (λ j. record { partner = entryFor f s h i .partner; looks = entryFor f s h i .looks; free = flag-is (entryFor f s h i .free) j; front = entryFor f s h i .front })
+      rw e (λ j. record { partner = rowPlanFor f s h i .partner; looks = rowPlanFor f s h i .looks; free = flag-is (rowPlanFor f s h i .free) j; front = rowPlanFor f s h i .front })
   entry-read (suc n) i (suc k) l =
       let e : suc i + k ≡ i + suc k = omega arith in
       let k0 : 4 * suc k ≡ suc (suc (suc (suc (4 * k)))) = omega arith in
       let k1 : 4 * suc k + 1 ≡ suc (suc (suc (suc (4 * k + 1)))) = omega arith in
       let k2 : 4 * suc k + 2 ≡ suc (suc (suc (suc (4 * k + 2)))) = omega arith in
       let k3 : 4 * suc k + 3 ≡ suc (suc (suc (suc (4 * k + 3)))) = omega arith in
-      let all : List ℕ = entriesFrom f s h (suc n) i in
+      let all : List ℕ = rowPlansFrom f s h (suc n) i in
       (λ j. record { partner = getD all (k0 j) 0; looks = getD all (k1 j) 0; free = eqb (getD all (k2 j) 0) 1; front = getD all (k3 j) 0 })
       ∙ entry-read n (suc i) k (omega arith) ∙ rw e
 
   -- of a row that is there
-  pub impl-entry : (i : ℕ) → i < 32 → i < h .implementation .rows .count → entryAt (planIn f s h) i ≡ entryOf f s (h .implementation) (h .specification) true (i + 1)
-  unfolding planIn entryFor entryIn
+  pub impl-entry : (i : ℕ) → i < 32 → i < h .implementation .rows .count → rowPlanAt (planIn f s h) i ≡ rowPlanOf f s (h .implementation) (h .specification) true (i + 1)
+  unfolding planIn rowPlanFor rowPlanIn
   impl-entry i l u = let z : 0 + i ≡ i = omega arith in entry-read 64 0 i (omega arith) ∙ rw (z, lt-ltb i 32 l, le-leb (i + 1) (h .implementation .rows .count) (omega arith))
 
-  pub spec-entry : (i : ℕ) → i < 32 → i < h .specification .rows .count → entryAt (planIn f s h) (32 + i) ≡ entryOf f s (h .specification) (h .implementation) false (i + 1)
-  unfolding planIn entryFor entryIn
+  pub spec-entry : (i : ℕ) → i < 32 → i < h .specification .rows .count → rowPlanAt (planIn f s h) (32 + i) ≡ rowPlanOf f s (h .specification) (h .implementation) false (i + 1)
+  unfolding planIn rowPlanFor rowPlanIn
   spec-entry i l u =
       let z : 0 + (32 + i) ≡ 32 + i = omega arith in
       let e : 32 + i - 32 ≡ i = omega arith in

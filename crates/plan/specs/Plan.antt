@@ -1,4 +1,4 @@
--- What is worked out once for all states: which rows do not read the sum value, and the plan, an entry for each row. f the fields, s the
+-- What is worked out once for all states: which rows do not read the sum value, and the plan of each row. f the fields, s the
 -- starts of lines, p a process and o the other; rows count from 1.
 use mathlib.Core.Bool.{Bool, true, false, not, _&&_, _||_, cond}
 use mathlib.Core.List.{List, [], _∷_}
@@ -15,7 +15,7 @@ use Rattle.design.specs.declared.Process.{Process}
 use Rattle.design.specs.declared.Shape.{Shape}
 use Rattle.conjuncts.specs.Conjuncts.{frontOf}
 use Rattle.steps.specs.Arrays.{lineOf, rowWith}
-use Rattle.plan.specs.declared.Entry.{Entry}
+use Rattle.plan.specs.declared.RowPlan.{RowPlan}
 
 -- ---- rows
 
@@ -36,15 +36,15 @@ freeOf whole r = sumFreeF (r .condition) && (not whole || (sumFreeV (r .carries)
 unfoldable pub partnerFree : List ℕ → List ℕ → Process → ℕ → Bool → Bool
 partnerFree f s p k whole = freeOf whole (partnerBy f s p k)
 
--- ---- the entries
+-- ---- the plan of a row
 
 -- one look does for all sum values where nothing reads them
 unfoldable pub looksOf : Bool → ℕ → ℕ
 looksOf free span = cond free (min span 1) span
 
 -- of row k
-unfoldable pub entryOf : List ℕ → List ℕ → Process → Process → Bool → ℕ → Entry
-entryOf f s p o whole k =
+unfoldable pub rowPlanOf : List ℕ → List ℕ → Process → Process → Bool → ℕ → RowPlan
+rowPlanOf f s p o whole k =
     let r : Row = rowBy f s p k in
     let j : ℕ = rowWith f s o (r .action) in
     record {
@@ -54,37 +54,37 @@ entryOf f s p o whole k =
       front = frontOf f (lineOf s p k + 3) 32;
     }
 
-abbrev pub noEntry : Entry
-noEntry = record { partner = 0; looks = 0; free = false; front = 0 }
+abbrev pub noRowPlan : RowPlan
+noRowPlan = record { partner = 0; looks = 0; free = false; front = 0 }
 
 -- where there is one
-unfoldable pub entryIn : List ℕ → List ℕ → Process → Process → Bool → ℕ → Entry
-entryIn f s p o whole k = cond (leb k (p .rows .count)) (entryOf f s p o whole k) noEntry
+unfoldable pub rowPlanIn : List ℕ → List ℕ → Process → Process → Bool → ℕ → RowPlan
+rowPlanIn f s p o whole k = cond (leb k (p .rows .count)) (rowPlanOf f s p o whole k) noRowPlan
 
--- entry number i: the rows of the implementation, whole, then those of the specification, of which only the conditions count
-unfoldable pub entryFor : List ℕ → List ℕ → Shape → ℕ → Entry
-entryFor f s h i =
-    cond (ltb i 32) (entryIn f s (h .implementation) (h .specification) true (i + 1))
-    (entryIn f s (h .specification) (h .implementation) false (i - 32 + 1))
+-- number i of them: the rows of the implementation, whole, then those of the specification, of which only the conditions count
+unfoldable pub rowPlanFor : List ℕ → List ℕ → Shape → ℕ → RowPlan
+rowPlanFor f s h i =
+    cond (ltb i 32) (rowPlanIn f s (h .implementation) (h .specification) true (i + 1))
+    (rowPlanIn f s (h .specification) (h .implementation) false (i - 32 + 1))
 
--- ---- the plan: four numbers for each entry
+-- ---- all of them: four numbers for each row
 
 unfoldable pub flagOf : Bool → ℕ
 flagOf b = cond b 1 0
 
--- n entries from the i-th on
-unfoldable pub entriesFrom : List ℕ → List ℕ → Shape → ℕ → ℕ → List ℕ
-entriesFrom f s h zero i = []
-entriesFrom f s h (suc n) i =
-    let e : Entry = entryFor f s h i in
-    e .partner ∷ e .looks ∷ flagOf (e .free) ∷ e .front ∷ entriesFrom f s h n (suc i)
+-- n of them from the i-th on
+unfoldable pub rowPlansFrom : List ℕ → List ℕ → Shape → ℕ → ℕ → List ℕ
+rowPlansFrom f s h zero i = []
+rowPlansFrom f s h (suc n) i =
+    let e : RowPlan = rowPlanFor f s h i in
+    e .partner ∷ e .looks ∷ flagOf (e .free) ∷ e .front ∷ rowPlansFrom f s h n (suc i)
 
 unfoldable pub planIn : List ℕ → List ℕ → Shape → List ℕ
-planIn f s h = entriesFrom f s h 64 0
+planIn f s h = rowPlansFrom f s h 64 0
 
--- entry number i of any plan
-unfoldable pub entryAt : List ℕ → ℕ → Entry
-entryAt p i = record {
+-- number i of any
+unfoldable pub rowPlanAt : List ℕ → ℕ → RowPlan
+rowPlanAt p i = record {
   partner = getD p (4 * i) 0;
   looks = getD p (4 * i + 1) 0;
   free = eqb (getD p (4 * i + 2) 0) 1;

@@ -8,10 +8,10 @@ ghost use mathlib.Core.Path.{_≡_};
 ghost use Prim.Native.Nat.{_<_};
 ghost use lib.ListN.{drop};
 ghost use Rattle.design.specs.Line.{rowOf};
-ghost use Rattle.plan.specs.Plan.{valuesFree, freeOf, partnerFree, looksOf, flagOf, entryOf, noEntry, entryIn, entryFor, planIn, entryAt};
+ghost use Rattle.plan.specs.Plan.{valuesFree, freeOf, partnerFree, looksOf, flagOf, rowPlanOf, noRowPlan, rowPlanIn, rowPlanFor, planIn, rowPlanAt};
 
 // What the plan has of a row.
-pub struct Entry {
+pub struct RowPlan {
     // the number of its partner, 0 if there is none
     pub partner: u16,
     // how many sum values need a look
@@ -22,10 +22,10 @@ pub struct Entry {
     pub front: u16,
 }
 
-// An entry is four numbers.
+// It is four numbers.
 const NUMBERS: usize = 4;
 
-// A plan has an entry for each row of the implementation that there may be, and then for each of the specification.
+// A plan has them for each row of the implementation that there may be, and then for each of the specification.
 pub const ROWS: usize = limits::MAX_ROWS;
 
 pub const ENTRIES: usize = 2 * limits::MAX_ROWS * NUMBERS;
@@ -92,18 +92,18 @@ fn looks(free: bool, span: u16) -> u16
     1
 }
 
-// ---- the entries
+// ---- the plan of a row
 
-// The entry of row k of a process; whole rows are looked at with their partners, or only the conditions.
-fn entry_of<'a>(
+// The plan of row k of a process; whole rows are looked at with their partners, or only the conditions.
+fn row_plan_of<'a>(
     fields: &'a limits::Fields,
     starts: &'a limits::Starts,
     process: Process,
     other: Process,
     whole: bool,
     k: u16,
-) -> Entry
-    ensures { λ r. ⌜ r ≡ entryOf (now (fields .entry)) (now (starts .entry)) process other whole k ⌝ }
+) -> RowPlan
+    ensures { λ r. ⌜ r ≡ rowPlanOf (now (fields .entry)) (now (starts .entry)) process other whole k ⌝ }
 {
     let line = steps::line_of(starts, process, k);
     let action = layout::field_of(fields, line, 1);
@@ -111,7 +111,7 @@ fn entry_of<'a>(
     let partner = steps::row_with(fields, starts, other, action);
     let free = row_free(fields, line, process.parameters.count, whole)
         & partner_free(fields, starts, other, partner, whole);
-    Entry {
+    RowPlan {
         partner: partner,
         looks: looks(free, span),
         free: row_free(fields, line, process.parameters.count, false),
@@ -120,20 +120,20 @@ fn entry_of<'a>(
 }
 
 // The same where there is a row k.
-fn entry_in<'a>(
+fn row_plan_in<'a>(
     fields: &'a limits::Fields,
     starts: &'a limits::Starts,
     process: Process,
     other: Process,
     whole: bool,
     k: u16,
-) -> Entry
-    ensures { λ r. ⌜ r ≡ entryIn (now (fields .entry)) (now (starts .entry)) process other whole k ⌝ }
+) -> RowPlan
+    ensures { λ r. ⌜ r ≡ rowPlanIn (now (fields .entry)) (now (starts .entry)) process other whole k ⌝ }
 {
     if k <= process.rows.count as u16 {
-        return entry_of(fields, starts, process, other, whole, k);
+        return row_plan_of(fields, starts, process, other, whole, k);
     }
-    Entry {
+    RowPlan {
         partner: 0,
         looks: 0,
         free: false,
@@ -141,20 +141,20 @@ fn entry_in<'a>(
     }
 }
 
-// Entry number i: of the implementation's rows whole rows count, of the specification's only the conditions (criterion 7).
-fn entry_for<'a>(
+// RowPlan number i: of the implementation's rows whole rows count, of the specification's only the conditions (criterion 7).
+fn row_plan_for<'a>(
     fields: &'a limits::Fields,
     starts: &'a limits::Starts,
     shape: Shape,
     i: usize,
-) -> Entry
+) -> RowPlan
     requires { ⌜ i < 64 ⌝ }
-    ensures { λ r. ⌜ r ≡ entryFor (now (fields .entry)) (now (starts .entry)) shape i ⌝ }
+    ensures { λ r. ⌜ r ≡ rowPlanFor (now (fields .entry)) (now (starts .entry)) shape i ⌝ }
 {
     let implementation = shape.implementation;
     let specification = shape.specification;
     if i < ROWS {
-        entry_in(
+        row_plan_in(
             fields,
             starts,
             implementation,
@@ -163,7 +163,7 @@ fn entry_for<'a>(
             i as u16 + 1,
         )
     } else {
-        entry_in(
+        row_plan_in(
             fields,
             starts,
             specification,
@@ -180,7 +180,7 @@ fn flag(b: bool) -> u16
     if b { 1 } else { 0 }
 }
 
-// All entries.
+// All of them.
 pub fn plan<'a>(
     fields: &'a limits::Fields,
     starts: &'a limits::Starts,
@@ -191,24 +191,24 @@ pub fn plan<'a>(
     let mut out = [0u16; ENTRIES];
     let mut i = 0;
     while i < 2 * ROWS {
-        let entry = entry_for(fields, starts, shape, i);
+        let row = row_plan_for(fields, starts, shape, i);
         let at = NUMBERS * i;
-        out[at] = entry.partner;
-        out[at + 1] = entry.looks;
-        out[at + 2] = flag(entry.free);
-        out[at + 3] = entry.front;
+        out[at] = row.partner;
+        out[at + 1] = row.looks;
+        out[at + 2] = flag(row.free);
+        out[at + 3] = row.front;
         i += 1;
     }
     out
 }
 
-// Entry number i of a plan.
-pub fn entry_at(plan: &[u16; ENTRIES], i: usize) -> Entry
+// RowPlan number i of a plan.
+pub fn row_plan_at(plan: &[u16; ENTRIES], i: usize) -> RowPlan
     requires { ⌜ i < 64 ⌝ }
-    ensures { λ r. ⌜ r ≡ entryAt (now (plan .entry)) i ⌝ }
+    ensures { λ r. ⌜ r ≡ rowPlanAt (now (plan .entry)) i ⌝ }
 {
     let at = NUMBERS * i;
-    Entry {
+    RowPlan {
         partner: plan[at],
         looks: plan[at + 1],
         free: plan[at + 2] == 1,

@@ -44,8 +44,8 @@ use Rattle.steps.proofs.States as states
 use Rattle.conjuncts.specs.Conjuncts.{frontOf, guardIn}
 use Rattle.conjuncts.proofs.Conjuncts.{guards}
 use Rattle.conjuncts.specs.declared.Guarded.{Guarded}
-use Rattle.plan.specs.Plan.{rowBy, partnerBy, freeOf, partnerFree, looksOf, entryOf, planIn, entryAt}
-use Rattle.plan.specs.declared.Entry.{Entry}
+use Rattle.plan.specs.Plan.{rowBy, partnerBy, freeOf, partnerFree, looksOf, rowPlanOf, planIn, rowPlanAt}
+use Rattle.plan.specs.declared.RowPlan.{RowPlan}
 use Rattle.plan.proofs.Planned.{impl-entry, spec-entry}
 use Rattle.state_passes.specs.Quick.{rowFor, keptIn, answeredIn, stepIn, stepOfRow, seen, looksIn, rowIn, implIn, replyLooks, replyIn, specIn, passesIn}
 use Rattle.state_passes.specs.declared.Seen.{Seen}
@@ -168,7 +168,7 @@ module _ (f s : List ℕ) (h : Shape) (v t : List ℕ) (l : ℕ) where
   on-guarded : (z : List ℕ) (n e : ℕ) → enabledB (line.rowOf n (drop l f)) z e ≡ front z .holds && rest z e
   on-guarded z n e = rw (place f l 3 refl) (guards f z e 32 (l + 3) .says)
 
-  module _ (en : Entry) where
+  module _ (en : RowPlan) where
     module _ (m : ℕ) where
       abbrev row : Row
       row = line.rowOf (h .implementation .parameters .count) (drop l f)
@@ -394,16 +394,16 @@ module _ (f s : List ℕ) (h : Shape) (fits : Fits h) (v : State) where
   impl-long : (i : ℕ) → length (implRow i .next) ≡ n1
   impl-long i = states.in-length n1 _
 
-  abbrev implEntry : ℕ → Entry
-  implEntry i = record {
+  abbrev implPlan : ℕ → RowPlan
+  implPlan i = record {
     partner = j (implRow i) (impl-long i);
     looks = looks (implRow i) (impl-long i);
     free = sumFreeF (implRow i .condition);
     front = frontOf f (getD s (h .implementation .rows .first + i) 0 + 3) 32;
   }
 
-  impl-plan : (i : ℕ) → i < rows → entryAt p i ≡ implEntry i
-  unfolding entryOf partnerFree rowWith
+  impl-plan : (i : ℕ) → i < rows → rowPlanAt p i ≡ implPlan i
+  unfolding rowPlanOf partnerFree rowWith
   impl-plan i l =
       let few = fits .implementation .rows in
       impl-entry f s h i (omega arith) l
@@ -416,13 +416,13 @@ module _ (f s : List ℕ) (h : Shape) (fits : Fits h) (v : State) where
   quietAt i = allQuiet (implRow i) (impl-long i)
 
   abbrev seenAt : ℕ → Seen
-  seenAt i = rowIn f s h (i + 1) (entryAt p i) v t (measureIn f s h v)
+  seenAt i = rowIn f s h (i + 1) (rowPlanAt p i) v t (measureIn f s h v)
 
   row-seen : (i : ℕ) → i < rows → seenAt i ≡ seen (holdsAt i) (quietAt i)
   unfolding rowIn measureIn
   row-seen i l =
       rw (impl-plan i l, row-by f s (h .implementation) i, row-line f s (h .implementation) i)
-      (guarded-row f s h v t (getD s (h .implementation .rows .first + i) 0) (implEntry i) (measureAt d v)
+      (guarded-row f s h v t (getD s (h .implementation .rows .first + i) 0) (implPlan i) (measureAt d v)
       ∙ rw (all-held (implRow i) (impl-long i), quiet-held (implRow i) (impl-long i)))
 
   abbrev rowsHold : Bool
@@ -484,26 +484,26 @@ module _ (f s : List ℕ) (h : Shape) (fits : Fits h) (v : State) where
         ≡ allIn replies (w .span) 0
     reply-held = all-alike _ replies (looksOf otherFree (w .span)) 0 replied-held ∙ all-looks replies otherFree (w .span) replies-once
 
-  abbrev specEntry : ℕ → Entry
-  specEntry i = record {
+  abbrev specPlan : ℕ → RowPlan
+  specPlan i = record {
     partner = rowNumber (d .impl) (specRow i .action);
     looks = looksOf (otherFree (specRow i)) (specRow i .span);
     free = sumFreeF (specRow i .condition);
     front = frontOf f (getD s (h .specification .rows .first + i) 0 + 3) 32;
   }
 
-  spec-plan : (i : ℕ) → i < h .specification .rows .count → entryAt p (32 + i) ≡ specEntry i
-  unfolding entryOf partnerFree rowWith
+  spec-plan : (i : ℕ) → i < h .specification .rows .count → rowPlanAt p (32 + i) ≡ specPlan i
+  unfolding rowPlanOf partnerFree rowWith
   spec-plan i l =
       let few = fits .specification .rows in
       spec-entry f s h i (omega arith) l
       ∙ rw (partner-by f s (h .implementation) (rowBy f s (h .specification) (i + 1) .action), row-by f s (h .specification) i, row-line f s (h .specification) i)
 
-  row-replied : (i : ℕ) → i < h .specification .rows .count → replyIn f s h (i + 1) (entryAt p (32 + i)) v t ≡ allIn (replies (specRow i)) (specRow i .span) 0
+  row-replied : (i : ℕ) → i < h .specification .rows .count → replyIn f s h (i + 1) (rowPlanAt p (32 + i)) v t ≡ allIn (replies (specRow i)) (specRow i .span) 0
   unfolding replyIn
   row-replied i l =
       rw (spec-plan i l, row-line f s (h .specification) i)
-      (guarded-reply f s h v t (getD s (h .specification .rows .first + i) 0) (specEntry i) ∙ reply-held (specRow i))
+      (guarded-reply f s h v t (getD s (h .specification .rows .first + i) 0) (specPlan i) ∙ reply-held (specRow i))
 
   abbrev sevens : Bool
   sevens = allRows (d .spec .rows) (λ z e. enabledB z y e ⇒ enabledB (partner (d .impl) (z .action)) v e)
@@ -511,7 +511,7 @@ module _ (f s : List ℕ) (h : Shape) (fits : Fits h) (v : State) where
   spec-held : specIn f s h p v t ≡ sevens
   unfolding specIn
   spec-held =
-      all-in (λ i. replyIn f s h (i + 1) (entryAt p (32 + i)) v t) (λ i. allIn (replies (specRow i)) (specRow i .span) 0) (h .specification .rows .count) 0
+      all-in (λ i. replyIn f s h (i + 1) (rowPlanAt p (32 + i)) v t) (λ i. allIn (replies (specRow i)) (specRow i .span) 0) (h .specification .rows .count) 0
       (λ i z u. row-replied i (omega arith))
       ∙ each-all (λ z. allIn (λ e. enabledB z y e ⇒ enabledB (partner (d .impl) (z .action)) v e) (z .span) 0) (line.rowOf n2) (lineFrom f s) (h .specification .rows .count)
       (h .specification .rows .first)

@@ -26,8 +26,8 @@ use Rattle.layout.specs.Sizes.{Fits}
 use Rattle.steps.specs.Arrays.{padded, valuesAt, lineOf, belowIn, sameIn, insideIn, mappedIn, measureIn}
 use Rattle.conjuncts.specs.Conjuncts.{guardIn}
 use Rattle.conjuncts.specs.declared.Guarded.{Guarded}
-use Rattle.plan.specs.Plan.{rowBy, partnerBy, entryAt}
-use Rattle.plan.specs.declared.Entry.{Entry}
+use Rattle.plan.specs.Plan.{rowBy, partnerBy, rowPlanAt}
+use Rattle.plan.specs.declared.RowPlan.{RowPlan}
 use Rattle.state_passes.specs.Quick.{rowFor, left, onAt, knownIn, keptIn, answeredIn, stepIn, seen, lookIn, looksIn, rowIn, implIn, repliedIn, replyLooks, replyIn, specIn, passesIn}
 use Rattle.state_passes.specs.declared.Seen.{Seen}
 use Rattle.state_passes.specs.declared.Row.{Row}
@@ -220,7 +220,7 @@ module _ (f s v t : List ℕ) (h : Shape) (row : Row) (m : ℕ) where
   row-end e q l inv = seen-end held off told (row .looks) q e l ∙ inv
 
 -- the conjuncts in front
-module _ (f s v t : List ℕ) (h : Shape) (k m line : ℕ) (en : Entry) (g : Guarded) (el : line ≡ lineOf s (h .implementation) k) (eg : g ≡ guardIn f v 0 (en .front) (line + 3) 32) where
+module _ (f s v t : List ℕ) (h : Shape) (k m line : ℕ) (en : RowPlan) (g : Guarded) (el : line ≡ lineOf s (h .implementation) k) (eg : g ≡ guardIn f v 0 (en .front) (line + 3) 32) where
   pub row-off : not (g .holds) ≡ true → record { holds = true; quiet = true } ≡ rowIn f s h k en v t m
   unfolding rowIn
   row-off y = rw (← el, ← eg, not-true (g .holds) y)
@@ -237,7 +237,7 @@ module _ (f s p v t : List ℕ) (h : Shape) (m : ℕ) where
   rows = h .implementation .rows .count
 
   abbrev rowSeen : ℕ → Seen
-  rowSeen i = rowIn f s h (i + 1) (entryAt p i) v t m
+  rowSeen i = rowIn f s h (i + 1) (rowPlanAt p i) v t m
 
   abbrev holdsAt : ℕ → Bool
   holdsAt i = rowSeen i .holds
@@ -252,7 +252,7 @@ module _ (f s p v t : List ℕ) (h : Shape) (m : ℕ) where
   unfolding implLeft implIn
   impl-begin = seen-begin holdsAt quietAt (λ b. b) rows
 
-  module _ (a : Bool) (i : ℕ) (e : Entry) (r : Seen) (l : i < rows) (ee : e ≡ entryAt p i) (er : r ≡ rowIn f s h (i + 1) e v t m) (inv : implLeft a i ≡ implIn f s h p v t m) where
+  module _ (a : Bool) (i : ℕ) (e : RowPlan) (r : Seen) (l : i < rows) (ee : e ≡ rowPlanAt p i) (er : r ≡ rowIn f s h (i + 1) e v t m) (inv : implLeft a i ≡ implIn f s h p v t m) where
     is : r ≡ rowSeen i
     is = er ∙ ap (λ x. rowIn f s h (i + 1) x v t m) ee
 
@@ -326,7 +326,7 @@ module _ (f s v t : List ℕ) (p : Process) (row : Row) where
   unfolding replyLeft
   reply-end e l inv = sym (all-end answers (row .looks) e l) ∙ inv
 
-module _ (f s v t : List ℕ) (h : Shape) (k line : ℕ) (en : Entry) (g : Guarded) (el : line ≡ lineOf s (h .specification) k) (eg : g ≡ guardIn f t 0 (en .front) (line + 3) 32) where
+module _ (f s v t : List ℕ) (h : Shape) (k line : ℕ) (en : RowPlan) (g : Guarded) (el : line ≡ lineOf s (h .specification) k) (eg : g ≡ guardIn f t 0 (en .front) (line + 3) 32) where
   pub reply-guarded : not (g .holds) ≡ true → true ≡ replyIn f s h k en v t
   unfolding replyIn
   reply-guarded y = rw (← el, ← eg, not-true (g .holds) y)
@@ -337,7 +337,7 @@ module _ (f s v t : List ℕ) (h : Shape) (k line : ℕ) (en : Entry) (g : Guard
 
 module _ (f s p v t : List ℕ) (h : Shape) where
   abbrev replied : ℕ → Bool
-  replied i = replyIn f s h (i + 1) (entryAt p (32 + i)) v t
+  replied i = replyIn f s h (i + 1) (rowPlanAt p (32 + i)) v t
 
   unfoldable pub specLeft : ℕ → Bool
   specLeft i = allIn replied (h .specification .rows .count - i) i
@@ -346,7 +346,7 @@ module _ (f s p v t : List ℕ) (h : Shape) where
   unfolding specLeft specIn
   spec-begin = all-begin replied (h .specification .rows .count)
 
-  module _ (i : ℕ) (e : Entry) (b : Bool) (l : i < h .specification .rows .count) (ee : e ≡ entryAt p (32 + i)) (eb : b ≡ replyIn f s h (i + 1) e v t)
+  module _ (i : ℕ) (e : RowPlan) (b : Bool) (l : i < h .specification .rows .count) (ee : e ≡ rowPlanAt p (32 + i)) (eb : b ≡ replyIn f s h (i + 1) e v t)
       (inv : specLeft i ≡ specIn f s h p v t) where
     answered : replied i ≡ b
     answered = sym (eb ∙ ap (λ x. replyIn f s h (i + 1) x v t) ee)

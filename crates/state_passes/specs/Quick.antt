@@ -19,14 +19,14 @@ use Rattle.design.specs.declared.Shape.{Shape}
 use Rattle.steps.specs.Arrays.{padded, valuesAt, lineOf, belowIn, sameIn, insideIn, mappedIn, measureIn}
 use Rattle.conjuncts.specs.Conjuncts.{guardIn}
 use Rattle.conjuncts.specs.declared.Guarded.{Guarded}
-use Rattle.plan.specs.Plan.{rowBy, partnerBy, entryAt}
-use Rattle.plan.specs.declared.Entry.{Entry}
+use Rattle.plan.specs.Plan.{rowBy, partnerBy, rowPlanAt}
+use Rattle.plan.specs.declared.RowPlan.{RowPlan}
 use Rattle.state_passes.specs.declared.Seen.{Seen}
 use Rattle.state_passes.specs.declared.Row.{Row}
 
 -- ---- a row that is looked at
 
-abbrev pub rowFor : Guarded → Entry → Bool → Row
+abbrev pub rowFor : Guarded → RowPlan → Bool → Row
 rowFor g e b = record { at = g .at; depth = g .depth; free = e .free; looks = e .looks; internal = b; partner = e .partner }
 
 -- what is left of its condition; whether that holds for the sum value e, taken for 0 where it is said to be sum-free
@@ -84,14 +84,14 @@ looksIn f s h row v t m =
     seen (allIn (λ e. onAt f row v e ⇒ stepIn f s h row past v t m e) (row .looks) 0) (not (row .internal) || allIn (λ e. not (onAt f row v e)) (row .looks) 0)
 
 -- row k, by an entry of a plan
-unfoldable pub rowIn : List ℕ → List ℕ → Shape → ℕ → Entry → List ℕ → List ℕ → ℕ → Seen
+unfoldable pub rowIn : List ℕ → List ℕ → Shape → ℕ → RowPlan → List ℕ → List ℕ → ℕ → Seen
 rowIn f s h k e v t m =
     let front = guardIn f v 0 (e .front) (lineOf s (h .implementation) k + 3) 32 in
     cond (front .holds) (looksIn f s h (rowFor front e (internalB (rowBy f s (h .implementation) k))) v t m) (seen true true)
 
 unfoldable pub implIn : List ℕ → List ℕ → Shape → List ℕ → List ℕ → List ℕ → ℕ → Seen
 implIn f s h p v t m =
-    let row : ℕ → Seen = λ i. rowIn f s h (i + 1) (entryAt p i) v t m in
+    let row : ℕ → Seen = λ i. rowIn f s h (i + 1) (rowPlanAt p i) v t m in
     seen (allIn (λ i. row i .holds) (h .implementation .rows .count) 0) (allIn (λ i. row i .quiet) (h .implementation .rows .count) 0)
 
 -- ---- the rows of the specification
@@ -102,13 +102,13 @@ repliedIn f s p row first v t e = knownIn f row t first e .holds ⇒ enabledB (p
 unfoldable pub replyLooks : List ℕ → List ℕ → Process → Row → List ℕ → List ℕ → Bool
 replyLooks f s p row v t = allIn (λ e. onAt f row t e ⇒ enabledB (partnerBy f s p (row .partner)) v e) (row .looks) 0
 
-unfoldable pub replyIn : List ℕ → List ℕ → Shape → ℕ → Entry → List ℕ → List ℕ → Bool
+unfoldable pub replyIn : List ℕ → List ℕ → Shape → ℕ → RowPlan → List ℕ → List ℕ → Bool
 replyIn f s h k e v t =
     let front = guardIn f t 0 (e .front) (lineOf s (h .specification) k + 3) 32 in
     cond (front .holds) (replyLooks f s (h .implementation) (rowFor front e false) v t) true
 
 unfoldable pub specIn : List ℕ → List ℕ → Shape → List ℕ → List ℕ → List ℕ → Bool
-specIn f s h p v t = allIn (λ i. replyIn f s h (i + 1) (entryAt p (32 + i)) v t) (h .specification .rows .count) 0
+specIn f s h p v t = allIn (λ i. replyIn f s h (i + 1) (rowPlanAt p (32 + i)) v t) (h .specification .rows .count) 0
 
 -- ---- the state
 

@@ -7,7 +7,7 @@ use conjuncts::Guarded;
 use design::Process;
 use design::Shape;
 use eval::Held;
-use plan::Entry;
+use plan::RowPlan;
 ghost use mathlib.Core.Path.{_≡_};
 ghost use Rattle.layout.specs.Sizes.{Fits};
 ghost use Rattle.state_passes.specs.Quick.{knownIn, keptIn, answeredIn, stepIn, lookIn, looksIn, rowFor, rowIn, implIn, repliedIn, replyLooks, replyIn, specIn, passesIn};
@@ -32,17 +32,17 @@ pub struct Row {
     pub partner: u16,
 }
 
-// The row of an entry, of whose condition the conjuncts in front were evaluated.
-fn row_for(front: Guarded, entry: Entry, internal: bool) -> Row
-    ensures { λ r. ⌜ r ≡ rowFor front entry internal ⌝ }
+// The row of a plan, of whose condition the conjuncts in front were evaluated.
+fn row_for(front: Guarded, planned: RowPlan, internal: bool) -> Row
+    ensures { λ r. ⌜ r ≡ rowFor front planned internal ⌝ }
 {
     Row {
         at: front.at,
         depth: front.depth,
-        free: entry.free,
-        looks: entry.looks,
+        free: planned.free,
+        looks: planned.looks,
         internal: internal,
-        partner: entry.partner,
+        partner: planned.partner,
     }
 }
 
@@ -216,15 +216,15 @@ fn row_seen<'a>(
     starts: &'a limits::Starts,
     shape: Shape,
     k: u16,
-    entry: Entry,
+    planned: RowPlan,
     v: &limits::Values,
     t: &limits::Values,
     m: u16,
 ) -> Seen
-    ensures { λ r. ⌜ r ≡ rowIn (now (fields .entry)) (now (starts .entry)) shape k entry (now (v .entry)) (now (t .entry)) m ⌝ }
+    ensures { λ r. ⌜ r ≡ rowIn (now (fields .entry)) (now (starts .entry)) shape k planned (now (v .entry)) (now (t .entry)) m ⌝ }
 {
     let line = steps::line_of(starts, shape.implementation, k);
-    let front = conjuncts::guard(fields, line as usize + 3, v, 0, entry.front);
+    let front = conjuncts::guard(fields, line as usize + 3, v, 0, planned.front);
     if !front.holds {
         return Seen {
             holds: true,
@@ -232,7 +232,7 @@ fn row_seen<'a>(
         };
     }
     let internal = layout::field_of(fields, line, 1) == 0;
-    let row = row_for(front, entry, internal);
+    let row = row_for(front, planned, internal);
     row_looks(fields, starts, shape, row, v, t, m)
 }
 
@@ -252,8 +252,8 @@ fn rows_seen<'a>(
     let mut quiet = true;
     let mut i = 0;
     while i < shape.implementation.rows.count {
-        let entry = plan::entry_at(plan, i as usize);
-        let seen = row_seen(fields, starts, shape, i as u16 + 1, entry, v, t, m);
+        let planned = plan::row_plan_at(plan, i as usize);
+        let seen = row_seen(fields, starts, shape, i as u16 + 1, planned, v, t, m);
         if !seen.holds {
             return Seen {
                 holds: false,
@@ -326,18 +326,18 @@ fn row_replied<'a>(
     starts: &'a limits::Starts,
     shape: Shape,
     k: u16,
-    entry: Entry,
+    planned: RowPlan,
     v: &limits::Values,
     t: &limits::Values,
 ) -> bool
-    ensures { λ r. ⌜ r ≡ replyIn (now (fields .entry)) (now (starts .entry)) shape k entry (now (v .entry)) (now (t .entry)) ⌝ }
+    ensures { λ r. ⌜ r ≡ replyIn (now (fields .entry)) (now (starts .entry)) shape k planned (now (v .entry)) (now (t .entry)) ⌝ }
 {
     let line = steps::line_of(starts, shape.specification, k);
-    let front = conjuncts::guard(fields, line as usize + 3, t, 0, entry.front);
+    let front = conjuncts::guard(fields, line as usize + 3, t, 0, planned.front);
     if !front.holds {
         return true;
     }
-    let row = row_for(front, entry, false);
+    let row = row_for(front, planned, false);
     reply_looks(fields, starts, shape.implementation, row, v, t)
 }
 
@@ -355,8 +355,8 @@ fn rows_replied<'a>(
 {
     let mut i = 0;
     while i < shape.specification.rows.count {
-        let entry = plan::entry_at(plan, plan::ROWS + i as usize);
-        if !row_replied(fields, starts, shape, i as u16 + 1, entry, v, t) {
+        let planned = plan::row_plan_at(plan, plan::ROWS + i as usize);
+        if !row_replied(fields, starts, shape, i as u16 + 1, planned, v, t) {
             return false;
         }
         i += 1;

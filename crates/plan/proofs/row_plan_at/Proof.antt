@@ -1,15 +1,15 @@
 -- Its four numbers.
 use borrow.Author.Needs.{needs}
-use Rattle.plan.specs.Plan.{entryAt}
-use Rattle.plan.proofs.entry_at.Statement.{statement}
-use Rattle.plan.proofs.entry_at.Tie as tie
+use Rattle.plan.specs.Plan.{rowPlanAt}
+use Rattle.plan.proofs.row_plan_at.Statement.{statement}
+use Rattle.plan.proofs.row_plan_at.Tie as tie
 
 returns : tie.Need-returns
-unfolding entryAt
+unfolding rowPlanAt
 returns c = search needs
 
-pub entry-at-spec : {M : Type 1} → statement M
-entry-at-spec =
+pub row-plan-at-spec : {M : Type 1} → statement M
+row-plan-at-spec =
     tie.close
     (tie.spec
     (λ c. search needs)

@@ -1,11 +1,11 @@
 -- Where there is a row.
 use borrow.Author.Needs.{needs}
 use Rattle.plan.proofs.Planned as laws
-use Rattle.plan.proofs.entry_in.Statement.{statement}
-use Rattle.plan.proofs.entry_in.Tie as tie
+use Rattle.plan.proofs.row_plan_in.Statement.{statement}
+use Rattle.plan.proofs.row_plan_in.Tie as tie
 
-pub entry-in-spec : {M : Type 1} → statement M
-entry-in-spec =
+pub row-plan-in-spec : {M : Type 1} → statement M
+row-plan-in-spec =
     tie.close
     (tie.spec
     (λ c. search needs)

@@ -1,11 +1,11 @@
 -- The implementation's rows come first.
 use borrow.Author.Needs.{needs}
 use Rattle.plan.proofs.Planned as laws
-use Rattle.plan.proofs.entry_for.Statement.{statement}
-use Rattle.plan.proofs.entry_for.Tie as tie
+use Rattle.plan.proofs.row_plan_for.Statement.{statement}
+use Rattle.plan.proofs.row_plan_for.Tie as tie
 
-pub entry-for-spec : {M : Type 1} → statement M
-entry-for-spec =
+pub row-plan-for-spec : {M : Type 1} → statement M
+row-plan-for-spec =
     tie.close
     (tie.spec
     (λ c. search needs)
