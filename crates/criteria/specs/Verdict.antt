@@ -1,7 +1,6 @@
 -- The verdict of a check and its report, and which verdict a design has to get: demand 2 (00; 01, "The desk").
 use mathlib.Core.Path.{_≡_}
 use mathlib.Core.Logic.{_↔_}
-use Prim.Native.Nat.{ℕ}
 use Rattle.verdicts.specs.declared.Report as words
 use Rattle.criteria.specs.Design.{Design}
 use Rattle.criteria.specs.Criteria.{Meets}

@@ -11,7 +11,6 @@ use Rattle.layout.specs.Sizes.{stateCountIn, initialNumberIn}
 use Rattle.loader.specs.declared.Loaded.{Loaded}
 use Rattle.loader.specs.Load.{loadedOf}
 use Rattle.walk.specs.Walk.{startIn, planOf, walkedBy}
-use Rattle.verdicts.specs.declared.Failure.{Failure}
 use Rattle.verdicts.specs.declared.Walked.{Walked}
 use Rattle.desk.specs.Answers.{loadNumber, advanceCount}
 use Rattle.walk.proofs.Told.{count-within}

@@ -18,7 +18,7 @@ use Rattle.criteria.specs.Design.{Parameter}
 use Rattle.design.specs.Loaded.{lineFrom, eachLine, sections}
 use Rattle.design.specs.declared.Counts.{Counts}
 use Rattle.design.specs.declared.Shape.{Shape}
-use Rattle.layout.specs.Sizes.{countsFit, Fit, sectionsOf, shapeOf, FitsIn, Fits, parametersFrom, sizesOf, initialsOf, productUpTo, stateCountIn, numberUpTo, initialNumberIn}
+use Rattle.layout.specs.Sizes.{countsFit, Fit, sectionsOf, shapeOf, Fits, parametersFrom, sizesOf, initialsOf, productUpTo, stateCountIn, numberUpTo, initialNumberIn}
 
 pub fit : (c : Counts) (b : Bool) → b ≡ countsFit c → b ≡ true → Fit c
 fit c b said so =

@@ -17,10 +17,9 @@ use Rattle.decision.specs.Examine.{trial, firstFailing}
 use Rattle.design.specs.Loaded.{designAt}
 use Rattle.design.specs.declared.Shape.{Shape}
 use Rattle.layout.specs.Sizes.{Fits}
-use Rattle.steps.specs.Arrays.{padded, rowSpan, mappedIn}
+use Rattle.steps.specs.Arrays.{rowSpan, mappedIn}
 use Rattle.steps.proofs.States.{rows-count}
 use Rattle.lowest_failure.specs.Search.{Known, toldPlace, ofImpl, ofSpec, holdsFor, spanFor, rowsFor, inRow, inRows, inCriteria}
-use Rattle.lowest_failure.specs.declared.Here.{Here}
 use Rattle.verdicts.specs.declared.Place.{Place}
 use Rattle.lowest_failure.specs.declared.Finding.{Finding}
 use Rattle.lowest_failure.specs.declared.Finding.the-variants.{Nothing, Found}

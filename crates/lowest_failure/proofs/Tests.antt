@@ -20,9 +20,8 @@ use Rattle.criteria.specs.Rows.{noRow, rowAt, internalTest}
 use Rattle.terms.specs.Tree.{evalV}
 use Rattle.decision.specs.Tests.{enabledB, internalB, focusB, rowNumber, holds2, holds3, holds4, holds5, holds6, holds7, holds8, holds9}
 use Rattle.decision.proofs.Find.{Found, Missing, find, found-partner}
-use Rattle.design.specs.Loaded.{processIn, designAt}
+use Rattle.design.specs.Loaded.{designAt}
 use Rattle.design.specs.declared.Shape.{Shape}
-use Rattle.layout.specs.Sizes.{Fits}
 use Rattle.steps.specs.Arrays.{padded, stepOf, rowStep, rowSpan, rowWith, belowIn, sameIn, insideIn, mappedIn, measureIn}
 use Rattle.steps.specs.declared.Step.{Step}
 use Rattle.steps.proofs.States as states

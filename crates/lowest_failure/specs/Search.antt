@@ -3,7 +3,6 @@
 -- (proofs/Search).
 use mathlib.Core.Path.{_≡_}
 use mathlib.Core.Bool.{Bool, not, cond}
-use mathlib.Core.List.{List}
 use Prim.Native.Nat.{ℕ, suc}
 use lib.Dec.{eqb}
 use Rattle.foundation.specs.First.{Outcome, pass, fail, failIf, firstIn, allIn}

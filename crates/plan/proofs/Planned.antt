@@ -1,8 +1,8 @@
 -- What the functions that make the plan return, as specs/Plan says it, and the turns of their loops; and that an entry of the plan of a
 -- design is that of its row.
 use mathlib.Core.Path.{_≡_, refl, sym, _∙_, ap}
-use mathlib.Core.Bool.{Bool, true, false, not, _&&_, and-true, cond}
-use mathlib.Core.List.{List, _∷_, _++_, append-nil}
+use mathlib.Core.Bool.{Bool, true, false, not, _&&_, and-true}
+use mathlib.Core.List.{List, _++_, append-nil}
 use Prim.Native.Nat.{ℕ, zero, suc, _+_, _-_, _*_, _≤_, _<_}
 use native.Mathlib.Numerals.{add-one}
 use native.Mathlib.Omega.{arith}

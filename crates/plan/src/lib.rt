@@ -8,7 +8,7 @@ ghost use mathlib.Core.Path.{_≡_};
 ghost use Prim.Native.Nat.{_<_};
 ghost use lib.ListN.{drop};
 ghost use Rattle.design.specs.Line.{rowOf};
-ghost use Rattle.plan.specs.Plan.{valuesFree, freeOf, partnerFree, looksOf, flagOf, rowPlanOf, noRowPlan, rowPlanIn, rowPlanFor, planIn, rowPlanAt};
+ghost use Rattle.plan.specs.Plan.{valuesFree, freeOf, partnerFree, looksOf, flagOf, rowPlanOf, rowPlanIn, rowPlanFor, planIn, rowPlanAt};
 
 // What the plan has of a row.
 pub struct RowPlan {

@@ -1,5 +1,4 @@
 -- The specification's in criterion 7.
-use borrow.Author.Needs.{needs}
 use Rattle.lowest_failure.proofs.Search as laws
 use Rattle.lowest_failure.proofs.rows_for.Statement.{statement}
 use Rattle.lowest_failure.proofs.rows_for.Tie as tie

@@ -1,5 +1,4 @@
 -- A flag is 1 or 0.
-use borrow.Author.Needs.{needs}
 use Rattle.plan.proofs.Planned as laws
 use Rattle.plan.proofs.flag.Statement.{statement}
 use Rattle.plan.proofs.flag.Tie as tie

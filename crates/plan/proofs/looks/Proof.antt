@@ -1,5 +1,4 @@
 -- One look does where nothing reads the sum value.
-use borrow.Author.Needs.{needs}
 use Rattle.plan.proofs.Planned as laws
 use Rattle.plan.proofs.looks.Statement.{statement}
 use Rattle.plan.proofs.looks.Tie as tie
