@@ -4,7 +4,7 @@ use Prim.Native.Nat.{ℕ}
 use mathlib.Core.Bool.{Bool, true, false, cond}
 use lib.Dec.{eqb}
 use Rattle.verdicts.specs.declared.Report.{Report}
-use Rattle.writer.specs.Report.{report}
+use Rattle.verdicts.specs.Report.{report}
 use Rattle.verdicts.specs.declared.Failure.{Failure}
 use Rattle.verdicts.specs.declared.Outcome.{Outcome}
 use Rattle.verdicts.specs.declared.Outcome.the-variants.{Pass, Fail}
@@ -49,14 +49,14 @@ verdictNumbers verdict.Accepted = report 0 0 0 0 0
 verdictNumbers (verdict.Failed f) = report 1 (f .criterion) (f .state) (f .row) (f .sum)
 verdictNumbers (verdict.TurnedDown k) = report k 0 0 0 0
 
--- ---- the number that a call returns by the desk's phase; 0 is done
+-- ---- the number that a call returns by the desk's phase; of a load, an advance or a drop 0 is done
 
 -- 12. "Load on a desk that isn't empty."; on an empty one the text's faults come after this
-abbrev pub heldNumber : Phase → ℕ
-heldNumber phase.Empty = 0
-heldNumber phase.Open = 12
-heldNumber phase.Accepted = 12
-heldNumber (phase.Failed f) = 12
+abbrev pub loadNumberBy : Phase → ℕ
+loadNumberBy phase.Empty = 0
+loadNumberBy phase.Open = 12
+loadNumberBy phase.Accepted = 12
+loadNumberBy (phase.Failed f) = 12
 
 -- 11. "Advance, verdict or drop on an empty desk." 14. "Advance when decided." 8. "Advance by 0 states."
 abbrev pub advanceNumber : Phase → ℕ → ℕ

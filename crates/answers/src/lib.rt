@@ -4,8 +4,8 @@ use verdicts::Failure;
 use verdicts::Outcome;
 use verdicts::Report;
 ghost use mathlib.Core.Path.{_≡_};
-ghost use Rattle.writer.specs.Report.{report};
-ghost use Rattle.answers.specs.Answers.{verdictNumbers, heldNumber, advanceNumber, dropNumber, toldBy, answerAfter, phaseAfter};
+ghost use Rattle.verdicts.specs.Report.{report};
+ghost use Rattle.answers.specs.Answers.{verdictNumbers, loadNumberBy, advanceNumber, dropNumber, toldBy, answerAfter, phaseAfter};
 
 // What a desk is: empty, open or decided.
 pub enum Phase {
@@ -37,8 +37,8 @@ pub enum Verdict {
 }
 
 // The number by which a load is turned down before its text is looked at; 0 if it isn't.
-pub fn held_number(phase: Phase) -> u16
-    ensures { λ r. ⌜ r ≡ heldNumber phase ⌝ }
+pub fn load_number(phase: Phase) -> u16
+    ensures { λ r. ⌜ r ≡ loadNumberBy phase ⌝ }
 {
     match phase {
         Phase::Empty => 0,
@@ -73,7 +73,7 @@ pub fn drop_number(phase: Phase) -> u16
 }
 
 // The verdict that a desk in a phase tells.
-pub fn told(phase: Phase) -> Verdict
+pub fn verdict_of(phase: Phase) -> Verdict
     ensures { λ r. ⌜ r ≡ toldBy phase ⌝ }
 {
     match phase {

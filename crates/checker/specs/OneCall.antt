@@ -8,7 +8,7 @@ use mathlib.Core.List.{List, _++_}
 use lib.Dec.{eqb, ltb}
 use lib.ListN.{length, drop}
 use Rattle.verdicts.specs.declared.Report.{Report}
-use Rattle.writer.specs.Report.{report}
+use Rattle.verdicts.specs.Report.{report}
 use Rattle.writer.specs.Report as bytes
 use Rattle.criteria.specs.Verdict as criteria
 use Rattle.decision.specs.Verdict.{verdictOf}

@@ -1,7 +1,6 @@
 -- The quick test of a state says whether the search there passes, for every design: acceptance does not depend on the order in which
--- criteria, rows and sum values are looked at. And for a design that is admitted it says whether criteria 2 to 9 hold.
+-- criteria, rows and sum values are looked at.
 use mathlib.Core.Path.{_≡_, refl, sym, _∙_, ap}
-use mathlib.Core.Logic.{_↔_}
 use mathlib.Core.Bool.{Bool, true, false, not, _&&_, true≢false, Bool·not-not}
 use mathlib.Core.List.{List, [], _∷_}
 use Prim.Native.Nat.{ℕ, suc}
@@ -12,13 +11,11 @@ use Rattle.foundation.specs.Nth.{eachB}
 use Rattle.foundation.proofs.First.{passes-all, all-alike, all-from, all-both}
 use Rattle.foundation.proofs.Trial.{place-passes}
 use Rattle.foundation.proofs.Nth.{each-both, each-alike}
-use Rattle.criteria.specs.Design.{Design, Row, State, Admitted}
-use Rattle.criteria.specs.Criteria.{Criteria}
+use Rattle.criteria.specs.Design.{Design, Row, State}
 use Rattle.criteria.specs.Rows.{noRow, rowAt}
 use Rattle.decision.specs.Tests.{holds2, holds3, holds4, holds5, holds6, holds7, holds8, holds9}
 use Rattle.decision.specs.Examine.{trial, firstFailing}
 use Rattle.decision.specs.Quick.{allRows, rowHolds, stateHolds}
-use Rattle.decision.proofs.Examine.{state-passes}
 
 -- ---- one criterion over rows
 
@@ -109,10 +106,3 @@ module _ (d : Design) (s : State) where
   -- so the search is needed only where it says no
   pub quick-passes : stateHolds d s ≡ true → firstFailing d s ≡ pass
   quick-passes h = passing (firstFailing d s) (sym quick ∙ h)
-
--- and where a design is admitted, the quick test says whether criteria 2 to 9 hold
-pub quick-exactly : (d : Design) → Admitted d → (s : State) → (stateHolds d s ≡ true) ↔ Criteria d s
-quick-exactly d a s = (
-  λ h. state-passes d a s .0 (quick-passes d s h),
-  λ c. quick d s ∙ ap passes (state-passes d a s .1 c),
-)

@@ -15,7 +15,7 @@ use Rattle.terms.specs.Tree.{Value, Formula, num, okV, okF}
 use Rattle.terms.specs.Depth.{depthV, depthF}
 use Rattle.terms.specs.Print.{printV, printF}
 use Rattle.reader.specs.Text.{fieldsByLine, Fault1, Fault2, Fault3}
-use Rattle.kinds.specs.Kinds.{Table, wholeText, entryIn, Sort, value, formula, hasTerms, sortsOf, inRow, ownOf}
+use Rattle.kinds.specs.Kinds.{Table, wholeText, entryIn, Sort, value, formula, hasTerms, sortsOf, readsSum, ownOf}
 use Rattle.kinds.specs.declared.Entry.{Entry}
 use Rattle.kinds.specs.declared.Role.the-variants as role
 use Rattle.criteria.specs.Design.{Design, Process, Row, RowIs}
@@ -27,7 +27,7 @@ use Rattle.design.specs.Lines.{kindOf, ofKind, countOf, designOf}
 abbrev pub entryOf : Table → List ℕ → Entry
 entryOf table line = entryIn table (kindOf line)
 
--- a line's kind is below that of the line before
+-- a line's kind ranks below that of the line before; in a whole text a kind's rank is its number
 pub data Falls (table : Table) : List (List ℕ) → Type 0 where
   here : {a b : List ℕ} {lines : List (List ℕ)} → entryOf table b .rank < entryOf table a .rank → Falls table (a ∷ b ∷ lines)
   later : {a : List ℕ} {lines : List (List ℕ)} → Falls table lines → Falls table (a ∷ lines)
@@ -49,7 +49,7 @@ pub data Fault4 (table : Table) (lines : List (List ℕ)) : Type 0 where
   -- "a wrong count of lines of a kind"; kinds of one rank count as one
   wrong-count : (k : ℕ) → entryIn table k .most ≢ 0 → (Allowed (entryIn table k) (length (ofRank table (entryIn table k .rank) lines)) → ⊥)
       → Fault4 table lines
-  -- "a kind 1 or 2 line without exactly three fields": these have no terms
+  -- "a kind 1 or 2 line without exactly three fields": these have no terms; nor has what is no kind, which is a 4 already
   not-exactly : {line : List ℕ} → List·Memᴰ line lines → hasTerms (entryOf table line .terms) ≡ false → length line ≢ entryOf table line .fixed
       → Fault4 table lines
   -- "a row line with fewer than three"; a line of kinds 5 to 7 needs but its kind
@@ -94,7 +94,7 @@ abbrev pub LineTerms : ℕ → ℕ → List ℕ → ℕ → Type 0
 LineTerms n m line k =
     let e = entryIn wholeText k in
     let own = ownOf (e .side) n m in
-    Terms own (inRow (e .terms)) (sortsOf (e .terms) own m) (drop (e .fixed) line)
+    Terms own (readsSum (e .terms)) (sortsOf (e .terms) own m) (drop (e .fixed) line)
 
 -- a kind with terms: 3 to 7
 abbrev pub HasTerms : ℕ → Type 0

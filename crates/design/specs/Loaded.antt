@@ -1,6 +1,7 @@
 -- A desk's arrays: the fields of all lines one after the other, and where each line starts among them, with the end of the last;
 -- 0 in the rest. How lines are held (`fieldsHeld`, `startsHeld`), which lines arrays hold (`heldLines`), and which design
--- (`designAt`, by the places of its lines; `designIn`, by their counts). Lines are counted from 0. That what is held is what was given, and the design that of the lines, is in proofs/Loaded.
+-- (`designAt`, by the places of its lines; `designIn`, by their counts). Lines are counted from 0. That what is held is what was given is
+-- in proofs/Loaded, that the design is that of the lines in proofs/Held.
 use Prim.Native.Nat.{ℕ, zero, suc, _+_, _-_}
 use mathlib.Core.List.{List, [], _∷_, _++_}
 use lib.ListN.{length, getD, take, drop, replicate}

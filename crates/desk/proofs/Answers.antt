@@ -21,7 +21,7 @@ use Rattle.answers.specs.declared.Done.the-variants as done
 use Rattle.answers.specs.declared.Advance.{Advance}
 use Rattle.answers.specs.declared.Advance.the-variants as advance
 use Rattle.answers.specs.declared.Verdict.{Verdict}
-use Rattle.answers.specs.Answers.{heldNumber, advanceNumber, dropNumber, toldBy, answerAfter, phaseAfter}
+use Rattle.answers.specs.Answers.{loadNumberBy, advanceNumber, dropNumber, toldBy, answerAfter, phaseAfter}
 use Rattle.desk.specs.declared.Desk.{Desk}
 use Rattle.desk.specs.declared.AfterLoad.{AfterLoad}
 use Rattle.desk.specs.declared.AfterAdvance.{AfterAdvance}
@@ -30,13 +30,13 @@ use Rattle.desk.specs.Desk.{emptyDesk, placed, notLoaded, loadEmpty, loa
 module _ (d : Desk) where
   -- ---- by phase: 0 where the call is done, else the number by which it is turned down
 
-  load-by : (p : Phase) (text : List ℕ) → heldNumber p ≡ 0 → loadEmpty d (loadedOf text) ≡ loadBy p d text
+  load-by : (p : Phase) (text : List ℕ) → loadNumberBy p ≡ 0 → loadEmpty d (loadedOf text) ≡ loadBy p d text
   load-by phase.Empty text h = refl
   load-by phase.Open text h = absurd (omega (arith, h))
   load-by phase.Accepted text h = absurd (omega (arith, h))
   load-by (phase.Failed f) text h = absurd (omega (arith, h))
 
-  not-loaded-by : (p : Phase) (text : List ℕ) → heldNumber p ≢ 0 → notLoaded (heldNumber p) d ≡ loadBy p d text
+  not-loaded-by : (p : Phase) (text : List ℕ) → loadNumberBy p ≢ 0 → notLoaded (loadNumberBy p) d ≡ loadBy p d text
   not-loaded-by phase.Empty text h = absurd (h refl)
   not-loaded-by phase.Open text h = refl
   not-loaded-by phase.Accepted text h = refl
@@ -76,7 +76,7 @@ module _ (d : Desk) where
   not-dropped-by phase.Accepted h = absurd (h refl)
   not-dropped-by (phase.Failed f) h = absurd (h refl)
 
-  module _ (text : List ℕ) (k : ℕ) (e : k ≡ heldNumber (d .phase)) where
+  module _ (text : List ℕ) (k : ℕ) (e : k ≡ loadNumberBy (d .phase)) where
     pub load-done : k ≡ 0 → (r : AfterLoad) → r ≡ loadEmpty d (loadedOf text) → r ≡ loadOf d text
     unfolding loadOf
     load-done h r er = er ∙ load-by (d .phase) text (sym e ∙ h)

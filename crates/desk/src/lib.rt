@@ -23,7 +23,7 @@ pub struct Desk {
     pub starts: limits::Starts,
     pub counts: Counts,
     // What the walk needs to know of every state, worked out when the text is loaded.
-    pub plan: [u16; walk::ENTRIES],
+    pub plan: [u16; walk::PLAN_LENGTH],
     // The number of the next state to examine.
     pub next: usize,
     pub phase: Phase,
@@ -110,7 +110,7 @@ impl Desk {
                 kind3: 0,
                 kind4: 0,
             },
-            plan: [0u16; walk::ENTRIES],
+            plan: [0u16; walk::PLAN_LENGTH],
             next: 0,
             phase: Phase::Empty,
         }
@@ -122,7 +122,7 @@ impl Desk {
         ensures { λ r. ⌜ doneNumber (r .answer) ≡ loadNumber (self .phase) (now (text .entry)) ⌝ }
     {
         let phase = self.phase;
-        let number = answers::held_number(phase);
+        let number = answers::load_number(phase);
         if number == 0 {
             return self.load_empty(text);
         }
@@ -156,7 +156,7 @@ impl Desk {
     {
         let phase = self.phase;
         AfterVerdict {
-            answer: answers::told(phase),
+            answer: answers::verdict_of(phase),
             desk: self,
         }
     }

@@ -36,7 +36,7 @@ wholeText =
     ∷ (7, entry 7 1 1 1 Other Value Implementation)
     ∷ []
 
--- its highest number, and how many ranks it has, from 0 on: 0 is that of no kind
+-- its highest number (`lastIn wholeText`), and how many ranks it has, from 0 on: 0 is that of no kind
 abbrev pub lastKind : ℕ
 lastKind = 7
 
@@ -86,12 +86,12 @@ sortsOf Mapped n m = nValues m
 sortsOf Value n m = value ∷ []
 
 -- "`2` the sum value, only in rows"
-abbrev pub inRow : Follow → Bool
-inRow Nothing = false
-inRow RowTerms = true
-inRow Formula = false
-inRow Mapped = false
-inRow Value = false
+abbrev pub readsSum : Follow → Bool
+readsSum Nothing = false
+readsSum RowTerms = true
+readsSum Formula = false
+readsSum Mapped = false
+readsSum Value = false
 
 -- "of the row's process (the implementation's in kinds 5 to 7)", where n lines are of kind 1 and m of kind 2
 abbrev pub ownOf : Side → ℕ → ℕ → ℕ

@@ -35,6 +35,7 @@ pub enum Follow {
     Value,
 }
 
+// Whose parameters the terms read.
 pub enum Side {
     Implementation,
     Specification,

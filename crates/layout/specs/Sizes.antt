@@ -1,4 +1,4 @@
--- Which counts of lines fit, how many states the design in a desk's arrays has, and which number its initial state has, each for every
+-- Which counts of lines fit, which shape they have, how many states the design in a desk's arrays has, and which number its initial state has, each for every
 -- arrays and counts. The design itself is in design/specs/Loaded; that a loaded design has at most 65,536 states, and that its
 -- initial state is one of them, is no matter here: where it is so, nothing is cut off.
 use mathlib.Core.Bool.{Bool, _&&_, cond}

@@ -1,5 +1,5 @@
-// What is read off a desk's arrays before any state is looked at: whether the counts of lines fit, where a line starts, the sizes and
-// initial values of parameters, how many states there are, and the number of the initial state. Every function answers any arrays
+// What is read off a desk's arrays before any state is looked at: whether the counts of lines fit, where the lines of a design stand
+// (`Shape`), where a line starts, the sizes and initial values of parameters, how many states there are, and the number of the initial state. Every function answers any arrays
 // and any counts. Which design the arrays hold is in the crate design.
 use design::Counts;
 use design::Process;

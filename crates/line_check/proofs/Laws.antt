@@ -20,7 +20,7 @@ use Rattle.term_check.specs.declared.Checked.{Checked}
 use Rattle.term_check.specs.declared.Checked.the-variants.{Next, Wrong}
 use Rattle.term_check.proofs.Laws.{good-of, took-of}
 use Rattle.term_check.proofs.Passed.{passed-v, passed-f}
-use Rattle.kinds.specs.Kinds.{wholeText, entryIn, Sort, value, formula, nValues, hasTerms, sortsOf, inRow, ownOf}
+use Rattle.kinds.specs.Kinds.{wholeText, entryIn, Sort, value, formula, nValues, hasTerms, sortsOf, readsSum, ownOf}
 use Rattle.kinds.specs.declared.Entry.{Entry}
 use Rattle.kinds.specs.declared.Follow.{Follow}
 use Rattle.kinds.specs.declared.Follow.the-variants.{Nothing, RowTerms, Formula, Mapped, Value}
@@ -105,7 +105,7 @@ module _ (n : ℕ) (row : Bool) (part : List ℕ) (count : ℕ) (a : Checked) (e
 
 module _ (n m : ℕ) (part : List ℕ) (terms : Follow) (r : Bool) where
   abbrev whole : Bool
-  whole = termsFit n (inRow terms) (sortsOf terms n m) (fieldsOf part)
+  whole = termsFit n (readsSum terms) (sortsOf terms n m) (fieldsOf part)
 
   pub no-terms : terms ≡ Nothing → r ≡ nothing (fieldsOf part) → r ≡ whole
   unfolding termsFit
@@ -150,6 +150,6 @@ module _ (n m kind : ℕ) (line : List ℕ) (e : Entry) (ee : e ≡ entryIn whol
   of-nothing h = rw (← ee, ← eb, not-true b h)
 
   pub of-terms : not b ≡ false → (part : List ℕ) → fieldsOf part ≡ drop (e .fixed) (fieldsOf line) → (own : ℕ) → own ≡ ownOf (e .side) n m
-      → (r : Bool) → r ≡ termsFit own (inRow (e .terms)) (sortsOf (e .terms) own m) (fieldsOf part) → r ≡ lineFits n m (fieldsOf line) kind
+      → (r : Bool) → r ≡ termsFit own (readsSum (e .terms)) (sortsOf (e .terms) own m) (fieldsOf part) → r ≡ lineFits n m (fieldsOf line) kind
   unfolding lineFits
   of-terms h part ep own eo r er = rw (← ee, ← eb, not-false b h) (er ∙ rw (eo, ep))

@@ -8,7 +8,7 @@ use lib.ListN.{drop}
 use Rattle.terms.specs.Tree.{okV, okF}
 use Rattle.terms.specs.Read.{readV, readF}
 use Rattle.foundation.specs.Reflects.{_⇒_}
-use Rattle.kinds.specs.Kinds.{wholeText, entryIn, Sort, value, formula, hasTerms, sortsOf, inRow, ownOf}
+use Rattle.kinds.specs.Kinds.{wholeText, entryIn, Sort, value, formula, hasTerms, sortsOf, readsSum, ownOf}
 
 -- no field is left
 abbrev pub nothing : List ℕ → Bool
@@ -30,4 +30,4 @@ unfoldable pub lineFits : ℕ → ℕ → List ℕ → ℕ → Bool
 lineFits n m line kind =
     let e = entryIn wholeText kind in
     let own = ownOf (e .side) n m in
-    hasTerms (e .terms) ⇒ termsFit own (inRow (e .terms)) (sortsOf (e .terms) own m) (drop (e .fixed) line)
+    hasTerms (e .terms) ⇒ termsFit own (readsSum (e .terms)) (sortsOf (e .terms) own m) (drop (e .fixed) line)

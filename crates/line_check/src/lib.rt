@@ -9,7 +9,7 @@ ghost use mathlib.Core.Path.{_≡_};
 ghost use mathlib.Core.List.{_∷_};
 ghost use lib.ListN.{drop};
 ghost use Rattle.reader.specs.Line.{fieldsOf};
-ghost use Rattle.kinds.specs.Kinds.{formula, nValues, sortsOf, inRow};
+ghost use Rattle.kinds.specs.Kinds.{formula, nValues, sortsOf, readsSum};
 ghost use Rattle.line_check.specs.LineFits.{nothing, termsFit, lineFits};
 
 // Whether a line of this kind is as it should be, where n lines of the text are of kind 1 and m of kind 2.
@@ -28,7 +28,7 @@ pub fn line_fits(line: &[u8], kind: u16, n: u16, m: u16) -> bool
 
 // Whether a part is the terms that follow, of n parameters, where m lines are of kind 2, and nothing else.
 fn terms_fit(part: &[u8], terms: Follow, n: u16, m: u16) -> bool
-    ensures { λ r. ⌜ r ≡ termsFit n (inRow terms) (sortsOf terms n m) (fieldsOf (now (part .entry))) ⌝ }
+    ensures { λ r. ⌜ r ≡ termsFit n (readsSum terms) (sortsOf terms n m) (fieldsOf (now (part .entry))) ⌝ }
 {
     match terms {
         Follow::Nothing => ended(part),

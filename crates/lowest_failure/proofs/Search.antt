@@ -19,7 +19,7 @@ use Rattle.design.specs.declared.Shape.{Shape}
 use Rattle.layout.specs.Sizes.{Fits}
 use Rattle.steps.specs.Arrays.{rowSpan, mappedIn}
 use Rattle.steps.proofs.States.{rows-count}
-use Rattle.lowest_failure.specs.Search.{Known, toldPlace, ofImpl, ofSpec, holdsFor, spanFor, rowsFor, inRow, inRows, inCriteria}
+use Rattle.lowest_failure.specs.Search.{Known, toldPlace, atImpl, atSpec, holdsFor, spanFor, rowsFor, inRow, inRows, inCriteria}
 use Rattle.verdicts.specs.declared.Place.{Place}
 use Rattle.lowest_failure.specs.declared.Finding.{Finding}
 use Rattle.lowest_failure.specs.declared.Finding.the-variants.{Nothing, Found}
@@ -45,32 +45,32 @@ module _ (h : Shape) (n : ℕ) where
   rows-else y = rw (ne-eqb n 7 y)
 
 module _ (d : Design) (v : State) (r : Bool) (n k e : ℕ) where
-  pub arm3 : n ≡ 3 → r ≡ ofImpl holds3 d v k e → r ≡ holdsFor d v n k e
+  pub arm3 : n ≡ 3 → r ≡ atImpl holds3 d v k e → r ≡ holdsFor d v n k e
   unfolding holdsFor
   arm3 y er = er ∙ rw y
 
-  pub arm4 : n ≡ 4 → r ≡ ofImpl holds4 d v k e → r ≡ holdsFor d v n k e
+  pub arm4 : n ≡ 4 → r ≡ atImpl holds4 d v k e → r ≡ holdsFor d v n k e
   unfolding holdsFor
   arm4 y er = er ∙ rw y
 
-  pub arm5 : n ≡ 5 → r ≡ ofImpl holds5 d v k e → r ≡ holdsFor d v n k e
+  pub arm5 : n ≡ 5 → r ≡ atImpl holds5 d v k e → r ≡ holdsFor d v n k e
   unfolding holdsFor
   arm5 y er = er ∙ rw y
 
-  pub arm6 : n ≡ 6 → r ≡ ofImpl holds6 d v k e → r ≡ holdsFor d v n k e
+  pub arm6 : n ≡ 6 → r ≡ atImpl holds6 d v k e → r ≡ holdsFor d v n k e
   unfolding holdsFor
   arm6 y er = er ∙ rw y
 
-  pub arm7 : n ≡ 7 → r ≡ ofSpec holds7 d v k e → r ≡ holdsFor d v n k e
+  pub arm7 : n ≡ 7 → r ≡ atSpec holds7 d v k e → r ≡ holdsFor d v n k e
   unfolding holdsFor
   arm7 y er = er ∙ rw y
 
-  pub arm8 : n ≡ 8 → r ≡ ofImpl holds8 d v k e → r ≡ holdsFor d v n k e
+  pub arm8 : n ≡ 8 → r ≡ atImpl holds8 d v k e → r ≡ holdsFor d v n k e
   unfolding holdsFor
   arm8 y er = er ∙ rw y
 
   pub arm-else : (n ≡ 3 → ⊥) → (n ≡ 4 → ⊥) → (n ≡ 5 → ⊥) → (n ≡ 6 → ⊥) → (n ≡ 7 → ⊥) → (n ≡ 8 → ⊥)
-      → r ≡ ofImpl holds9 d v k e → r ≡ holdsFor d v n k e
+      → r ≡ atImpl holds9 d v k e → r ≡ holdsFor d v n k e
   unfolding holdsFor
   arm-else h3 h4 h5 h6 h7 h8 er = er ∙ simp (ne-eqb n 3 h3, ne-eqb n 4 h4, ne-eqb n 5 h5, ne-eqb n 6 h6, ne-eqb n 7 h7, ne-eqb n 8 h8)
 
@@ -173,7 +173,7 @@ module _ (f s : List ℕ) (h : Shape) (v : State) where
   specRows = sym (rows-count f s (h .specification))
 
   criterion : (n : ℕ) → 3 ≤ n → n < 10 → inRows h d v n ≡ inCriterion (trial d v) n
-  unfolding inRows inRow rowsFor spanFor holdsFor ofImpl ofSpec
+  unfolding inRows inRow rowsFor spanFor holdsFor atImpl atSpec
   criterion zero l u = absurd (omega arith)
   criterion (suc zero) l u = absurd (omega arith)
   criterion (suc (suc zero)) l u = absurd (omega arith)

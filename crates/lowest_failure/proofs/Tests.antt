@@ -25,7 +25,7 @@ use Rattle.design.specs.declared.Shape.{Shape}
 use Rattle.steps.specs.Arrays.{padded, stepOf, rowStep, rowSpan, rowWith, belowIn, sameIn, insideIn, mappedIn, measureIn}
 use Rattle.steps.specs.declared.Step.{Step}
 use Rattle.steps.proofs.States as states
-use Rattle.lowest_failure.specs.Search.{Known, quietIn, ofImpl, ofSpec}
+use Rattle.lowest_failure.specs.Search.{Known, quietIn, atImpl, atSpec}
 use Rattle.lowest_failure.specs.declared.Here.{Here}
 
 twice : (b x : Bool) → b || x ≡ not (not b) || x
@@ -88,8 +88,8 @@ module _ (f s : List ℕ) (h : Shape) (here : Here) (known : Known h (designAt f
       next-short : length next ≤ 8
       next-short = states.next-short f s (h .implementation) (known .fits .implementation) k v e
 
-      pub holds3-is : (b : Bool) → b ≡ insideIn f s h (r .next) → not (r .enabled) || b ≡ ofImpl holds3 d v k e
-      unfolding ofImpl rowStep stepOf evalV
+      pub holds3-is : (b : Bool) → b ≡ insideIn f s h (r .next) → not (r .enabled) || b ≡ atImpl holds3 d v k e
+      unfolding atImpl rowStep stepOf evalV
       holds3-is b eb = rw (eb, er) (go (states.next-length f s (h .implementation) k))
         where
           go : (length (implAt k .next) ≡ h .implementation .parameters .count) ⊎ (implAt k ≡ noRow)
@@ -98,8 +98,8 @@ module _ (f s : List ℕ) (h : Shape) (here : Here) (known : Known h (designAt f
           go (inr m) = rw m
 
       pub holds4-is : (w : List ℕ) (b : Bool) → w ≡ mappedIn f s h (r .next) → b ≡ sameIn n (here .mapped) w
-          → not (r .enabled) || (not (eqb (r .action) 0) || b) ≡ ofImpl holds4 d v k e
-      unfolding ofImpl rowStep stepOf
+          → not (r .enabled) || (not (eqb (r .action) 0) || b) ≡ atImpl holds4 d v k e
+      unfolding atImpl rowStep stepOf
       holds4-is w b ew eb =
           rw (
             eb,
@@ -111,25 +111,25 @@ module _ (f s : List ℕ) (h : Shape) (here : Here) (known : Known h (designAt f
           )
 
       pub holds5-is : (there measure : ℕ) → there ≡ measureIn f s h (r .next) → measure ≡ measureIn f s h v
-          → not (r .enabled) || (not (eqb (r .action) 0) || ltb there measure) ≡ ofImpl holds5 d v k e
-      unfolding ofImpl rowStep stepOf measureIn
+          → not (r .enabled) || (not (eqb (r .action) 0) || ltb there measure) ≡ atImpl holds5 d v k e
+      unfolding atImpl rowStep stepOf measureIn
       holds5-is there measure et em = rw (et, em, er, states.measure-held f s h next next-short)
 
       module _ (j : ℕ) (q : Step) (ej : j ≡ rowWith f s (h .specification) (r .action)) (eq : q ≡ rowStep f s (h .specification) j (here .mapped) e) where
-        pub holds6-is : not (r .enabled) || (eqb (r .action) 0 || q .enabled) ≡ ofImpl holds6 d v k e
-        unfolding ofImpl stepOf rowWith
+        pub holds6-is : not (r .enabled) || (eqb (r .action) 0 || q .enabled) ≡ atImpl holds6 d v k e
+        unfolding atImpl stepOf rowWith
         holds6-is = ap (λ b. not (r .enabled) || b) (twice (eqb (r .action) 0) (q .enabled)) ∙ rw (eq, spec-step j e, ej, impl-step k e r er)
 
-        pub holds8-is : not (r .enabled) || (eqb (r .action) 0 || (eqb j 0 || eqb (r .carries) (q .carries))) ≡ ofImpl holds8 d v k e
-        unfolding ofImpl stepOf rowWith
+        pub holds8-is : not (r .enabled) || (eqb (r .action) 0 || (eqb j 0 || eqb (r .carries) (q .carries))) ≡ atImpl holds8 d v k e
+        unfolding atImpl stepOf rowWith
         holds8-is =
             ap (λ b. not (r .enabled) || (eqb (r .action) 0 || b)) (twice (eqb j 0) (eqb (r .carries) (q .carries)))
             ∙ ap (λ b. not (r .enabled) || b) (twice (eqb (r .action) 0) (not (not (eqb j 0)) || eqb (r .carries) (q .carries)))
             ∙ rw (eq, spec-step j e, ej, impl-step k e r er)
 
         pub holds9-is : (w : List ℕ) (b : Bool) → w ≡ mappedIn f s h (r .next) → b ≡ sameIn n w (q .next)
-            → not (r .enabled) || (eqb (r .action) 0 || (eqb j 0 || b)) ≡ ofImpl holds9 d v k e
-        unfolding ofImpl stepOf rowWith
+            → not (r .enabled) || (eqb (r .action) 0 || (eqb j 0 || b)) ≡ atImpl holds9 d v k e
+        unfolding atImpl stepOf rowWith
         holds9-is w b ew eb =
             ap (λ x. not (r .enabled) || (eqb (r .action) 0 || x)) (twice (eqb j 0) b)
             ∙ ap (λ x. not (r .enabled) || x) (twice (eqb (r .action) 0) (not (not (eqb j 0)) || b))
@@ -145,8 +145,8 @@ module _ (f s : List ℕ) (h : Shape) (here : Here) (known : Known h (designAt f
                 (length-map (specAt i .next) _ ∙ answer-length (implAt k .action) some) few
 
     pub holds7-is : (j : ℕ) (q : Step) → r ≡ rowStep f s (h .specification) k (here .mapped) e → j ≡ rowWith f s (h .implementation) (r .action)
-        → q ≡ rowStep f s (h .implementation) j v e → not (here .focus) || (not (r .enabled) || q .enabled) ≡ ofSpec holds7 d v k e
-    unfolding ofSpec stepOf rowWith
+        → q ≡ rowStep f s (h .implementation) j v e → not (here .focus) || (not (r .enabled) || q .enabled) ≡ atSpec holds7 d v k e
+    unfolding atSpec stepOf rowWith
     holds7-is j q er ej eq = rw (impl-step j e q eq, ej, er, spec-step k e, known .focus-is)
 
 -- ---- focus points

@@ -33,23 +33,23 @@ unfoldable pub quietIn : Design → State → ℕ → Bool
 quietIn d v k = let r : Row = rowAt (d .impl .rows) k in allIn (λ e. not (internalTest v r e)) (r .span) 0
 
 -- a test at row k of the implementation, and of the specification
-unfoldable pub ofImpl : (Design → State → Row → ℕ → Bool) → Design → State → ℕ → ℕ → Bool
-ofImpl holds d v k e = holds d v (rowAt (d .impl .rows) k) e
+unfoldable pub atImpl : (Design → State → Row → ℕ → Bool) → Design → State → ℕ → ℕ → Bool
+atImpl holds d v k e = holds d v (rowAt (d .impl .rows) k) e
 
-unfoldable pub ofSpec : (Design → State → Row → ℕ → Bool) → Design → State → ℕ → ℕ → Bool
-ofSpec holds d v k e = holds d v (rowAt (d .spec .rows) k) e
+unfoldable pub atSpec : (Design → State → Row → ℕ → Bool) → Design → State → ℕ → ℕ → Bool
+atSpec holds d v k e = holds d v (rowAt (d .spec .rows) k) e
 
 -- criterion n for row k and the sum value e; the span of the row, and how many rows there are: "In criterion 7 the row is the
 -- specification's."
 unfoldable pub holdsFor : Design → State → ℕ → ℕ → ℕ → Bool
 holdsFor d v n k e =
-    cond (eqb n 3) (ofImpl holds3 d v k e)
-    (cond (eqb n 4) (ofImpl holds4 d v k e)
-    (cond (eqb n 5) (ofImpl holds5 d v k e)
-    (cond (eqb n 6) (ofImpl holds6 d v k e)
-    (cond (eqb n 7) (ofSpec holds7 d v k e)
-    (cond (eqb n 8) (ofImpl holds8 d v k e)
-    (ofImpl holds9 d v k e))))))
+    cond (eqb n 3) (atImpl holds3 d v k e)
+    (cond (eqb n 4) (atImpl holds4 d v k e)
+    (cond (eqb n 5) (atImpl holds5 d v k e)
+    (cond (eqb n 6) (atImpl holds6 d v k e)
+    (cond (eqb n 7) (atSpec holds7 d v k e)
+    (cond (eqb n 8) (atImpl holds8 d v k e)
+    (atImpl holds9 d v k e))))))
 
 unfoldable pub spanFor : Design → ℕ → ℕ → ℕ
 spanFor d n k = cond (eqb n 7) (rowAt (d .spec .rows) k .span) (rowAt (d .impl .rows) k .span)

@@ -8,7 +8,7 @@ ghost use Rattle.decision.specs.Tests as tests;
 ghost use Rattle.decision.specs.Examine.{firstFailing};
 ghost use Rattle.design.specs.Loaded.{designAt};
 ghost use Rattle.layout.specs.Sizes.{Fits};
-ghost use Rattle.lowest_failure.specs.Search.{Known, toldPlace, ofImpl, ofSpec, quietIn, holdsFor, spanFor, rowsFor, inRow, inRows, inCriteria};
+ghost use Rattle.lowest_failure.specs.Search.{Known, toldPlace, atImpl, atSpec, quietIn, holdsFor, spanFor, rowsFor, inRow, inRows, inCriteria};
 
 pub enum Finding {
     Nothing,
@@ -88,7 +88,7 @@ fn holds3<'a>(
     sum: u16,
 ) -> bool
     requires { ⌜ Known shape (designAt (now fields) (now starts) shape) here ⌝ }
-    ensures { λ r. ⌜ r ≡ ofImpl tests.holds3 (designAt (now (fields .entry)) (now (starts .entry)) shape) (here .state) k sum ⌝ }
+    ensures { λ r. ⌜ r ≡ atImpl tests.holds3 (designAt (now (fields .entry)) (now (starts .entry)) shape) (here .state) k sum ⌝ }
 {
     let step = steps::row_step(fields, starts, shape.implementation, k, &here.state, sum);
     !step.enabled | steps::inside(fields, starts, shape, &step.next)
@@ -103,7 +103,7 @@ fn holds4<'a>(
     sum: u16,
 ) -> bool
     requires { ⌜ Known shape (designAt (now fields) (now starts) shape) here ⌝ }
-    ensures { λ r. ⌜ r ≡ ofImpl tests.holds4 (designAt (now (fields .entry)) (now (starts .entry)) shape) (here .state) k sum ⌝ }
+    ensures { λ r. ⌜ r ≡ atImpl tests.holds4 (designAt (now (fields .entry)) (now (starts .entry)) shape) (here .state) k sum ⌝ }
 {
     let step = steps::row_step(fields, starts, shape.implementation, k, &here.state, sum);
     let there = steps::mapped(fields, starts, shape, &step.next);
@@ -120,7 +120,7 @@ fn holds5<'a>(
     sum: u16,
 ) -> bool
     requires { ⌜ Known shape (designAt (now fields) (now starts) shape) here ⌝ }
-    ensures { λ r. ⌜ r ≡ ofImpl tests.holds5 (designAt (now (fields .entry)) (now (starts .entry)) shape) (here .state) k sum ⌝ }
+    ensures { λ r. ⌜ r ≡ atImpl tests.holds5 (designAt (now (fields .entry)) (now (starts .entry)) shape) (here .state) k sum ⌝ }
 {
     let step = steps::row_step(fields, starts, shape.implementation, k, &here.state, sum);
     let there = steps::measure(fields, starts, shape, &step.next);
@@ -137,7 +137,7 @@ fn holds6<'a>(
     sum: u16,
 ) -> bool
     requires { ⌜ Known shape (designAt (now fields) (now starts) shape) here ⌝ }
-    ensures { λ r. ⌜ r ≡ ofImpl tests.holds6 (designAt (now (fields .entry)) (now (starts .entry)) shape) (here .state) k sum ⌝ }
+    ensures { λ r. ⌜ r ≡ atImpl tests.holds6 (designAt (now (fields .entry)) (now (starts .entry)) shape) (here .state) k sum ⌝ }
 {
     let step = steps::row_step(fields, starts, shape.implementation, k, &here.state, sum);
     let row = steps::row_with(fields, starts, shape.specification, step.action);
@@ -155,7 +155,7 @@ fn holds7<'a>(
     sum: u16,
 ) -> bool
     requires { ⌜ Known shape (designAt (now fields) (now starts) shape) here ⌝ }
-    ensures { λ r. ⌜ r ≡ ofSpec tests.holds7 (designAt (now (fields .entry)) (now (starts .entry)) shape) (here .state) k sum ⌝ }
+    ensures { λ r. ⌜ r ≡ atSpec tests.holds7 (designAt (now (fields .entry)) (now (starts .entry)) shape) (here .state) k sum ⌝ }
 {
     let step = steps::row_step(fields, starts, shape.specification, k, &here.mapped, sum);
     let row = steps::row_with(fields, starts, shape.implementation, step.action);
@@ -172,7 +172,7 @@ fn holds8<'a>(
     sum: u16,
 ) -> bool
     requires { ⌜ Known shape (designAt (now fields) (now starts) shape) here ⌝ }
-    ensures { λ r. ⌜ r ≡ ofImpl tests.holds8 (designAt (now (fields .entry)) (now (starts .entry)) shape) (here .state) k sum ⌝ }
+    ensures { λ r. ⌜ r ≡ atImpl tests.holds8 (designAt (now (fields .entry)) (now (starts .entry)) shape) (here .state) k sum ⌝ }
 {
     let step = steps::row_step(fields, starts, shape.implementation, k, &here.state, sum);
     let row = steps::row_with(fields, starts, shape.specification, step.action);
@@ -189,7 +189,7 @@ fn holds9<'a>(
     sum: u16,
 ) -> bool
     requires { ⌜ Known shape (designAt (now fields) (now starts) shape) here ⌝ }
-    ensures { λ r. ⌜ r ≡ ofImpl tests.holds9 (designAt (now (fields .entry)) (now (starts .entry)) shape) (here .state) k sum ⌝ }
+    ensures { λ r. ⌜ r ≡ atImpl tests.holds9 (designAt (now (fields .entry)) (now (starts .entry)) shape) (here .state) k sum ⌝ }
 {
     let step = steps::row_step(fields, starts, shape.implementation, k, &here.state, sum);
     let row = steps::row_with(fields, starts, shape.specification, step.action);

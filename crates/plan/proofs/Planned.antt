@@ -1,5 +1,5 @@
--- What the functions that make the plan return, as specs/Plan says it, and the turns of their loops; and that an entry of the plan of a
--- design is that of its row.
+-- What the functions that make the plan return, as specs/Plan says it, and the turns of their loops; and that the plan of a design
+-- has the plan of each row.
 use mathlib.Core.Path.{_≡_, refl, sym, _∙_, ap}
 use mathlib.Core.Bool.{Bool, true, false, not, _&&_, and-true}
 use mathlib.Core.List.{List, _++_, append-nil}
@@ -101,29 +101,29 @@ module _ (b : Bool) where
   unfolding flagOf
   flag-off h = rw h
 
--- ---- the entries
+-- ---- the plan of a row
 
 only-condition : (r : Row) → freeOf false r ≡ sumFreeF (r .condition)
 unfolding freeOf
 only-condition r = and-true (sumFreeF (r .condition))
 
-pub entry-is : (f s : List ℕ) (p o : Process) (whole : Bool) (k line a z j n l : ℕ) (b c free : Bool) → line ≡ lineOf s p k → a ≡ getD (drop line f) 1 0 → z ≡ getD (drop line f) 2 0
+pub row-plan-is : (f s : List ℕ) (p o : Process) (whole : Bool) (k line a z j n l : ℕ) (b c free : Bool) → line ≡ lineOf s p k → a ≡ getD (drop line f) 1 0 → z ≡ getD (drop line f) 2 0
     → j ≡ rowWith f s o a → b ≡ freeOf whole (rowOf (p .parameters .count) (drop line f)) → c ≡ partnerFree f s o j whole → n ≡ looksOf (b && c) z
     → free ≡ freeOf false (rowOf (p .parameters .count) (drop line f)) → l ≡ frontOf f (line + 3) 32
     → record { partner = j; looks = n; free = free; front = l } ≡ rowPlanOf f s p o whole k
 unfolding rowPlanOf rowBy
-entry-is f s p o whole k line a z j n l b c free el ea ez ej eb ec en ef ew =
+row-plan-is f s p o whole k line a z j n l b c free el ea ez ej eb ec en ef ew =
     let e = ef ∙ only-condition (rowOf (p .parameters .count) (drop line f)) in
     rw (e, en, eb, ec, ej, ea, ez, ew, el)
 
 module _ (f s : List ℕ) (p o : Process) (whole : Bool) (k : ℕ) where
-  pub entry-there : (r : RowPlan) → k ≤ p .rows .count → r ≡ rowPlanOf f s p o whole k → r ≡ rowPlanIn f s p o whole k
+  pub row-plan-there : (r : RowPlan) → k ≤ p .rows .count → r ≡ rowPlanOf f s p o whole k → r ≡ rowPlanIn f s p o whole k
   unfolding rowPlanIn
-  entry-there r l er = er ∙ rw (le-leb k (p .rows .count) l)
+  row-plan-there r l er = er ∙ rw (le-leb k (p .rows .count) l)
 
-  pub entry-past : p .rows .count < k → noRowPlan ≡ rowPlanIn f s p o whole k
+  pub row-plan-past : p .rows .count < k → noRowPlan ≡ rowPlanIn f s p o whole k
   unfolding rowPlanIn
-  entry-past l = rw (lt-leb k (p .rows .count) l)
+  row-plan-past l = rw (lt-leb k (p .rows .count) l)
 
 module _ (f s : List ℕ) (h : Shape) (i : ℕ) (r : RowPlan) where
   pub of-implementation : i < 32 → r ≡ rowPlanIn f s (h .implementation) (h .specification) true (i + 1) → r ≡ rowPlanFor f s h i
@@ -140,15 +140,15 @@ module _ (f s : List ℕ) (h : Shape) where
   unfoldable pub planLeft : List ℕ → ℕ → List ℕ
   planLeft w i = sets w (4 * i) (rowPlansFrom f s h (64 - i) i)
 
-  entries-length : (n i : ℕ) → length (rowPlansFrom f s h n i) ≡ 4 * n
+  plans-length : (n i : ℕ) → length (rowPlansFrom f s h n i) ≡ 4 * n
   unfolding rowPlansFrom
-  entries-length zero i = refl
-  entries-length (suc n) i = rw (entries-length n (suc i)) (omega arith)
+  plans-length zero i = refl
+  plans-length (suc n) i = rw (plans-length n (suc i)) (omega arith)
 
   -- a full array: nothing of what it held before is left
   pub plan-begin : planLeft (replicate 256 0) 0 ≡ planIn f s h
   unfolding planLeft planIn
-  plan-begin = all-stored (rowPlansFrom f s h 64 0) (entries-length 64 0)
+  plan-begin = all-stored (rowPlansFrom f s h 64 0) (plans-length 64 0)
     where
       all-stored : (vs : List ℕ) → length vs ≡ 256 → sets (replicate 256 0) 0 vs ≡ vs
       all-stored vs e =
@@ -177,7 +177,7 @@ module _ (f s : List ℕ) (h : Shape) where
       go : w ≡ planLeft w i
       go = let e : 64 - i ≡ 0 = omega arith in rw e
 
--- ---- the entries of a plan
+-- ---- read again
 
 flag-is : (b : Bool) → eqb (flagOf b) 1 ≡ b
 unfolding flagOf
@@ -185,13 +185,13 @@ flag-is true = refl
 flag-is false = refl
 
 module _ (f s : List ℕ) (h : Shape) where
-  entry-read : (n i k : ℕ) → k < n → rowPlanAt (rowPlansFrom f s h n i) k ≡ rowPlanFor f s h (i + k)
+  row-plan-read : (n i k : ℕ) → k < n → rowPlanAt (rowPlansFrom f s h n i) k ≡ rowPlanFor f s h (i + k)
   unfolding rowPlansFrom rowPlanAt
-  entry-read zero i k l = absurd (omega arith)
-  entry-read (suc n) i zero l =
+  row-plan-read zero i k l = absurd (omega arith)
+  row-plan-read (suc n) i zero l =
       let e : i + 0 ≡ i = omega arith in
       rw e (λ j. record { partner = rowPlanFor f s h i .partner; looks = rowPlanFor f s h i .looks; free = flag-is (rowPlanFor f s h i .free) j; front = rowPlanFor f s h i .front })
-  entry-read (suc n) i (suc k) l =
+  row-plan-read (suc n) i (suc k) l =
       let e : suc i + k ≡ i + suc k = omega arith in
       let k0 : 4 * suc k ≡ suc (suc (suc (suc (4 * k)))) = omega arith in
       let k1 : 4 * suc k + 1 ≡ suc (suc (suc (suc (4 * k + 1)))) = omega arith in
@@ -199,16 +199,16 @@ module _ (f s : List ℕ) (h : Shape) where
       let k3 : 4 * suc k + 3 ≡ suc (suc (suc (suc (4 * k + 3)))) = omega arith in
       let all : List ℕ = rowPlansFrom f s h (suc n) i in
       (λ j. record { partner = getD all (k0 j) 0; looks = getD all (k1 j) 0; free = eqb (getD all (k2 j) 0) 1; front = getD all (k3 j) 0 })
-      ∙ entry-read n (suc i) k (omega arith) ∙ rw e
+      ∙ row-plan-read n (suc i) k (omega arith) ∙ rw e
 
   -- of a row that is there
-  pub impl-entry : (i : ℕ) → i < 32 → i < h .implementation .rows .count → rowPlanAt (planIn f s h) i ≡ rowPlanOf f s (h .implementation) (h .specification) true (i + 1)
+  pub impl-row-plan : (i : ℕ) → i < 32 → i < h .implementation .rows .count → rowPlanAt (planIn f s h) i ≡ rowPlanOf f s (h .implementation) (h .specification) true (i + 1)
   unfolding planIn rowPlanFor rowPlanIn
-  impl-entry i l u = let z : 0 + i ≡ i = omega arith in entry-read 64 0 i (omega arith) ∙ rw (z, lt-ltb i 32 l, le-leb (i + 1) (h .implementation .rows .count) (omega arith))
+  impl-row-plan i l u = let z : 0 + i ≡ i = omega arith in row-plan-read 64 0 i (omega arith) ∙ rw (z, lt-ltb i 32 l, le-leb (i + 1) (h .implementation .rows .count) (omega arith))
 
-  pub spec-entry : (i : ℕ) → i < 32 → i < h .specification .rows .count → rowPlanAt (planIn f s h) (32 + i) ≡ rowPlanOf f s (h .specification) (h .implementation) false (i + 1)
+  pub spec-row-plan : (i : ℕ) → i < 32 → i < h .specification .rows .count → rowPlanAt (planIn f s h) (32 + i) ≡ rowPlanOf f s (h .specification) (h .implementation) false (i + 1)
   unfolding planIn rowPlanFor rowPlanIn
-  spec-entry i l u =
+  spec-row-plan i l u =
       let z : 0 + (32 + i) ≡ 32 + i = omega arith in
       let e : 32 + i - 32 ≡ i = omega arith in
-      entry-read 64 0 (32 + i) (omega arith) ∙ rw (z, le-ltb (32 + i) 32 (omega arith), e, le-leb (i + 1) (h .specification .rows .count) (omega arith))
+      row-plan-read 64 0 (32 + i) (omega arith) ∙ rw (z, le-ltb (32 + i) 32 (omega arith), e, le-leb (i + 1) (h .specification .rows .count) (omega arith))

@@ -28,7 +28,7 @@ const NUMBERS: usize = 4;
 // A plan has them for each row of the implementation that there may be, and then for each of the specification.
 pub const ROWS: usize = limits::MAX_ROWS;
 
-pub const ENTRIES: usize = 2 * limits::MAX_ROWS * NUMBERS;
+pub const LENGTH: usize = 2 * limits::MAX_ROWS * NUMBERS;
 
 // ---- what reads the sum value
 
@@ -141,7 +141,8 @@ fn row_plan_in<'a>(
     }
 }
 
-// RowPlan number i: of the implementation's rows whole rows count, of the specification's only the conditions (criterion 7).
+// The plan of row number i of both processes, the implementation's first: there whole rows count, of the specification's rows only the
+// conditions (criterion 7).
 fn row_plan_for<'a>(
     fields: &'a limits::Fields,
     starts: &'a limits::Starts,
@@ -185,10 +186,10 @@ pub fn plan<'a>(
     fields: &'a limits::Fields,
     starts: &'a limits::Starts,
     shape: Shape,
-) -> [u16; ENTRIES]
+) -> [u16; LENGTH]
     ensures { λ r. ⌜ r ≡ planIn (now (fields .entry)) (now (starts .entry)) shape ⌝ }
 {
-    let mut out = [0u16; ENTRIES];
+    let mut out = [0u16; LENGTH];
     let mut i = 0;
     while i < 2 * ROWS {
         let row = row_plan_for(fields, starts, shape, i);
@@ -202,8 +203,8 @@ pub fn plan<'a>(
     out
 }
 
-// RowPlan number i of a plan.
-pub fn row_plan_at(plan: &[u16; ENTRIES], i: usize) -> RowPlan
+// Number i of the rows' plans in a plan.
+pub fn row_plan_at(plan: &[u16; LENGTH], i: usize) -> RowPlan
     requires { ⌜ i < 64 ⌝ }
     ensures { λ r. ⌜ r ≡ rowPlanAt (now (plan .entry)) i ⌝ }
 {

@@ -1,4 +1,4 @@
--- By the right plan the quick test of specs/Quick is that of the crate decision for the design in the arrays, at an array v whose mapped
+-- By the right plan the quick test of specs/Passes is that of the crate decision for the design in the arrays, at an array v whose mapped
 -- state t holds. Where nothing in a row and its partner reads the sum value, one look does for all.
 use mathlib.Core.Path.{_≡_, refl, sym, _∙_, ap}
 use mathlib.Core.Logic.{_⊎_, inl, inr}
@@ -46,8 +46,8 @@ use Rattle.conjuncts.proofs.Conjuncts.{guards}
 use Rattle.conjuncts.specs.declared.Guarded.{Guarded}
 use Rattle.plan.specs.Plan.{rowBy, partnerBy, freeOf, partnerFree, looksOf, rowPlanOf, planIn, rowPlanAt}
 use Rattle.plan.specs.declared.RowPlan.{RowPlan}
-use Rattle.plan.proofs.Planned.{impl-entry, spec-entry}
-use Rattle.state_passes.specs.Quick.{rowFor, keptIn, answeredIn, stepIn, stepOfRow, seen, looksIn, rowIn, implIn, replyLooks, replyIn, specIn, passesIn}
+use Rattle.plan.proofs.Planned.{impl-row-plan, spec-row-plan}
+use Rattle.state_passes.specs.Passes.{rowFor, keptIn, answeredIn, stepIn, stepOfRow, seen, looksIn, rowIn, implIn, replyLooks, replyIn, specIn, passesIn}
 use Rattle.state_passes.specs.declared.Seen.{Seen}
 
 -- a row's condition for the sum value e, taken for 0 where it is said to be sum-free
@@ -406,7 +406,7 @@ module _ (f s : List ℕ) (h : Shape) (fits : Fits h) (v : State) where
   unfolding rowPlanOf partnerFree rowWith
   impl-plan i l =
       let few = fits .implementation .rows in
-      impl-entry f s h i (omega arith) l
+      impl-row-plan f s h i (omega arith) l
       ∙ rw (partner-by f s (h .specification) (rowBy f s (h .implementation) (i + 1) .action), row-by f s (h .implementation) i, row-line f s (h .implementation) i)
 
   abbrev holdsAt : ℕ → Bool
@@ -496,7 +496,7 @@ module _ (f s : List ℕ) (h : Shape) (fits : Fits h) (v : State) where
   unfolding rowPlanOf partnerFree rowWith
   spec-plan i l =
       let few = fits .specification .rows in
-      spec-entry f s h i (omega arith) l
+      spec-row-plan f s h i (omega arith) l
       ∙ rw (partner-by f s (h .implementation) (rowBy f s (h .specification) (i + 1) .action), row-by f s (h .specification) i, row-line f s (h .specification) i)
 
   row-replied : (i : ℕ) → i < h .specification .rows .count → replyIn f s h (i + 1) (rowPlanAt p (32 + i)) v t ≡ allIn (replies (specRow i)) (specRow i .span) 0

@@ -1,4 +1,4 @@
--- What the functions of the quick test return, as specs/Quick says it, and the turns of their loops.
+-- What the functions of the quick test return, as specs/Passes says it, and the turns of their loops.
 use mathlib.Core.Path.{_≡_, refl, sym, _∙_, ap}
 use mathlib.Core.Bool.{Bool, true, false, not, _&&_, _||_, or-true, and-true, and-assoc, cond}
 use mathlib.Core.List.{List}
@@ -28,7 +28,7 @@ use Rattle.conjuncts.specs.Conjuncts.{guardIn}
 use Rattle.conjuncts.specs.declared.Guarded.{Guarded}
 use Rattle.plan.specs.Plan.{rowBy, partnerBy, rowPlanAt}
 use Rattle.plan.specs.declared.RowPlan.{RowPlan}
-use Rattle.state_passes.specs.Quick.{rowFor, left, onAt, knownIn, keptIn, answeredIn, stepIn, seen, lookIn, looksIn, rowIn, implIn, repliedIn, replyLooks, replyIn, specIn, passesIn}
+use Rattle.state_passes.specs.Passes.{rowFor, left, onAt, knownIn, keptIn, answeredIn, stepIn, seen, lookIn, looksIn, rowIn, implIn, repliedIn, replyLooks, replyIn, specIn, passesIn}
 use Rattle.state_passes.specs.declared.Seen.{Seen}
 use Rattle.state_passes.specs.declared.Row.{Row}
 

@@ -1,7 +1,7 @@
 // Whether a state passes, with no word on where it fails: one look at each row and sum value, all criteria at once. So a state that
 // passes is paid for once, and only one that fails is searched (crate lowest_failure). Every function answers any arrays and any plan.
 //
-// What does not change from state to state is worked out before (crate plan). What each function computes is in specs/Quick; that it
+// What does not change from state to state is worked out before (crate plan). What each function computes is in specs/Passes; that it
 // is the quick test of the crate decision is in proofs/Decided.
 use conjuncts::Guarded;
 use design::Process;
@@ -10,7 +10,7 @@ use eval::Held;
 use plan::RowPlan;
 ghost use mathlib.Core.Path.{_≡_};
 ghost use Rattle.layout.specs.Sizes.{Fits};
-ghost use Rattle.state_passes.specs.Quick.{knownIn, keptIn, answeredIn, stepIn, lookIn, looksIn, rowFor, rowIn, implIn, repliedIn, replyLooks, replyIn, specIn, passesIn};
+ghost use Rattle.state_passes.specs.Passes.{knownIn, keptIn, answeredIn, stepIn, lookIn, looksIn, rowFor, rowIn, implIn, repliedIn, replyLooks, replyIn, specIn, passesIn};
 
 // What was seen of rows: whether each holds, and, if so, whether no internal one is enabled.
 pub struct Seen {
@@ -241,7 +241,7 @@ fn rows_seen<'a>(
     fields: &'a limits::Fields,
     starts: &'a limits::Starts,
     shape: Shape,
-    plan: &[u16; plan::ENTRIES],
+    plan: &[u16; plan::LENGTH],
     v: &limits::Values,
     t: &limits::Values,
     m: u16,
@@ -346,7 +346,7 @@ fn rows_replied<'a>(
     fields: &'a limits::Fields,
     starts: &'a limits::Starts,
     shape: Shape,
-    plan: &[u16; plan::ENTRIES],
+    plan: &[u16; plan::LENGTH],
     v: &limits::Values,
     t: &limits::Values,
 ) -> bool
@@ -371,7 +371,7 @@ pub fn passes<'a>(
     fields: &'a limits::Fields,
     starts: &'a limits::Starts,
     shape: Shape,
-    plan: &[u16; plan::ENTRIES],
+    plan: &[u16; plan::LENGTH],
     v: &limits::Values,
     t: &limits::Values,
 ) -> bool

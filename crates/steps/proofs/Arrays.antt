@@ -27,7 +27,7 @@ use Rattle.design.specs.declared.Process.{Process}
 use Rattle.design.specs.declared.Shape.{Shape}
 use Rattle.layout.specs.Sizes.{parametersFrom, sizesOf, initialsOf}
 use Rattle.layout.proofs.Sizes.{each-on, each-none}
-use Rattle.steps.specs.Arrays.{padded, front, valuesAt, stepOf, noStep, lineOf, rowStep, rowSpan, rowWith, stateIn, initialIn, belowIn, sameIn, invariantIn, insideIn, mappedIn, measureIn}
+use Rattle.steps.specs.Arrays.{padded, firstValues, valuesAt, stepOf, noStep, lineOf, rowStep, rowSpan, rowWith, stateIn, initialIn, belowIn, sameIn, invariantIn, insideIn, mappedIn, measureIn}
 use Rattle.steps.specs.declared.Step.{Step}
 
 -- ---- the values of terms, one after the other
@@ -170,11 +170,11 @@ module _ (f s v : List ℕ) (p : Process) where
   some = p .parameters .count
 
   unfoldable pub belowLeft : ℕ → Bool
-  belowLeft i = belowB (sizesOf (parametersFrom f s (some - i) (from + i))) (front (some - i) i v)
+  belowLeft i = belowB (sizesOf (parametersFrom f s (some - i) (from + i))) (firstValues (some - i) i v)
 
   belows : (i z : ℕ) → i < some → z ≡ getD (lineFrom f s (from + i)) 1 0
-      → belowLeft i ≡ belowB (z ∷ sizesOf (parametersFrom f s (some - (i + 1)) (from + (i + 1)))) (getD v i 0 ∷ front (some - (i + 1)) (i + 1) v)
-  unfolding belowLeft front
+      → belowLeft i ≡ belowB (z ∷ sizesOf (parametersFrom f s (some - (i + 1)) (from + (i + 1)))) (getD v i 0 ∷ firstValues (some - (i + 1)) (i + 1) v)
+  unfolding belowLeft firstValues
   belows i z l ez =
       let k : some - i ≡ suc (some - (i + 1)) = omega arith in
       rw (each-on parameterOf (lineFrom f s) from some i l, ez, add-one i, k, add-one i)
@@ -191,7 +191,7 @@ module _ (f s v : List ℕ) (p : Process) where
   below-turn i z x l ez ex h inv = sym (belows i z l ez ∙ rw (← ex, lt-ltb x z h)) ∙ inv
 
   pub below-end : (i : ℕ) → some ≤ i → belowLeft i ≡ belowIn f s p v → true ≡ belowIn f s p v
-  unfolding belowLeft front
+  unfolding belowLeft firstValues
   below-end i l inv = go ∙ inv
     where
       go : true ≡ belowLeft i
@@ -199,10 +199,10 @@ module _ (f s v : List ℕ) (p : Process) where
 
 module _ (v w : List ℕ) (n i : ℕ) where
   unfoldable pub sameLeft : Bool
-  sameLeft = sameB (front (n - i) i v) (front (n - i) i w)
+  sameLeft = sameB (firstValues (n - i) i v) (firstValues (n - i) i w)
 
-  sames : i < n → sameLeft ≡ sameB (getD v i 0 ∷ front (n - (i + 1)) (i + 1) v) (getD w i 0 ∷ front (n - (i + 1)) (i + 1) w)
-  unfolding sameLeft front
+  sames : i < n → sameLeft ≡ sameB (getD v i 0 ∷ firstValues (n - (i + 1)) (i + 1) v) (getD w i 0 ∷ firstValues (n - (i + 1)) (i + 1) w)
+  unfolding sameLeft firstValues
   sames l = let k : n - i ≡ suc (n - (i + 1)) = omega arith in rw (k, add-one i)
 
   pub same-fails : (x y : ℕ) → i < n → x ≡ getD v i 0 → y ≡ getD w i 0 → (x ≡ y → ⊥) → sameLeft ≡ sameIn n v w → false ≡ sameIn n v w
@@ -217,7 +217,7 @@ unfolding sameLeft
 same-turn v w n i x y l ex ey h inv = sym (sames v w n i l ∙ rw (← ex, ← ey, eq-eqb x y h)) ∙ inv
 
 pub same-end : (v w : List ℕ) (n i : ℕ) → n ≤ i → sameLeft v w n i ≡ sameIn n v w → true ≡ sameIn n v w
-unfolding sameLeft front
+unfolding sameLeft firstValues
 same-end v w n i l inv = go ∙ inv
   where
     go : true ≡ sameLeft v w n i

@@ -23,7 +23,7 @@ use Rattle.design.specs.Loaded.{lineFrom, eachLine, processIn, designAt}
 use Rattle.design.specs.declared.Process.{Process}
 use Rattle.design.specs.declared.Shape.{Shape}
 use Rattle.layout.specs.Sizes.{FitsIn, Fits}
-use Rattle.steps.specs.Arrays.{padded, front, stepOf, stateIn, belowIn, sameIn, invariantIn, insideIn, mappedIn, measureIn}
+use Rattle.steps.specs.Arrays.{padded, firstValues, stepOf, stateIn, belowIn, sameIn, invariantIn, insideIn, mappedIn, measureIn}
 use Rattle.steps.proofs.Arrays.{each-length, row-there, row-past}
 
 -- ---- an array that holds a state
@@ -65,27 +65,27 @@ module _ (x : List ℕ) (short : length x ≤ 8) where
       )
 
 -- its first values are the state's
-front-later : (n i a : ℕ) (x : List ℕ) → front n (suc i) (a ∷ x) ≡ front n i x
-unfolding front
-front-later zero i a x = refl
-front-later (suc n) i a x = rw (front-later n (suc i) a x)
+first-later : (n i a : ℕ) (x : List ℕ) → firstValues n (suc i) (a ∷ x) ≡ firstValues n i x
+unfolding firstValues
+first-later zero i a x = refl
+first-later (suc n) i a x = rw (first-later n (suc i) a x)
 
-front-all : (x : List ℕ) → front (length x) 0 x ≡ x
-unfolding front
-front-all [] = refl
-front-all (a ∷ x) = rw (front-later (length x) 0 a x, front-all x)
+first-all : (x : List ℕ) → firstValues (length x) 0 x ≡ x
+unfolding firstValues
+first-all [] = refl
+first-all (a ∷ x) = rw (first-later (length x) 0 a x, first-all x)
 
-front-alike : (v w : List ℕ) → ((i : ℕ) → getD v i 0 ≡ getD w i 0) → (n i : ℕ) → front n i v ≡ front n i w
-unfolding front
-front-alike v w agree zero i = refl
-front-alike v w agree (suc n) i = rw (agree i, front-alike v w agree n (suc i))
+first-alike : (v w : List ℕ) → ((i : ℕ) → getD v i 0 ≡ getD w i 0) → (n i : ℕ) → firstValues n i v ≡ firstValues n i w
+unfolding firstValues
+first-alike v w agree zero i = refl
+first-alike v w agree (suc n) i = rw (agree i, first-alike v w agree n (suc i))
 
-pub front-held : (x : List ℕ) (n : ℕ) → length x ≡ n → n ≤ 8 → front n 0 (padded x) ≡ x
-front-held x n e l = rw (← e) (front-alike (padded x) x (same-values x (rw e l)) (length x) 0 ∙ front-all x)
+pub first-held : (x : List ℕ) (n : ℕ) → length x ≡ n → n ≤ 8 → firstValues n 0 (padded x) ≡ x
+first-held x n e l = rw (← e) (first-alike (padded x) x (same-values x (rw e l)) (length x) 0 ∙ first-all x)
 
 pub same-held : (x y : List ℕ) (n : ℕ) → length x ≡ n → length y ≡ n → n ≤ 8 → sameIn n (padded x) (padded y) ≡ sameB x y
 unfolding sameIn
-same-held x y n ex ey l = rw (front-held x n ex l, front-held y n ey l)
+same-held x y n ex ey l = rw (first-held x n ex l, first-held y n ey l)
 
 -- ---- a process
 
@@ -147,7 +147,7 @@ module _ (f s : List ℕ) (p : Process) where
 
   pub below-held : FitsIn p → (x : List ℕ) → length x ≡ p .parameters .count → belowIn f s p (padded x) ≡ belowB (sizes (processIn f s p)) x
   unfolding belowIn
-  below-held fits x e = rw (front-held x (p .parameters .count) e (fits .parameters))
+  below-held fits x e = rw (first-held x (p .parameters .count) e (fits .parameters))
 
 -- ---- the design
 

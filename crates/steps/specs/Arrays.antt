@@ -24,9 +24,9 @@ unfoldable pub padded : List ℕ → List ℕ
 padded vs = sets (replicate 8 0) 0 vs
 
 -- n of the values from the i-th on
-unfoldable pub front : ℕ → ℕ → List ℕ → List ℕ
-front zero i v = []
-front (suc n) i v = getD v i 0 ∷ front n (suc i) v
+unfoldable pub firstValues : ℕ → ℕ → List ℕ → List ℕ
+firstValues zero i v = []
+firstValues (suc n) i v = getD v i 0 ∷ firstValues n (suc i) v
 
 -- the values of n terms from a place on
 unfoldable pub valuesAt : List ℕ → ℕ → ℕ → List ℕ → ℕ → List ℕ
@@ -62,10 +62,10 @@ initialIn f s p = padded (initialState (processIn f s p))
 
 -- the values are below the sizes; the first n are the same
 unfoldable pub belowIn : List ℕ → List ℕ → Process → List ℕ → Bool
-belowIn f s p v = belowB (sizes (processIn f s p)) (front (p .parameters .count) 0 v)
+belowIn f s p v = belowB (sizes (processIn f s p)) (firstValues (p .parameters .count) 0 v)
 
 unfoldable pub sameIn : ℕ → List ℕ → List ℕ → Bool
-sameIn n v w = sameB (front n 0 v) (front n 0 w)
+sameIn n v w = sameB (firstValues n 0 v) (firstValues n 0 w)
 
 -- ---- the design: the invariant holds; it does inside the sizes; the mapped state; the measure
 

@@ -21,7 +21,7 @@ pub fn layout_fits<'a>(fields: &'a [u16], starts: &'a [u16], n: usize) -> bool
     if !kinds_climb(fields, starts, n) {
         return false;
     }
-    if !counts_fit(fields, starts, n) {
+    if !counts_allowed(fields, starts, n) {
         return false;
     }
     lengths_fit(fields, starts, n)
@@ -42,7 +42,7 @@ pub fn numbers_fit<'a>(fields: &'a [u16], starts: &'a [u16], n: usize) -> bool
     true
 }
 
-// How many of the first n lines are of kinds 1 to 4.
+// How many of the first n lines are of kinds 1 to 4, whose ranks are their numbers.
 pub fn counts_of<'a>(fields: &'a limits::Fields, starts: &'a limits::Starts, n: usize) -> Counts
     ensures { λ r. ⌜ r ≡ countsOf (heldLines (now (fields .entry)) (now (starts .entry)) n) ⌝ }
 {
@@ -77,7 +77,7 @@ fn kinds_climb<'a>(fields: &'a [u16], starts: &'a [u16], n: usize) -> bool
 }
 
 // Whether the first n lines have as many of each kind as there may be.
-fn counts_fit<'a>(fields: &'a [u16], starts: &'a [u16], n: usize) -> bool
+fn counts_allowed<'a>(fields: &'a [u16], starts: &'a [u16], n: usize) -> bool
     ensures { λ r. ⌜ r ≡ countsAllowed wholeText (heldLines (now (fields .entry)) (now (starts .entry)) n) ⌝ }
 {
     let mut tally = [0usize; kinds::RANKS];

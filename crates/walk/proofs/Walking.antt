@@ -31,7 +31,7 @@ use Rattle.verdicts.specs.declared.Place.{Place}
 use Rattle.lowest_failure.specs.declared.Finding.{Finding}
 use Rattle.lowest_failure.specs.declared.Finding.the-variants.{Nothing, Found}
 use Rattle.plan.specs.Plan.{planIn}
-use Rattle.state_passes.specs.Quick.{passesIn}
+use Rattle.state_passes.specs.Passes.{passesIn}
 use Rattle.state_passes.proofs.Decided.{quick-held}
 use Rattle.walk.specs.Told.{told, toldWalked, noWalk, namedBy}
 use Rattle.walk.specs.Examine.{examineAt, examineIn, walkOn}

@@ -10,7 +10,7 @@ use Rattle.decision.specs.Examine.{named, firstFailing}
 use Rattle.design.specs.Loaded.{designAt}
 use Rattle.design.specs.declared.Shape.{Shape}
 use Rattle.steps.specs.Arrays.{stateIn, invariantIn, mappedIn}
-use Rattle.state_passes.specs.Quick.{passesIn}
+use Rattle.state_passes.specs.Passes.{passesIn}
 
 -- of the state v with the number k
 unfoldable pub examineAt : List ℕ → List ℕ → Shape → List ℕ → ℕ → List ℕ → Outcome Failure

@@ -14,8 +14,8 @@ ghost use Rattle.walk.specs.Told.{told, toldWalked, noWalk, namedBy};
 ghost use Rattle.walk.specs.Walk.{startMeets, startIn, planOf, walkedBy};
 ghost use Rattle.walk.specs.Examine.{examineIn, walkOn};
 
-// The entries of a plan.
-pub const ENTRIES: usize = plan::ENTRIES;
+// How many numbers a plan has.
+pub const PLAN_LENGTH: usize = plan::LENGTH;
 
 // Whether criterion 1 holds; not where the counts do not fit.
 pub fn start_holds<'a>(
@@ -36,7 +36,7 @@ pub fn plan<'a>(
     fields: &'a limits::Fields,
     starts: &'a limits::Starts,
     counts: Counts,
-) -> [u16; ENTRIES]
+) -> [u16; PLAN_LENGTH]
     ensures { λ r. ⌜ r ≡ planOf (now (fields .entry)) (now (starts .entry)) counts ⌝ }
 {
     plan::plan(fields, starts, layout::shape_of(counts))
@@ -47,7 +47,7 @@ pub fn walk<'a>(
     fields: &'a limits::Fields,
     starts: &'a limits::Starts,
     counts: Counts,
-    plan: &'a [u16; ENTRIES],
+    plan: &'a [u16; PLAN_LENGTH],
     from: usize,
     n: usize,
 ) -> Walked
@@ -101,7 +101,7 @@ fn walk_on<'a>(
     fields: &'a limits::Fields,
     starts: &'a limits::Starts,
     shape: Shape,
-    plan: &[u16; ENTRIES],
+    plan: &[u16; PLAN_LENGTH],
     from: usize,
     n: usize,
 ) -> Walked
@@ -126,13 +126,13 @@ fn walk_on<'a>(
     }
 }
 
-// One state examined: no failure, or its lowest, for which only a state that does not pass the quick test is searched. Outside the
+// One state examined: no failure, or its lowest, for which only a state that `state_passes` doesn't let pass is searched. Outside the
 // invariant nothing is tried.
 fn examine<'a>(
     fields: &'a limits::Fields,
     starts: &'a limits::Starts,
     shape: Shape,
-    plan: &[u16; ENTRIES],
+    plan: &[u16; PLAN_LENGTH],
     number: u16,
 ) -> Outcome
     requires { ⌜ Fits shape ⌝ }

@@ -5,10 +5,6 @@ use mathlib.Core.List.{List, [], _∷_}
 use Rattle.reader.specs.Text.{textOf}
 use Rattle.verdicts.specs.declared.Report.{Report}
 
--- the report of five numbers
-abbrev pub report : ℕ → ℕ → ℕ → ℕ → ℕ → Report
-report v c s r e = record { verdict = v; number = c; state = s; row = r; sum = e }
-
 abbrev pub fieldsOfReport : Report → List ℕ
 fieldsOfReport r = r .verdict ∷ r .number ∷ r .state ∷ r .row ∷ r .sum ∷ []
 

@@ -10,5 +10,5 @@ row-plan-in-spec =
     (tie.spec
     (λ c. search needs)
     (λ c κs. search needs)
-    (λ c. search laws.entry-there)
-    (λ c. search laws.entry-past))
+    (λ c. search laws.row-plan-there)
+    (λ c. search laws.row-plan-past))

@@ -19,4 +19,4 @@ row-plan-of-spec =
     (λ c. search needs)
     (λ c. search needs)
     (λ c κs. search needs)
-    (λ c. search laws.entry-is))
+    (λ c. search laws.row-plan-is))

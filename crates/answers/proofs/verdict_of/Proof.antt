@@ -1,11 +1,11 @@
 -- `told` goes by the phase.
 use borrow.Author.Needs.{needs}
 use Rattle.answers.proofs.Laws as laws
-use Rattle.answers.proofs.told.Statement.{statement}
-use Rattle.answers.proofs.told.Tie as tie
+use Rattle.answers.proofs.verdict_of.Statement.{statement}
+use Rattle.answers.proofs.verdict_of.Tie as tie
 
-pub told-spec : {M : Type 1} → statement M
-told-spec =
+pub verdict-of-spec : {M : Type 1} → statement M
+verdict-of-spec =
     tie.close
     (tie.spec
     (λ c. search needs)

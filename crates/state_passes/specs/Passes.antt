@@ -83,7 +83,7 @@ looksIn f s h row v t m =
     let past = row .at + left f row .used in
     seen (allIn (λ e. onAt f row v e ⇒ stepIn f s h row past v t m e) (row .looks) 0) (not (row .internal) || allIn (λ e. not (onAt f row v e)) (row .looks) 0)
 
--- row k, by an entry of a plan
+-- row k, by its plan
 unfoldable pub rowIn : List ℕ → List ℕ → Shape → ℕ → RowPlan → List ℕ → List ℕ → ℕ → Seen
 rowIn f s h k e v t m =
     let front = guardIn f v 0 (e .front) (lineOf s (h .implementation) k + 3) 32 in
