@@ -1,5 +1,5 @@
 -- Of any table: a kind's number is at most the last (`known-within`). Of the table of a whole text: each kind has a rank of its own, its
--- number (`rank-own`, `rank-none`), at most the last (`rank-most`).
+-- number (`rank-own`, `rank-none`), at most the last and not 0 (`rank-most`, `rank-some`).
 use Prim.Native.Nat.{ℕ, zero, suc, _≤_, _<_, max}
 use mathlib.Core.Path.{_≡_, refl}
 use mathlib.Core.Bool.{Bool, true, false, cond}
@@ -42,3 +42,9 @@ rank-most k = go (leb k lastKind) refl
     go : (b : Bool) → leb k lastKind ≡ b → entryIn wholeText k .rank ≤ lastKind
     go true e = let l = leb-true k lastKind e in let r = rank-own k l in omega arith
     go false e = let r = rank-none k (leb-false k lastKind e) in omega arith
+
+-- a kind's number is not 0
+pub rank-some : (k : ℕ) → 1 ≤ entryIn wholeText k .most → 1 ≤ entryIn wholeText k .rank
+unfolding entryIn lastIn
+rank-some zero h = absurd (omega arith)
+rank-some (suc k) h = let l = known-within wholeText (suc k) h in let r = rank-own (suc k) l in omega arith
