@@ -1,5 +1,5 @@
 #!/usr/bin/env python3
-"""Writes the tables of compare/tables that are edges of the rules: each limit, turned-down number and criterion.
+"""Writes the tables of compare/tables that are edges of the rules: each limit, turned-down number and criterion, and marks.
 
 Usage: tables.py DIRECTORY. The same files come out each time. The other tables there are kept by hand.
 """
@@ -19,7 +19,14 @@ PUMP = [
     [7, 6, 12, 1, 0, 0, 1, 0, 1, 0, 0],
 ]
 
+directory = sys.argv[1]
 made = {}
+
+
+def stored(name):
+    """A table that is kept by hand."""
+    with open(os.path.join(directory, name + ".txt")) as file:
+        return [[int(line[i:i + 6]) for i in range(0, len(line) - 1, 6)] for line in file]
 
 
 def text(lines):
@@ -416,9 +423,281 @@ def many_states():
     put("s_remainder_by_0", small(parameters=[(2, 0)], rows=[[1, 1, 10, 5, 0, 7, 0, 0, 1, 0]], spec_rows=[[1, 1, 10, 0, 7, 0, 0]]))
 
 
-for part in (long_texts, bad_columns, many_fields, shapes, bounds, terms, actions, together, criteria, many_states):
+# Marks. RETRY: state 0 sends, and sum value 1 alone delivers; state 1 tells. CHAIN: states 0, 1, 2 lead on by rows 1, 3, 5 for sum value 0,
+# and rows 3 and 5 lead back or stay for the others; state 3 tells; row 4 is everywhere.
+
+RETRY = small(parameters=[(2, 0)], rows=[[0, 3, 12, 1, 0, 0, 0, 0, 0, 6, 12, 2, 0, 1, 0, 1, 0, 0], [1, 1, 12, 1, 0, 0, 1, 0, 7, 0, 0]],
+              spec_rows=[[1, 1, 10, 0, 7, 0, 0]], measure=[4, 0, 1, 1, 0])
+CHAIN = small(parameters=[(4, 0)], rows=[
+    [0, 1, 12, 1, 0, 0, 0, 0, 0, 0, 1],
+    [5, 1, 12, 1, 0, 0, 3, 0, 9, 0, 0],
+    [0, 2, 12, 1, 0, 0, 1, 0, 0, 6, 12, 2, 0, 0, 0, 2, 0, 0],
+    [6, 2, 10, 2, 1, 0],
+    [0, 3, 12, 1, 0, 0, 2, 0, 0, 6, 12, 2, 0, 0, 0, 3, 6, 12, 2, 0, 1, 0, 0, 0, 2],
+], spec_rows=[[6, 2, 10, 2, 0, 0], [5, 1, 10, 0, 9, 0, 0]], measure=[4, 0, 3, 1, 0])
+# Each holds for the step of its own row that leads on, and for no step of another.
+CHAIN_MARKS = [[12, 1, 0, 0, 0], [15, 12, 1, 0, 0, 1, 12, 2, 0, 0], [15, 12, 1, 0, 0, 2, 12, 2, 0, 0]]
+FIRST_SUM = [12, 2, 0, 0]
+
+
+def marked(table, *formulas):
+    return table + [[8] + [n for formula in formulas for n in formula]]
+
+
+def internal_rows(table):
+    return sum(line[:2] == [3, 0] for line in table)
+
+
+def nested_true(depth):
+    """A formula of that depth that holds, of negations."""
+    return [14] * (depth - 1) + [10 if depth % 2 else 11]
+
+
+def first_sum_deep(depth):
+    """A formula of that depth that holds for sum value 0."""
+    return [15] + FIRST_SUM + nested_true(depth - 1)
+
+
+def all_marked():
+    """As without the line."""
+    for name in ("cond_row3_true", "data_row3", "first_size_2", "given", "inv_false", "measure_0", "row2_last_next_0", "row2_removed",
+                 "second_map_0", "second_spec_size_3"):
+        table = stored("P_" + name)
+        put("m_P_" + name, marked(table, *[[10]] * internal_rows(table)))
+    for name in ("abp_plain", "buffer2", "buffer2__move_loses", "buffer3__measure_count", "coin_noloop", "no_rows", "trap_two_hop",
+                 "wrap_measure_bad", "wrap_measure_good"):
+        table = stored(name)
+        put("m_" + name, marked(table, *[[10]] * internal_rows(table)))
+    put("m_retry_no_line", RETRY)
+    put("m_chain_no_line", CHAIN)
+    put("m_retry_all", marked(RETRY, [10]))
+    put("m_chain_all", marked(CHAIN, [10], [10], [10]))
+
+
+def marks_of_designs():
+    """The alternating bit with one formula changed, and with each in the next one's place."""
+    *table, line = stored("abp_marked")
+    formulas = [[10], FIRST_SUM, [10], [10], [10], FIRST_SUM, [10], [10]]
+    assert marked(table, *formulas)[-1] == line
+    for i, formula in enumerate(formulas):
+        put("m_abp_none_of_%d" % i, marked(table, *formulas[:i], [11], *formulas[i + 1:]))
+        if formula != [10]:
+            put("m_abp_all_of_%d" % i, marked(table, *formulas[:i], [10], *formulas[i + 1:]))
+    put("m_abp_shifted", marked(table, *formulas[1:], formulas[0]))
+
+
+def count_of_marks():
+    put("m_t6_none", marked(PUMP))
+    put("m_t6_one_more", marked(PUMP, [10], [10]))
+    put("m_t6_one_for_each_row", marked(PUMP, [10], [10], [10]))
+    put("m_t6_half", marked(PUMP, [14]))
+    put("m_t6_late_value", marked(PUMP, [10], [0, 0]))
+    put("m_t6_late_field", marked(PUMP, [10], [0]))
+    for i in range(3):
+        put("m_t6_chain_without_%d" % i, marked(CHAIN, *CHAIN_MARKS[:i], *CHAIN_MARKS[i + 1:]))
+        put("m_t6_chain_twice_%d" % i, marked(CHAIN, *CHAIN_MARKS[:i + 1], *CHAIN_MARKS[i:]))
+    loops = small(rows=[[0, 1, 10, 0, 0, 0, 0]] * 32)
+    for n in (31, 32, 33):
+        put("m_t6_32_rows_%d_formulas" % n, marked(loops, *[[11]] * n))
+    for i in (0, 15, 31):
+        put("m_c5_32_rows_loop_%d" % i, marked(loops, *[[11]] * i, [10], *[[11]] * (31 - i)))
+    visible = small(rows=[[1, 1, 10, 0, 0, 0, 0]], spec_rows=[[1, 1, 10, 0, 0, 0, 0]])
+    for name, table in (("no_rows", small()), ("visible_rows", visible)):
+        put("m_alone_" + name, marked(table))
+        put("m_t6_10_" + name, marked(table, [10]))
+        put("m_t4_alone_twice_" + name, marked(marked(table)))
+    internal = small(spec_rows=[[0, 1, 11, 0, 0, 0, 0]])
+    put("m_t7_spec_internal", marked(internal))
+    put("m_t6_spec_internal_formula", marked(internal, [10]))
+    put("m_t7_spec_internal_pump", marked(changed(PUMP, 8, [4, 0, 1, 11, 0, 0, 1, 0, 1, 1]), [10]))
+    put("m_t6_spec_internal_pump_formula", marked(changed(PUMP, 8, [4, 0, 1, 11, 0, 0, 1, 0, 1, 1]), [10], [10]))
+    put("m_t7_internal_data", marked(changed(PUMP, 5, PUMP[5][:8] + [0, 1] + PUMP[5][10:]), [10]))
+
+
+def place_of_marks():
+    line = [8, 10]
+    put("m_t4_two", PUMP + [line, line])
+    put("m_t4_two_and_kind_alone", PUMP + [line, [8]])
+    for at in (0, 2, 4, 7, 9, 10, 11):
+        put("m_t4_before_kind_%d" % PUMP[at][0], PUMP[:at] + [line] + PUMP[at:])
+        put("m_t4_then_kind_%d" % PUMP[at][0], PUMP + [line, PUMP[at]])
+        others = [other for other in PUMP if other[0] != PUMP[at][0]]
+        put("m_t4_then_kind_%d_not_before" % PUMP[at][0], others + [line, PUMP[at]])
+    for kind in (0, 9, 13, 14, 65535):
+        put("m_t4_then_kind_%d" % kind, PUMP + [line, [kind, 10]])
+    put("m_t4_no_measure", PUMP[:-1] + [line])
+    put("m_t4_only_marks", [line])
+    put("m_t4_only_kind", [[8]])
+
+
+def terms_of_marks():
+    for mark in (0, 1, 2, 3, 7, 8, 9, 17, 18, 65535):
+        put("m_t6_mark_%d" % mark, marked(PUMP, [mark]))
+        put("m_t6_mark_%d_inside" % mark, marked(PUMP, [14, mark]))
+    for i, value in enumerate(([0, 0], [0, 1], [1, 0], [2], [6, 10, 0, 1, 0, 0])):
+        put("m_t6_value_%d" % i, marked(PUMP, value))
+    put("m_t6_formula_for_value", marked(PUMP, [12, 10, 0, 1]))
+    for parameter in (0, 1, 2, 7, 8, 65535):
+        put("m_t6_parameter_%d" % parameter, marked(PUMP, [13, 1, parameter, 0, 9]))
+    loop = [[0, 1, 10, 0, 0, 1, 0]]
+    put("m_t6_parameter_of_specification", marked(small(rows=loop, spec_parameters=[(1, 0)] * 2), [13, 1, 1, 0, 0]))
+    put("m_parameter_of_implementation", marked(small(rows=[loop[0] + [1, 1]], parameters=[(1, 0)] * 2), [13, 1, 1, 0, 0]))
+    for depth in (31, 32, 33, 34, 64):
+        put("m_t6_depth_%d" % depth, marked(PUMP, nested_true(depth)))
+        put("m_t6_depth_%d_value" % depth, marked(PUMP, [12] + nested_value(depth - 1) + [0, depth - 1]))
+        put("m_t6_depth_%d_first" % depth, marked(CHAIN, nested_true(depth), FIRST_SUM, FIRST_SUM))
+        put("m_t6_depth_%d_last" % depth, marked(CHAIN, nested_true(32), first_sum_deep(32), first_sum_deep(depth)))
+
+
+def fields_of_marks():
+    for n in (255, 256, 257, 258):
+        put("m_t3_line_%d" % n, marked(PUMP, wide_formula(n - 1)))
+    put("m_t3_line_257_of_10", marked(PUMP, [10] * 256))
+    rows = [[0, 1, *wide_formula(249), 0, 0, 0, 0]] * 15
+    for total in (4095, 4096, 4097):
+        table = small(rows=rows)
+        last = total - sum(map(len, table)) - 15
+        put("m_t3_fields_%d" % total, marked(table, *[[11]] * 14, [14] + wide_formula(last - 1)))
+    visible = [[i + 1, 1, *wide_formula(n - 7), 0, 0, 0, 0] for i, n in enumerate([256] * 15 + [242])]
+    put("m_t3_fields_4096_without", small(rows=visible))
+    put("m_t3_fields_4097_kind_alone", marked(small(rows=visible)))
+    put("m_t1_long", marked(PUMP, [10] * 4700))
+    text_ = text(marked(PUMP, [10]))
+    for i, columns in enumerate(BAD_COLUMNS[:4]):
+        put("m_t2_columns_%d" % i, spliced(text_, len(text_) - 7, columns))
+        put("m_t2_columns_%d_kind" % i, spliced(text_, len(text_) - 13, columns))
+    put("m_t2_no_line_end", text_[:-1])
+    put("m_t2_kind_alone_no_line_end", text(marked(small()))[:-1])
+    put("m_t2_empty_line_before", text(PUMP) + b"\n" + text([[8, 10]]))
+    put("m_t2_empty_line_after", text_ + b"\n")
+
+
+def faults_with_marks():
+    """A fault of the line and another one: the lower number is given."""
+    twice = changed(PUMP, 8, [4, 1, 4] + PUMP[8][3:])
+    span = changed(PUMP, 5, [3, 0, 0] + PUMP[5][3:])
+    put("m_t67", marked(twice, [10], [10]))
+    put("m_t56", marked(span, [9]))
+    put("m_t46", PUMP + [[8, 9], [8, 10]])
+    put("m_t45", marked(marked(span, [10]), [10]))
+    put("m_t36", marked(PUMP, [9] * 256))
+    put("m_t34", [[8] + [10] * 256] + PUMP)
+    put("m_t26", text(marked(PUMP, [9]))[:-1])
+    put("m_t23", text(marked(PUMP, wide_formula(256)))[:-1])
+    put("m_t6_row_too", marked(changed(PUMP, 5, [3, 0, 1, 9]), [10]))
+    put("m_t4_row_too", marked(changed(PUMP, 5, [3, 0]), [10]))
+
+
+def marks_by_sum():
+    delivers = [12, 2, 0, 1]
+    for s in range(4):
+        put("m_sum_%d" % s, marked(RETRY, [12, 2, 0, s]))
+    put("m_sum_not_0", marked(RETRY, [14] + FIRST_SUM))
+    put("m_sum_not_1", marked(RETRY, [14] + delivers))
+    put("m_sum_below_2", marked(RETRY, [13, 2, 0, 2]))
+    put("m_sum_none", marked(RETRY, [11]))
+    for state in range(2):
+        put("m_sum_at_%d" % state, marked(RETRY, [12, 1, 0, 0, state]))
+        put("m_sum_1_at_%d" % state, marked(RETRY, [15] + delivers + [12, 1, 0, 0, state]))
+    stays = changed(RETRY, 2, [3, 0, 256] + RETRY[2][3:10] + [6, 12, 2, 0, 255, 0, 1, 0, 0])
+    for s in (0, 1, 128, 254, 255):
+        put("m_sum_256_%d" % s, marked(stays, [12, 2, 0, s]))
+        put("m_sum_256_from_%d" % s, marked(stays, [14, 13, 2, 0, s]))
+    # Nothing but the mark reads the sum value.
+    moves = changed(RETRY, 2, [3, 0, 4] + RETRY[2][3:10] + [0, 1])
+    for s in range(5):
+        put("m_sum_in_mark_%d" % s, marked(moves, [12, 2, 0, s]))
+        put("m_c5_sum_in_mark_%d" % s, marked(changed(moves, -1, [7, 0, 0]), [12, 2, 0, s]))
+        put("m_c5_sum_in_mark_from_%d" % s, marked(changed(moves, -1, [7, 0, 0]), [14, 13, 2, 0, s]))
+    # Two rows, each with a sum value and a span of its own.
+    own = changed(CHAIN, 2, [3, 0, 4, 12, 1, 0, 0, 0, 0, 0, 6, 12, 2, 0, 3, 0, 1, 0, 0])
+    third = [12, 2, 0, 3]
+    put("m_sum_own", marked(own, third, FIRST_SUM, FIRST_SUM))
+    put("m_sum_own_swapped", marked(own, FIRST_SUM, third, FIRST_SUM))
+    put("m_sum_own_none", marked(own, third, third, FIRST_SUM))
+
+
+def order_of_marks():
+    for name in ("abc", "acb", "bac", "bca", "cab", "cba"):
+        put("m_order_" + name, marked(CHAIN, *[CHAIN_MARKS["abc".index(letter)] for letter in name]))
+    for i in range(3):
+        put("m_order_all_of_%d" % i, marked(CHAIN, *CHAIN_MARKS[:i], [10], *CHAIN_MARKS[i + 1:]))
+        put("m_order_none_of_%d" % i, marked(CHAIN, *CHAIN_MARKS[:i], [11], *CHAIN_MARKS[i + 1:]))
+    put("m_order_first_sums", marked(CHAIN, [10], FIRST_SUM, FIRST_SUM))
+    put("m_order_next_state", marked(PUMP, [12, 1, 0, 0, 2]))
+
+
+def focus_points():
+    """Two states; an internal row leads from 0 to 1, and action 1 is enabled in both, in 1 alone, or in 0 for some sum values."""
+    step = [0, 1, 12, 1, 0, 0, 0, 0, 0, 0, 1]
+    enabled = {"everywhere": [10], "late": [12, 1, 0, 0, 1], "partly": [16, 12, 1, 0, 0, 1, 13, 2, 0, 3]}
+
+    def two_states(where, data=(2,), more=(), measure=(4, 0, 1, 1, 0)):
+        visible = [1, 4, *enabled[where], *data, 1, 0]
+        return small(parameters=[(2, 0)], rows=[step, visible, *more], spec_rows=[[1, 4, 10, 2, 0, 0]], measure=measure)
+
+    for where in enabled:
+        put("m_focus_%s_unmarked" % where, marked(two_states(where), [11]))
+        put("m_focus_%s_marked" % where, marked(two_states(where), [10]))
+    put("m_focus_everywhere_unmarked_stays", marked(two_states("everywhere", measure=[0, 0]), [11]))
+    put("m_c5_everywhere_marked_stays", marked(two_states("everywhere", measure=[0, 0]), [10]))
+    put("m_focus_other_row_marked", marked(two_states("late", more=[step]), [11], [10]))
+    put("m_focus_no_row_marked", marked(two_states("late", more=[step]), [11], [11]))
+    # Criterion 7 before 8.
+    put("m_c7_before_8", marked(two_states("partly", data=[0, 9]), [11]))
+    put("m_c8_not_7", marked(two_states("partly", data=[0, 9]), [10]))
+    # A mark where the condition doesn't hold makes no step.
+    never = [0, 1, 11, 0, 0, 1, 0]
+    put("m_c7_mark_alone", marked(small(rows=[never], spec_rows=[[1, 1, 10, 0, 0, 0, 0]]), [10]))
+    put("m_mark_alone", marked(small(rows=[never, [1, 1, 10, 0, 0, 0, 0]], spec_rows=[[1, 1, 10, 0, 0, 0, 0]]), [10]))
+
+
+def marks_and_criteria():
+    loop = [0, 1, 10, 0, 0, 1, 0]
+    put("m_loop_unmarked", marked(small(rows=[loop]), [11]))
+    put("m_c5_loop_marked", marked(small(rows=[loop]), [10]))
+    put("m_c5_loop_no_line", small(rows=[loop]))
+    put("m_c5_second_loop_marked", marked(small(rows=[loop, loop]), [11], [10]))
+    put("m_c5_both_loops_marked", marked(small(rows=[loop, loop]), [10], [10]))
+    put("m_c7_loop_unmarked", marked(small(rows=[loop], spec_rows=[[1, 1, 10, 0, 0, 0, 0]]), [11]))
+    turns = [0, 1, 10, 0, 0, 5, 3, 1, 0, 0, 1, 0, 3]
+    circle = small(parameters=[(3, 0)], rows=[turns], measure=[4, 0, 2, 1, 0])
+    put("m_turns_unmarked", marked(circle, [11]))
+    put("m_turns_marked_down", marked(circle, [13, 1, 0, 0, 2]))
+    put("m_c5_turns_marked_up", marked(circle, [14, 13, 1, 0, 0, 2]))
+    # The first internal row breaks a criterion where the second breaks another.
+    stays, leaves, maps = loop, [0, 1, 12, 1, 0, 0, 0, 0, 0, 0, 2], [0, 1, 12, 1, 0, 0, 0, 0, 0, 0, 1]
+    rows = {"5": stays, "3": leaves, "4": maps}
+    for first, second in (("5", "3"), ("5", "4"), ("4", "3"), ("3", "4")):
+        table = small(parameters=[(2, 0)], spec_parameters=[(2, 0)], rows=[rows[first], rows[second]], mapping=[1, 0])
+        for name, formulas in (("first", ([10], [11])), ("second", ([11], [10])), ("none", ([11], [11]))):
+            put("m_c%s_then_%s_marked_%s" % (first, second, name), marked(table, *formulas))
+    put("m_c3_invariant_unmarked", marked(small(parameters=[(2, 0)], rows=[maps], invariant=[12, 1, 0, 0, 0]), [11]))
+    outside = [0, 1, 12, 1, 0, 0, 1, 0, 0, 1, 0]
+    put("m_outside_invariant", marked(small(parameters=[(2, 0)], rows=[outside], invariant=[12, 1, 0, 0, 0]), [10]))
+
+
+def wide_marks():
+    for s in (0, 2, 4):
+        put("m_wide_sum_%d" % s, marked(WIDE, [12, 2, 0, s]))
+    put("m_wide_elsewhere", marked(WIDE, [14, 12, 1, 0, 0, 1]))
+    for price in (0, 3, 7):
+        put("m_c7_none_at_%d" % price, marked(WIDE, [14] + at_state(1, price)))
+        for s in (0, 2, 4):
+            here = at_sum(1, price, s)
+            for name, table in (
+                ("c3_phase", with_row(ROWS, 2, phase=choice(here, [0, 3], [0, 2]))),
+                ("c4_price", with_row(ROWS, 2, price=choice(here, [5, 3, 1, 1, 0, 1, 0, 8], [1, 1]))),
+                ("c5_stays", with_row(ROWS, 2, phase=choice(here, [0, 1], [0, 2]))),
+            ):
+                put("m_%s_unmarked_%d_%d" % (name, price, s), marked(table, [14] + here))
+                put("m_%s_alone_marked_%d_%d" % (name, price, s), marked(table, [16] + here + [14] + at_state(1, price)))
+
+
+for part in (long_texts, bad_columns, many_fields, shapes, bounds, terms, actions, together, criteria, many_states, all_marked,
+             marks_of_designs, count_of_marks, place_of_marks, terms_of_marks, fields_of_marks, faults_with_marks, marks_by_sum,
+             order_of_marks, focus_points, marks_and_criteria, wide_marks):
     part()
-directory = sys.argv[1]
 for name, table in made.items():
     with open(os.path.join(directory, name + ".txt"), "wb") as file:
         file.write(table)

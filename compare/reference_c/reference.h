@@ -1,4 +1,4 @@
-/* The reference checker for C programs. */
+/* The reference checker for C programs, by the rules after the requests up to the one that compare/level names. */
 #ifndef REFERENCE_H
 #define REFERENCE_H
 #include <stddef.h>

@@ -1,7 +1,15 @@
 //! The reference checker for C programs: its one-call check and its desk. reference.h says what each function does.
 
 use reference_checker::desk::{Advanced, Desk, Standing};
+use reference_checker::level::Level;
 use std::slice;
+use std::sync::LazyLock;
+
+/// How many of the requests its rules have: the number in compare/level.
+static LEVEL: LazyLock<Level> = LazyLock::new(|| {
+    let number = include_str!("../../level").trim_end().parse().ok();
+    number.and_then(Level::new).expect("compare/level has a number that the reference knows")
+});
 
 unsafe fn lent<'a>(bytes: *const u8, len: usize) -> &'a [u8] {
     if len == 0 {
@@ -20,7 +28,7 @@ fn done(answer: Result<(), u8>) -> u32 {
 #[no_mangle]
 pub unsafe extern "C" fn reference_check(text: *const u8, text_len: usize, report: *mut u8, report_len: usize) -> u32 {
     let buffer = if report_len == 0 { &mut [] } else { slice::from_raw_parts_mut(report, report_len) };
-    u32::from(reference_checker::check(lent(text, text_len), buffer))
+    u32::from(reference_checker::check_at(*LEVEL, lent(text, text_len), buffer))
 }
 
 #[no_mangle]
@@ -39,7 +47,7 @@ pub unsafe extern "C" fn reference_free(desk: *mut Desk) {
 /// The desk comes from `reference_desk`, and the text's bytes are there.
 #[no_mangle]
 pub unsafe extern "C" fn reference_load(desk: *mut Desk, text: *const u8, text_len: usize) -> u32 {
-    done((*desk).load(lent(text, text_len)))
+    done((*desk).load_at(*LEVEL, lent(text, text_len)))
 }
 
 /// # Safety
@@ -53,6 +61,7 @@ pub unsafe extern "C" fn reference_advance(desk: *mut Desk, n: u64, number: *mut
                 Standing::Open => 0,
                 Standing::Accepted => 1,
                 Standing::Failed => 2,
+                Standing::AcceptedAfterStep => unreachable!("verdict 3 comes with request 6"),
             }
         }
         Err(refusal) => {

@@ -1,0 +1,576 @@
+// Texts made from a seed: designs, those that try again among them, with and without marks; changed and damaged ones; and what is long.
+#ifndef TEXTS_H
+#define TEXTS_H
+#include <stdint.h>
+#include <stdio.h>
+#include <stdlib.h>
+#include <string.h>
+
+enum { ROOM = 40000, POOL = 2000 };
+
+struct text {
+    uint8_t bytes[ROOM];
+    size_t len;
+};
+
+// Stored tables, from which others are made, and the places of those that have marks and are accepted.
+struct pool {
+    struct text table[POOL];
+    int tables, accepted[POOL], marked;
+};
+
+static uint64_t seed;
+
+static uint64_t rnd(uint64_t below) {
+    seed ^= seed << 13;
+    seed ^= seed >> 7;
+    seed ^= seed << 17;
+    return (seed * 0x2545F4914F6CDD1DULL >> 32) % below;
+}
+
+// Texts from numbers.
+
+static void put(struct text *t, const void *bytes, size_t n) {
+    if (t->len + n > ROOM) return;
+    memcpy(t->bytes + t->len, bytes, n);
+    t->len += n;
+}
+
+// Some bytes, none or more, in place of others.
+static void splice(struct text *t, size_t at, size_t gone, const void *bytes, size_t n) {
+    if (at > t->len) at = t->len;
+    if (gone > t->len - at) gone = t->len - at;
+    if (t->len - gone + n > ROOM) return;
+    memmove(t->bytes + at + n, t->bytes + at + gone, t->len - at - gone);
+    memcpy(t->bytes + at, bytes, n);
+    t->len = t->len - gone + n;
+}
+
+static void add(struct text *t, const struct text *part) { put(t, part->bytes, part->len); }
+
+static void field(struct text *t, unsigned n) {
+    char columns[16];
+    snprintf(columns, sizeof columns, "%6u", n % 65536);
+    put(t, columns, 6);
+}
+
+static void fields(struct text *t, int n, const unsigned *list) {
+    for (int i = 0; i < n; i++) field(t, list[i]);
+}
+
+static void line_end(struct text *t) { put(t, "\n", 1); }
+
+static void formula(struct text *t, int depth, unsigned params, int row);
+
+static unsigned number(void) {
+    static const unsigned edges[] = {0, 1, 2, 3, 4, 7, 8, 255, 256, 257, 32767, 32768, 65534, 65535};
+    return rnd(4) ? rnd(5) : rnd(3) ? edges[rnd(14)] : rnd(65536);
+}
+
+static void value(struct text *t, int depth, unsigned params, int row) {
+    unsigned pick = depth < 2 ? rnd(3) : rnd(8);
+    if (pick == 2 && !row) pick = 1;
+    switch (pick) {
+    case 0: field(t, 0); field(t, number()); break;
+    case 1: field(t, 1); field(t, rnd(params)); break;
+    case 2: field(t, 2); break;
+    case 6: field(t, 6); formula(t, depth - 1, params, row);
+        value(t, depth - 1, params, row); value(t, depth - 1, params, row); break;
+    default: field(t, pick == 7 ? 5 : pick); value(t, depth - 1, params, row); value(t, depth - 1, params, row);
+    }
+}
+
+static void formula(struct text *t, int depth, unsigned params, int row) {
+    unsigned pick = depth < 2 ? 10 + rnd(2) * (rnd(3) == 0) : 10 + rnd(7);
+    field(t, pick);
+    switch (pick) {
+    case 12: case 13: value(t, depth - 1, params, row); value(t, depth - 1, params, row); break;
+    case 14: formula(t, depth - 1, params, row); break;
+    case 15: case 16: formula(t, depth - 1, params, row); formula(t, depth - 1, params, row); break;
+    }
+}
+
+// A value of one parameter of a size, in it for certain unless odd.
+static void within(struct text *t, unsigned size, unsigned params, int odd) {
+    if (odd) { value(t, 3, params, 1); return; }
+    if (rnd(3) == 0) { field(t, 0); field(t, rnd(size)); return; }
+    field(t, 5);
+    value(t, 1 + rnd(3), params, 1);
+    field(t, 0);
+    field(t, size);
+}
+
+// Rows that both processes have, beside internal ones that move a last parameter down; parts go wrong now and then.
+static void related(struct text *t) {
+    unsigned k = 1 + rnd(3), phases = 1 + rnd(4), rows = rnd(5), internal = rnd(3), size[8], span[8], wrong = rnd(3) ? 1 + rnd(13) : 0;
+    t->len = 0;
+    for (unsigned i = 0; i < k; i++) size[i] = 1 + rnd(4);
+    unsigned initial[8];
+    for (unsigned i = 0; i < k; i++) { initial[i] = rnd(size[i]); fields(t, 3, (unsigned[]){1, size[i], initial[i]}); line_end(t); }
+    fields(t, 3, (unsigned[]){1, phases, rnd(phases)}); line_end(t);
+    for (unsigned i = 0; i < k; i++) {
+        fields(t, 3, (unsigned[]){2, wrong == 1 ? 1 + rnd(size[i]) : size[i], wrong == 2 ? 0 : initial[i]});
+        line_end(t);
+    }
+    struct text body[8];
+    for (unsigned r = 0; r < rows; r++) {
+        body[r].len = 0;
+        span[r] = rnd(8) ? 1 + rnd(4) : 1 + rnd(256);
+        formula(&body[r], 1 + rnd(4), k, 1);
+        value(&body[r], 1 + rnd(4), k, 1);
+        for (unsigned i = 0; i < k; i++) within(&body[r], size[i], k, wrong == 3 && rnd(4) == 0);
+    }
+    for (unsigned r = 0; r < rows; r++) {
+        if (wrong == 4 && rnd(rows) == 0) continue;
+        fields(t, 3, (unsigned[]){3, r + 1, span[r]});
+        put(t, body[r].bytes, body[r].len);
+        if (rnd(2)) { fields(t, 2, (unsigned[]){1, k}); } else within(t, phases, k + 1, wrong == 5);
+        line_end(t);
+    }
+    for (unsigned r = 0; r < internal; r++) {
+        unsigned phase = 1 + rnd(phases);
+        fields(t, 3, (unsigned[]){3, 0, 1 + rnd(3)});
+        if (rnd(2)) { field(t, 15); formula(t, 2, k + 1, 1); }
+        fields(t, 5, (unsigned[]){12, 1, k, 0, phase});
+        fields(t, 2, (unsigned[]){0, 0});
+        for (unsigned i = 0; i < k; i++) {
+            if (wrong == 6 && rnd(3) == 0) within(t, size[i], k + 1, 0); else fields(t, 2, (unsigned[]){1, i});
+        }
+        fields(t, 2, (unsigned[]){0, wrong == 7 ? phase : phase - 1});
+        line_end(t);
+    }
+    for (unsigned r = rows; r-- > 0;) {
+        if (wrong == 8 && rnd(rows) == 0) continue;
+        fields(t, 3, (unsigned[]){4, r + 1, wrong == 9 && rnd(3) == 0 ? 1 + rnd(4) : span[r]});
+        if (wrong == 10 && rnd(2)) {
+            formula(t, 2, k, 1);
+            value(t, 2, k, 1);
+            for (unsigned i = 0; i < k; i++) within(t, size[i], k, 0);
+        } else {
+            put(t, body[r].bytes, body[r].len);
+        }
+        line_end(t);
+    }
+    field(t, 5);
+    if (wrong == 11) formula(t, 4, k + 1, 0);
+    else if (rnd(2)) field(t, 10);
+    else fields(t, 5, (unsigned[]){13, 1, k, 0, phases});
+    line_end(t);
+    field(t, 6);
+    for (unsigned i = 0; i < k; i++) { if (wrong == 12) value(t, 3, k + 1, 0); else fields(t, 2, (unsigned[]){1, i}); }
+    line_end(t);
+    field(t, 7);
+    if (wrong == 13) value(t, 3, k + 1, 0); else fields(t, 2, (unsigned[]){1, k});
+    line_end(t);
+}
+
+// Any terms in a table of the right shape.
+static void shaped(struct text *t) {
+    unsigned k = 1 + rnd(3), m = 1 + rnd(3);
+    t->len = 0;
+    for (unsigned i = 0; i < k; i++) { unsigned s = 1 + rnd(5); fields(t, 3, (unsigned[]){1, s, rnd(s)}); line_end(t); }
+    for (unsigned i = 0; i < m; i++) { unsigned s = 1 + rnd(5); fields(t, 3, (unsigned[]){2, s, rnd(s)}); line_end(t); }
+    for (unsigned kind = 3; kind < 5; kind++) {
+        unsigned rows = rnd(4), params = kind == 3 ? k : m;
+        for (unsigned r = 0; r < rows; r++) {
+            unsigned action = kind == 3 && rnd(3) == 0 ? 0 : r + 1;
+            fields(t, 3, (unsigned[]){kind, action, 1 + rnd(3)});
+            formula(t, 1 + rnd(4), params, 1);
+            if (action) value(t, 1 + rnd(4), params, 1); else fields(t, 2, (unsigned[]){0, 0});
+            for (unsigned i = 0; i < params; i++) value(t, 1 + rnd(3), params, 1);
+            line_end(t);
+        }
+    }
+    field(t, 5); formula(t, 1 + rnd(4), k, 0); line_end(t);
+    field(t, 6); for (unsigned i = 0; i < m; i++) value(t, 1 + rnd(3), k, 0);
+    line_end(t);
+    field(t, 7); value(t, 1 + rnd(4), k, 0); line_end(t);
+}
+
+// Designs that try again. The last parameter is a phase, and visible rows wait for phase 0. From a phase above it an internal row leads on,
+// to a lower phase, where its goal holds, else back or nowhere; its mark is its goal. Other internal rows lead anywhere, unmarked.
+
+enum { MOST_ROWS = 12 };
+
+struct trial {
+    unsigned k, phases, size[4], initial[4], wrong, rows, wrong_row;
+    struct text line[MOST_ROWS], mark[MOST_ROWS]; // a visible row has no mark
+};
+
+// What is wrong with a trial, if anything.
+enum wrong {
+    RIGHT, MORE_MARKED, LESS_MARKED, MARKS_SWAPPED, MARKS_LEFT_OUT, STRAYS, LEAVES, NOT_ENABLED, OTHER_SPEC, OTHER_MEASURE,
+    OTHER_INVARIANT, WRONGS
+};
+
+// What is wrong with the row that is made now.
+static unsigned wrong_here(const struct trial *d) { return d->rows == d->wrong_row ? d->wrong : RIGHT; }
+
+// Holds for one sum value or more; seldom any formula.
+static void goal(struct text *t, unsigned span, unsigned params) {
+    unsigned pick = rnd(8);
+    if (pick == 0) formula(t, 1 + rnd(3), params, 1);
+    else if (pick < 3) fields(t, 4, (unsigned[]){13, 2, 0, 1 + rnd(span)});
+    else if (pick == 3 && span > 1) fields(t, 5, (unsigned[]){14, 12, 2, 0, rnd(span)});
+    else fields(t, 4, (unsigned[]){12, 2, 0, rnd(span)});
+}
+
+// The goal, or a formula that holds where it does and elsewhere, or only where it does.
+static void mark_of(struct text *t, const struct text *held, unsigned wrong, unsigned params) {
+    int more = wrong == MORE_MARKED, differs = more || wrong == LESS_MARKED;
+    if (differs && rnd(2)) { field(t, more ? 10 : 11); return; }
+    if (differs) { field(t, more ? 16 : 15); formula(t, 1 + rnd(3), params, 1); }
+    else if (rnd(6) == 0) fields(t, 2, (unsigned[]){14, 14});
+    add(t, held);
+}
+
+// The parameters that both processes have keep their values, but for one that strays.
+static void kept(struct text *t, const struct trial *d, int strays) {
+    unsigned which = rnd(d->k);
+    for (unsigned i = 0; i < d->k; i++) {
+        if (strays && i == which) within(t, d->size[i], d->k + 1, 0); else fields(t, 2, (unsigned[]){1, i});
+    }
+}
+
+// Back to some phase, or nowhere; out of the sizes if it leaves.
+static void back(struct text *t, const struct trial *d, int leaves) {
+    if (leaves) fields(t, 5, (unsigned[]){3, 1, d->k, 0, d->phases - rnd(2)});
+    else if (rnd(2)) fields(t, 2, (unsigned[]){1, d->k});
+    else fields(t, 2, (unsigned[]){0, rnd(d->phases)});
+}
+
+// From this phase, or from each above 0 if it is 0.
+static void leading_row(struct trial *d, unsigned phase) {
+    struct text *line = &d->line[d->rows], held = {.len = 0};
+    unsigned span = 1 + rnd(4), wrong = wrong_here(d);
+    goal(&held, span, d->k + 1);
+    fields(line, 3, (unsigned[]){3, 0, span});
+    if (phase) fields(line, 5, (unsigned[]){12, 1, d->k, 0, phase}); else fields(line, 5, (unsigned[]){13, 0, 0, 1, d->k});
+    fields(line, 2, (unsigned[]){0, 0});
+    kept(line, d, wrong == STRAYS);
+    field(line, 6);
+    add(line, &held);
+    if (phase) fields(line, 2, (unsigned[]){0, rnd(phase)}); else fields(line, 5, (unsigned[]){4, 1, d->k, 0, 1});
+    back(line, d, wrong == LEAVES);
+    mark_of(&d->mark[d->rows++], &held, wrong, d->k + 1);
+}
+
+// Anywhere, unmarked: never marked, or only where it is not enabled.
+static void other_row(struct trial *d) {
+    struct text *line = &d->line[d->rows], *mark = &d->mark[d->rows], condition = {.len = 0};
+    unsigned wrong = wrong_here(d);
+    formula(&condition, 1 + rnd(3), d->k + 1, 1);
+    fields(line, 3, (unsigned[]){3, 0, 1 + rnd(3)});
+    add(line, &condition);
+    fields(line, 2, (unsigned[]){0, 0});
+    kept(line, d, wrong == STRAYS);
+    back(line, d, wrong == LEAVES);
+    if (wrong == MORE_MARKED) formula(mark, 1 + rnd(3), d->k + 1, 1);
+    else if (rnd(2)) field(mark, 11);
+    else { field(mark, 14); add(mark, &condition); }
+    d->rows++;
+}
+
+// Data and next values that both processes have.
+static void shared_values(struct text *t, const struct trial *d) {
+    value(t, 1 + rnd(3), d->k, 1);
+    for (unsigned i = 0; i < d->k; i++) within(t, d->size[i], d->k, 0);
+}
+
+// The implementation's row, in phase 0 or everywhere, and the specification's.
+static void visible_row(struct trial *d, unsigned action, struct text *spec) {
+    struct text *line = &d->line[d->rows], condition = {.len = 0}, rest = {.len = 0};
+    unsigned span = 1 + rnd(4), wrong = wrong_here(d);
+    formula(&condition, 1 + rnd(3), d->k, 1);
+    shared_values(&rest, d);
+    fields(line, 3, (unsigned[]){3, action, span});
+    if (wrong == NOT_ENABLED) { field(line, 15); formula(line, 2, d->k + 1, 1); }
+    if (rnd(8)) fields(line, 6, (unsigned[]){15, 12, 1, d->k, 0, 0});
+    add(line, &condition);
+    add(line, &rest);
+    within(line, d->phases, d->k + 1, 0);
+    fields(spec, 3, (unsigned[]){4, action, span});
+    if (wrong == OTHER_SPEC && rnd(2)) formula(spec, 2, d->k, 1); else add(spec, &condition);
+    if (wrong == OTHER_SPEC) shared_values(spec, d); else add(spec, &rest);
+    line_end(spec);
+    d->rows++;
+}
+
+static void swap_texts(struct text *a, struct text *b) {
+    static struct text first;
+    first = *a;
+    *a = *b;
+    *b = first;
+}
+
+static void shuffle_rows(struct trial *d) {
+    for (unsigned i = d->rows; i-- > 1;) {
+        unsigned j = rnd(i + 1);
+        if (i == j) continue;
+        swap_texts(&d->line[i], &d->line[j]);
+        swap_texts(&d->mark[i], &d->mark[j]);
+    }
+}
+
+// The first row with a mark and another, mostly the next, take each other's.
+static void swap_marks(struct trial *d) {
+    unsigned first = 0;
+    while (first < d->rows && !d->mark[first].len) first++;
+    for (unsigned other = first + 1; other < d->rows; other++) {
+        if (d->mark[other].len && rnd(2)) { swap_texts(&d->mark[first], &d->mark[other]); return; }
+    }
+}
+
+static void trial_rows(struct trial *d, struct text *spec) {
+    unsigned visible = 1 + rnd(3), other = rnd(3);
+    d->rows = 0;
+    for (int i = 0; i < MOST_ROWS; i++) d->line[i].len = d->mark[i].len = 0;
+    for (unsigned r = 0; r < visible; r++) visible_row(d, visible - r, spec);
+    if (rnd(3)) for (unsigned phase = 1; phase < d->phases; phase++) leading_row(d, phase);
+    else leading_row(d, 0);
+    for (unsigned r = 0; r < other; r++) other_row(d);
+    shuffle_rows(d);
+    if (d->wrong == MARKS_SWAPPED) swap_marks(d);
+}
+
+static void trial_parameters(struct text *t, struct trial *d) {
+    d->k = 1 + rnd(2);
+    d->phases = 2 + rnd(4);
+    for (unsigned i = 0; i < d->k; i++) { d->size[i] = 1 + rnd(4); d->initial[i] = rnd(d->size[i]); }
+    for (unsigned i = 0; i < d->k; i++) { fields(t, 3, (unsigned[]){1, d->size[i], d->initial[i]}); line_end(t); }
+    fields(t, 3, (unsigned[]){1, d->phases, rnd(d->phases)}); line_end(t);
+    for (unsigned i = 0; i < d->k; i++) { fields(t, 3, (unsigned[]){2, d->size[i], d->initial[i]}); line_end(t); }
+}
+
+static void trying(struct text *t) {
+    static struct trial d;
+    static struct text spec;
+    t->len = spec.len = 0;
+    d.wrong = rnd(2) ? rnd(WRONGS) : RIGHT;
+    d.wrong_row = rnd(5);
+    trial_parameters(t, &d);
+    trial_rows(&d, &spec);
+    for (unsigned r = 0; r < d.rows; r++) { add(t, &d.line[r]); line_end(t); }
+    add(t, &spec);
+    field(t, 5); if (d.wrong == OTHER_INVARIANT) formula(t, 4, d.k + 1, 0); else field(t, 10);
+    line_end(t);
+    field(t, 6); for (unsigned i = 0; i < d.k; i++) fields(t, 2, (unsigned[]){1, i});
+    line_end(t);
+    field(t, 7); if (d.wrong == OTHER_MEASURE) value(t, 3, d.k + 1, 0); else fields(t, 2, (unsigned[]){1, d.k});
+    line_end(t);
+    if (d.wrong == MARKS_LEFT_OUT) return;
+    field(t, 8); for (unsigned r = 0; r < d.rows; r++) add(t, &d.mark[r]);
+    line_end(t);
+}
+
+// Lines of kind 8 for any text.
+
+// The lines that begin so.
+static unsigned lines_with(const struct text *t, const char *start) {
+    size_t n = strlen(start);
+    unsigned found = 0;
+    for (size_t at = 0; at + n <= t->len; at++) found += (at == 0 || t->bytes[at - 1] == 10) && memcmp(t->bytes + at, start, n) == 0;
+    return found;
+}
+
+static int has_marks(const struct text *t) { return lines_with(t, "     8") > 0; }
+
+static size_t last_line(const struct text *t) {
+    size_t at = t->len;
+    while (at > 0 && t->bytes[at - 1] == 10) at--;
+    while (at > 0 && t->bytes[at - 1] != 10) at--;
+    return at;
+}
+
+// A text without its last line, if that is of kind 8.
+static void drop_marks(struct text *t) {
+    size_t at = last_line(t);
+    if (t->len - at >= 6 && memcmp(t->bytes + at, "     8", 6) == 0) t->len = at;
+}
+
+// A formula with so many fields, of little depth.
+static void wide(struct text *t, unsigned n) {
+    if (n < 3) { fields(t, n, (unsigned[]){n == 1 ? 10 : 14, 10}); return; }
+    field(t, 15 + rnd(2));
+    wide(t, (n - 1) / 2);
+    wide(t, n - 1 - (n - 1) / 2);
+}
+
+// No formula, or one that is not allowed, or just allowed.
+static void odd_mark(struct text *t, unsigned params) {
+    switch (rnd(8)) {
+    case 0: break;
+    case 1: fields(t, 2, (unsigned[]){10, 10}); break;
+    case 2: fields(t, 5, (unsigned[]){12, 1, params + (rnd(3) ? 0 : rnd(65536 - params)), 0, 0}); break;
+    case 3: for (int i = 30 + rnd(3); i > 0; i--) field(t, 14);
+        field(t, 10 + rnd(2)); break;
+    case 4: value(t, 1 + rnd(2), params, 1); break;
+    case 5: field(t, rnd(20)); break;
+    case 6: wide(t, rnd(4) ? 253 + rnd(5) : 4600 + rnd(200)); break;
+    default: fields(t, 2, (unsigned[]){14, rnd(20)});
+    }
+}
+
+// A formula for each internal row: all true, mostly so, or any; now and then one of them is odd, or one more stands at the end.
+static void marks_line(struct text *t, unsigned params, unsigned internal) {
+    unsigned any = rnd(3), odd = rnd(4) ? internal : rnd(internal + 1);
+    field(t, 8);
+    for (unsigned r = 0; r < internal; r++) {
+        if (r == odd) odd_mark(t, params);
+        else if (any == 0 || (any == 1 && rnd(4))) field(t, 10);
+        else formula(t, 1 + rnd(4), params, 1);
+    }
+    if (odd == internal && rnd(16) == 0) odd_mark(t, params);
+    line_end(t);
+}
+
+// The text with another line of kind 8, seldom twice or at another place.
+static void mark_text(struct text *t) {
+    struct text line = {.len = 0};
+    unsigned params = lines_with(t, "     1");
+    drop_marks(t);
+    marks_line(&line, params ? params : 1, lines_with(t, "     3     0"));
+    if (rnd(12) == 0) {
+        size_t at = rnd(t->len + 1);
+        while (at > 0 && t->bytes[at - 1] != 10) at--;
+        splice(t, at, 0, line.bytes, line.len);
+        if (rnd(2)) return;
+    }
+    add(t, &line);
+}
+
+// Changes of a text: one field, and bytes.
+
+// The start of some field, reckoned within its line.
+static size_t some_field(const struct text *t) {
+    size_t at = rnd(t->len + 1), start = at;
+    while (start > 0 && t->bytes[start - 1] != 10) start--;
+    return start + (at - start) / 6 * 6;
+}
+
+static void mutate(struct text *t) {
+    char columns[32];
+    size_t at = some_field(t);
+    snprintf(columns, sizeof columns, "%6u%6u", rnd(3) ? (unsigned)rnd(18) : number(), number());
+    uint8_t digit = '0' + rnd(rnd(3) ? 4 : 10);
+    switch (rnd(16)) {
+    case 0: splice(t, at, 6, "", 0); break;
+    case 1: splice(t, at, 0, columns, 6); break;
+    case 2: splice(t, at, 0, columns, 12); break;
+    case 3: {
+        size_t from = at, to = at;
+        while (from > 0 && t->bytes[from - 1] != 10) from--;
+        while (to < t->len && t->bytes[to] != 10) to++;
+        uint8_t line[ROOM];
+        size_t n = to < t->len ? to + 1 - from : to - from;
+        memcpy(line, t->bytes + from, n);
+        if (rnd(2)) splice(t, from, n, "", 0);
+        else splice(t, from, 0, line, n);
+        break;
+    }
+    case 4: case 5: case 6: splice(t, at, 6, columns, 6); break;
+    default: if (t->len) splice(t, at + 5, 1, &digit, 1);
+    }
+}
+
+// Another mark or number, mostly of the same sort, in place of the field there.
+static void flip(struct text *t, size_t at) {
+    static const unsigned like[] = {0, 1, 2, 4, 3, 5, 6, 7, 8, 9, 11, 10, 13, 12, 14, 16, 15};
+    char columns[16] = {0};
+    if (at + 6 > t->len) return;
+    memcpy(columns, t->bytes + at, 6);
+    unsigned n = (unsigned)atoi(columns) % 65536;
+    snprintf(columns, sizeof columns, "%6u", n < 10 && rnd(2) ? (unsigned)rnd(4) : n < 17 ? like[n] : number());
+    memcpy(t->bytes + at, columns, 6);
+}
+
+// The same in the last line, which has the marks if there are any.
+static void flip_marks(struct text *t) {
+    size_t line = last_line(t), n = (t->len - line) / 6;
+    for (int i = 1 + rnd(2); i > 0 && n > 0; i--) flip(t, line + rnd(n) * 6);
+}
+
+static void damage(struct text *t) {
+    static const uint8_t odd[] = {0, 9, 10, 13, 32, 43, 45, 46, 47, 48, 49, 57, 58, 65, 127, 128, 255};
+    uint8_t byte = rnd(3) ? odd[rnd(sizeof odd)] : rnd(256);
+    size_t at = rnd(t->len + 1);
+    switch (rnd(6)) {
+    case 0: splice(t, at, 1, "", 0); break;
+    case 1: splice(t, at, 0, &byte, 1); break;
+    case 2: t->len = at; break;
+    case 3: {
+        uint8_t start[ROOM];
+        size_t n = t->len - rnd(t->len + 1);
+        memcpy(start, t->bytes, n);
+        splice(t, at, 0, start, n);
+        break;
+    }
+    default: splice(t, at, 1, &byte, 1);
+    }
+}
+
+static void filled(struct text *t) {
+    static const size_t about[] = {28671, 28672, 28673, 28679, 30000, 0, 1, 6, 7};
+    size_t n = about[rnd(9)];
+    uint8_t line[7] = "     1\n";
+    line[5] = '0' + rnd(8);
+    t->len = 0;
+    while (t->len + 7 <= n) put(t, line, 7);
+    while (t->len < n) put(t, &line[rnd(7)], 1);
+}
+
+// An internal row of so many fields.
+static void long_row(struct text *t, unsigned n) {
+    fields(t, 3, (unsigned[]){3, 0, 1});
+    wide(t, n - 7);
+    fields(t, 4, (unsigned[]){0, 0, 1, 0});
+    line_end(t);
+}
+
+// About as many fields as a text may have; its last row makes them up.
+static void full(struct text *t) {
+    enum { MOST_FIELDS = 4096, LONGEST = 256, LONG_ROWS = 15, FEWEST = 8, HEAD = 6 };
+    struct text end = {.len = 0};
+    fields(&end, 2, (unsigned[]){5, 10}); line_end(&end);
+    fields(&end, 3, (unsigned[]){6, 0, 0}); line_end(&end);
+    fields(&end, 3, (unsigned[]){7, 0, 0}); line_end(&end);
+    if (rnd(4)) marks_line(&end, 1, LONG_ROWS + 1);
+    int left = MOST_FIELDS - 2 + (int)rnd(5) - HEAD - LONG_ROWS * LONGEST - (int)(end.len / 6);
+    t->len = 0;
+    fields(t, 3, (unsigned[]){1, 2, rnd(2)}); line_end(t);
+    fields(t, 3, (unsigned[]){2, 1, 0}); line_end(t);
+    for (int r = 0; r < LONG_ROWS; r++) long_row(t, LONGEST);
+    long_row(t, left < FEWEST ? FEWEST : left > LONGEST ? LONGEST : left);
+    add(t, &end);
+}
+
+static void from_pool(struct text *t, const struct pool *p) { *t = p->table[rnd(p->tables)]; }
+
+static void from_marked(struct text *t, const struct pool *p) { *t = p->table[p->accepted[rnd(p->marked)]]; }
+
+static void made(struct text *t) {
+    if (rnd(5)) related(t); else shaped(t);
+    if (rnd(3) == 0) mark_text(t);
+}
+
+static void make_text(struct text *t, const struct pool *p) {
+    switch (rnd(24)) {
+    case 0: case 1: case 2: case 3: case 4: made(t); break;
+    case 5: case 6: made(t); mutate(t); break;
+    case 7: made(t); damage(t); break;
+    case 8: case 9: case 10: trying(t); break;
+    case 11: trying(t); flip(t, some_field(t)); break;
+    case 12: trying(t); flip_marks(t); break;
+    case 13: trying(t); mutate(t); break;
+    case 14: trying(t); mark_text(t); break;
+    case 15: from_marked(t, p); if (rnd(2)) flip_marks(t); else flip(t, some_field(t)); break;
+    case 16: from_marked(t, p); if (rnd(2)) mark_text(t); else mutate(t); break;
+    case 17: case 18: case 19: from_pool(t, p); for (int i = 1 + rnd(3); i > 0; i--) mutate(t); break;
+    case 20: from_pool(t, p); for (int i = 1 + rnd(2); i > 0; i--) damage(t); break;
+    case 21: from_pool(t, p); mark_text(t); if (rnd(2)) mutate(t); break;
+    case 22: from_pool(t, p); mutate(t); damage(t); break;
+    default: if (rnd(8)) { made(t); for (int i = 1 + rnd(6); i > 0; i--) mutate(t); } else if (rnd(2)) filled(t); else full(t);
+    }
+}
+
+#endif
