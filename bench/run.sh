@@ -14,7 +14,8 @@ library=target/staticlib/libchecker.a
 flags=(-std=c11 -O3 -Wall -Wextra)
 ${CC:-gcc} "${flags[@]}" bench/checks.c "$library" target/staticlib/libdesk_c.a target/reference/release/libreference_c.a \
     -lpthread -ldl -lm -o "$out/checks"
-"$out/checks" "${1:-5}" "$out/limits.txt" "$out"/[a-z].txt examples/{pump,buffer-two,alternating-bit,concurrent-alternating-bit}.txt
+"$out/checks" "${1:-5}" "$out/limits.txt" "$out"/[a-z].txt examples/{pump,buffer-two,alternating-bit,concurrent-alternating-bit}.txt \
+    compare/tables/{abp_marked,cabp_full}.txt
 ${CC:-gcc} "${flags[@]}" bench/stack.c "$library" -o "$out/stack"
 "$out/stack" "$out"/limits.txt compare/tables/*.txt
 echo "what the library calls: $(nm -u "$library" | awk 'NF == 2 { print $2 }' | sort -u | tr '\n' ' ')"

@@ -9,7 +9,7 @@
 
 struct table {
     uint16_t fields[4096];
-    uint16_t starts[84];
+    uint16_t starts[85];
     size_t kind[9]; /* how many lines of each kind */
     size_t states;
 };

@@ -59,17 +59,26 @@ static int reads_sum(const uint16_t *f, unsigned *at, unsigned n)
     return reads;
 }
 
-struct row { unsigned at, span, action, partner, looks, free; };
+/* mark is the place of the formula in the line of kind 8, 0 if there is none */
+struct row { unsigned at, span, action, partner, looks, free, mark; };
 
 static void plain_rows(const struct table *t, unsigned first, unsigned n, unsigned m, struct row *rows, int *reads)
 {
     for (unsigned i = 0; i < n; i++) {
         unsigned start = t->starts[first + i];
-        rows[i] = (struct row){start + 3, t->fields[start + 2], t->fields[start + 1], 0, 0, 0};
+        rows[i] = (struct row){start + 3, t->fields[start + 2], t->fields[start + 1], 0, 0, 0, 0};
         unsigned at = start + 3;
         rows[i].free = !reads_sum(t->fields, &at, 1);
         reads[i] = reads_sum(t->fields, &at, 1 + m) || !rows[i].free;
     }
+}
+
+static void plain_marks(const struct table *t, unsigned line, unsigned n, struct row *rows, int *reads)
+{
+    if (!t->kind[8]) return;
+    unsigned at = t->starts[line] + 1;
+    for (unsigned i = 0; i < n; i++)
+        if (!rows[i].action) { rows[i].mark = at; reads[i] |= reads_sum(t->fields, &at, 1); }
 }
 
 static int plain_walk(const struct table *t, size_t from, size_t n, int hoist)
@@ -83,6 +92,7 @@ static int plain_walk(const struct table *t, size_t from, size_t n, int hoist)
     for (unsigned i = 0; i < k1; i++) size[i] = f[t->starts[i] + 1];
     for (unsigned i = 0; i < k2; i++) spec_size[i] = f[t->starts[k1 + i] + 1];
     plain_rows(t, k1 + k2, k3, k1, ir, iread);
+    plain_marks(t, k1 + k2 + k3 + k4 + 3, k3, ir, iread);
     plain_rows(t, k1 + k2 + k3, k4, k2, sr, sread);
     for (unsigned i = 0; i < k3; i++) {
         int reads = iread[i];
@@ -117,8 +127,9 @@ static int plain_walk(const struct table *t, size_t from, size_t n, int hoist)
                 if (!formula_at(f, inv, x, 0).value) return 0;
                 values_at(f, map, k2, x, 0, y);
                 if (!r->action) {
-                    focus = 0;
                     for (unsigned k = 0; k < k2; k++) if (y[k] != w[k]) return 0;
+                    if (r->mark && !formula_at(f, r->mark, v, e).value) continue;
+                    focus = 0;
                     if (value_at(f, mea, x, 0).value >= measure) return 0;
                     continue;
                 }
