@@ -4,3 +4,4 @@ pub mod Depth
 pub mod Printing
 pub mod Eval
 pub mod Fit
+pub mod Used

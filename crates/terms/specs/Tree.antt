@@ -71,9 +71,9 @@ unfoldable mutual
   evalF (join o f g) ps s = joinOf o (evalF f ps s) (evalF g ps s)
   evalF noFormula ps s = false
 
--- Well formed where the row's process, or the implementation in kinds 5 to 7, has n parameters, in a row or not: no "wrong mark", no
--- "parameter that doesn't exist", no "sum value outside a row" (fault 6). The depth is not asked here: a reading is never deeper
--- than its bound (proofs/Depth).
+-- Well formed where the row's process, or the implementation in kinds 5 to 8, has n parameters, and where a row's sum value may be read or
+-- not: no "wrong mark", no "parameter that doesn't exist", no "sum value outside a row" (fault 6). The depth is not asked here: a reading is
+-- never deeper than its bound (proofs/Depth).
 unfoldable mutual
   pub okV : Value → ℕ → Bool → Bool
   okV (num k) n row = true
