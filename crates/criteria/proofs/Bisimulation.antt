@@ -6,7 +6,7 @@ use Rattle.criteria.specs.Step.{Label, Step, Visible, FocusPoint, nextSt
 use Rattle.criteria.specs.Criteria.{Criteria, Partner}
 use Rattle.criteria.specs.Bisimilar.{Answer, Reply, BranchingBisimulation, Promised}
 use Rattle.criteria.proofs.Parameters.{size-16-bits}
-use Rattle.criteria.proofs.Runs.{step-inside, internal-inside, internal-mapped, along, run-kept, reaches}
+use Rattle.criteria.proofs.Runs.{step-inside, internal-inside, internal-mapped, along, run-chain, chain-stays, run-kept, reaches}
 
 -- the relation: s is inside, and t is its mapped state
 pub record Related (d : Design) (s t : State) : Type 0 where
@@ -79,7 +79,7 @@ module _ (d : Design) (a : Admitted d) (others : (s : State) → InvariantState 
       record {
         length = f .length;
         before = f .end;
-        chain = f .run;
+        chain = run-chain d (f .run);
         still = record { inside = r .inside; is-mapped = same };
         to = w .to;
         step = w .step;
@@ -98,4 +98,6 @@ module _ (d : Design) (a : Admitted d) (others : (s : State) → InvariantState 
   promised s i = record {
     bisimilar = record { relation = Related d; is-bisimulation = bisimulation; relates = record { inside = i; is-mapped = refl } };
     runs = run-kept d others s i;
+    reaches = reaches d others s i;
+    chains = chain-stays d others s i;
   }

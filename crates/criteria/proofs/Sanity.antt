@@ -31,7 +31,7 @@ label n = record { action = 1; number = n }
 
 -- this implementation beside a specification that does action 1 with the number 7
 abbrev beside : List Row → Design
-beside rows = record { impl = one-state rows; spec = one-state (always 7 ∷ []); invariant = const true; mapping = num 0 ∷ []; measure = num 0 }
+beside rows = record { impl = one-state rows; spec = one-state (always 7 ∷ []); invariant = const true; mapping = num 0 ∷ []; measure = num 0; marks = [] }
 
 steps : (n : ℕ) → Step (one-state (always n ∷ [])) (label n) one one
 unfolding evalF
@@ -68,7 +68,7 @@ abbrev two-states : ℕ → ℕ → Process
 two-states a n = record { parameters = record { size = 2; initial = 0 } ∷ []; rows = stays ∷ falls a n ∷ [] }
 
 abbrev both : Process → Process → Design
-both impl spec = record { impl = impl; spec = spec; invariant = const true; mapping = num 0 ∷ []; measure = num 0 }
+both impl spec = record { impl = impl; spec = spec; invariant = const true; mapping = num 0 ∷ []; measure = num 0; marks = [] }
 
 abbrev stuck : State
 stuck = 1 ∷ []

@@ -1,10 +1,11 @@
--- Branching bisimilarity, and demand 3 of a design (01, "What demand 3 speaks of"; 00, demand 3). Source 000, section 6, has it
--- for processes that may both have internal steps; here the specification has none.
+-- Branching bisimilarity, and demand 3 of a design (01, "What demand 3 speaks of"; 00, demand 3; 02, order 1). Source 000, section 6,
+-- has it for processes that may both have internal steps; here the specification has none. Bisimilarity knows nothing of marks: its
+-- chains are of internal steps.
 use mathlib.Core.Path.{_≡_}
 use Prim.Native.Nat.{ℕ, _≤_}
 use Rattle.foundation.specs.Nth.{Nth}
 use Rattle.criteria.specs.Design.{Design, State, StateOf, InSize, InvariantState, mapped, measureAt, initialState}
-use Rattle.criteria.specs.Step.{Label, Step, Internal, Visible, FocusPoint, Chain, Run, statesOf, CantGoOn}
+use Rattle.criteria.specs.Step.{Label, Step, Internal, Visible, FocusPoint, Steps, Chain, Run, statesOf, CantGoOn}
 
 -- "there is a step from t with the same label, and the two lead to related states": s′ is where the implementation's step led
 pub record Answer (d : Design) (R : State → State → Type 0) (l : Label) (t s′ : State) : Type 0 where
@@ -44,21 +45,37 @@ pub record Bisimilar (d : Design) (s t : State) : Type 1 where
 
 -- ---- demand 3
 
--- what is so of a run of n internal steps from s to s′
+-- a list of steps "stays where the invariant holds and the mapped state is the same": so is each state u of it
+abbrev pub Stays : (d : Design) {Goes : State → State → Type 0} {s s′ : State} {n : ℕ} → Steps Goes s n s′ → Type 0
+Stays d {s = s} steps = (k : ℕ) (u : State) → Nth (statesOf steps) k u → InvariantState d u × (mapped d u ≡ mapped d s)
+
+-- what is so of a run of n marked steps from s to s′
 pub record RunKept (d : Design) {s s′ : State} {n : ℕ} (run : Run d s n s′) : Type 0 where
   -- "has at most as many steps as the state's measure"
   pub at-most : n ≤ measureAt d s
-  -- "and stays where the invariant holds and the mapped state is the same": so is each state u of the run
-  pub stays : (k : ℕ) (u : State) → Nth (statesOf run) k u → InvariantState d u × (mapped d u ≡ mapped d s)
+  -- "and stays where the invariant holds and the mapped state is the same"
+  pub stays : Stays d run
   -- "a run that can't go on has stopped at a focus point"
   pub stopped : CantGoOn d s′ → FocusPoint d s′
+
+-- "marked steps alone reach a focus point within the measure": there is such a run from s; `runs` below bounds every run
+pub record Reaches (d : Design) (s : State) : Type 0 where
+  pub length : ℕ
+  pub end : State
+  pub run : Run d s length end
+  pub within : length ≤ measureAt d s
+  pub focus : FocusPoint d end
 
 -- of a state
 pub record Promised (d : Design) (s : State) : Type 1 where
   -- "That state and its mapped specification state are branching bisimilar"
   pub bisimilar : Bisimilar d s (mapped d s)
-  -- "Every run of internal steps from it, whichever enabled rows and sum values it takes"
+  -- "Every run of" marked "steps from it, whichever enabled rows and sum values it takes"
   pub runs : (n : ℕ) (s′ : State) (run : Run d s n s′) → RunKept d run
+  -- "from each invariant state marked steps alone reach a focus point within the measure"
+  pub reaches : Reaches d s
+  -- "criteria 3 and 4 still concern every internal step": marked or not, as many as there are, they stay
+  pub chains : (n : ℕ) (s′ : State) (chain : Chain d s n s′) → Stays d chain
 
 -- of a design
 pub record Demand3 (d : Design) : Type 1 where

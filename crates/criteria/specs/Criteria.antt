@@ -1,11 +1,11 @@
--- The nine criteria (01, "Nine criteria"), a definition for each, in 01's order, with the number and the formula of source 004,
--- definition 3.2, where it has one: there h is the mapping, b the condition, f the data, g the next state of an action's row, and
--- b′, f′, g′ those of the specification's. Criteria 3 to 9 are stated for a row and a sum value; `Criteria` says for which rows,
--- and `Meets` for which states.
+-- The nine criteria (01, "Nine criteria"; 02, order 1), a definition for each, in 01's order, with the number and the formula of source
+-- 004, definitions 3.2 and 4.7, where it has one: there h is the mapping, b the condition, f the data, g the next state of an action's
+-- row, b′, f′, g′ those of the specification's, and ξ, of definition 4.3, the mark. Criteria 3 to 9 are stated for a row and a sum value,
+-- 5 also for the row's number, by which it has its mark; `Criteria` says for which rows, and `Meets` for which states.
 use mathlib.Core.Path.{_≡_}
 use Prim.Native.Nat.{ℕ, _<_}
 use Rattle.criteria.specs.Design.{Design, Process, Row, State, RowIs, InSize, InvariantState, Invariant, mapped, measureAt, initialState}
-use Rattle.criteria.specs.Step.{Enabled, InternalRow, VisibleRow, FocusPoint, ActionEnabled, nextState, dataNumber}
+use Rattle.criteria.specs.Step.{Enabled, InternalRow, VisibleRow, Marked, FocusPoint, ActionEnabled, nextState, dataNumber}
 
 -- 1. "The invariant holds in the initial state, whose mapping is the specification's initial state." (ours: the start)
 pub record Criterion1 (d : Design) : Type 0 where
@@ -21,14 +21,15 @@ Criterion2 d s = InSize (d .spec) (mapped d s)
 abbrev pub Criterion3 : Design → State → Row → ℕ → Type 0
 Criterion3 d s r e = Enabled r s e → InvariantState d (nextState r s e)
 
--- 4. "An enabled internal row keeps the mapping (source 004, criterion 2)." b(d,e) → h(d) = h(g(d,e)), for the internal action
+-- 4. "An enabled internal row keeps the mapping (source 004, criterion 2)"; "criteria 3 and 4 still concern every internal step". b(d,e) →
+-- h(d) = h(g(d,e)), for every internal action
 abbrev pub Criterion4 : Design → State → Row → ℕ → Type 0
 Criterion4 d s r e = Enabled r s e → InternalRow r → mapped d s ≡ mapped d (nextState r s e)
 
--- 5. "An enabled internal row leads to a smaller measure (criterion 1, with the measure given)." 004: convergent, definition 2.3:
--- b(d,e) → g(d,e) < d, for the internal action
-abbrev pub Criterion5 : Design → State → Row → ℕ → Type 0
-Criterion5 d s r e = Enabled r s e → InternalRow r → measureAt d (nextState r s e) < measureAt d s
+-- 5. "An enabled internal row leads to a smaller measure (criterion 1, with the measure given)"; it looks "at marked steps only". 004:
+-- convergent with respect to ξ, definition 4.4: b(d,e) and ξ(d,e) → g(d,e) < d, for every internal action. Here k is the row's number.
+abbrev pub Criterion5 : Design → State → ℕ → Row → ℕ → Type 0
+Criterion5 d s k r e = Enabled r s e → InternalRow r → Marked d k s e → measureAt d (nextState r s e) < measureAt d s
 
 -- 6. "For an enabled visible row, the specification row of that action is enabled at the mapped state for the same sum value
 -- (criterion 3)." b(d,e) → b′(h(d),e)
@@ -36,7 +37,7 @@ abbrev pub Criterion6 : Design → State → Row → ℕ → Type 0
 Criterion6 d s r e = Enabled r s e → VisibleRow r → ActionEnabled (d .spec) (r .action) (mapped d s) e
 
 -- 7. "At a focus point each specification row enabled at the mapped state has its implementation row enabled, for the same sum
--- value (criterion 4)." FC(d) and b′(h(d),e) → b(d,e). Here q is the specification's row.
+-- value (criterion 4)." FC(d) and b′(h(d),e) → b(d,e), FC being that of definition 4.6. Here q is the specification's row.
 abbrev pub Criterion7 : Design → State → Row → ℕ → Type 0
 Criterion7 d s q e = FocusPoint d s → Enabled q (mapped d s) e → ActionEnabled (d .impl) (q .action) s e
 
@@ -54,16 +55,19 @@ Criterion9 d s r e = Enabled r s e → VisibleRow r → (q : Row) → Partner d 
 
 -- ---- all of them
 
--- at each row of the process, for each sum value
+-- at each row of the process by its number, for each sum value
+abbrev pub EachNumbered : Process → (ℕ → Row → ℕ → Type 0) → Type 0
+EachNumbered p C = (k : ℕ) (r : Row) (e : ℕ) → RowIs (p .rows) k r → C k r e
+
 abbrev pub Each : Process → (Row → ℕ → Type 0) → Type 0
-Each p C = (k : ℕ) (r : Row) (e : ℕ) → RowIs (p .rows) k r → C r e
+Each p C = EachNumbered p (λ _. C)
 
 -- criteria 2 to 9 at a state
 pub record Criteria (d : Design) (s : State) : Type 0 where
   pub second : Criterion2 d s
   pub third : Each (d .impl) (Criterion3 d s)
   pub fourth : Each (d .impl) (Criterion4 d s)
-  pub fifth : Each (d .impl) (Criterion5 d s)
+  pub fifth : EachNumbered (d .impl) (Criterion5 d s)
   pub sixth : Each (d .impl) (Criterion6 d s)
   pub seventh : Each (d .spec) (Criterion7 d s)
   pub eighth : Each (d .impl) (Criterion8 d s)

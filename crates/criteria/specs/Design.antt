@@ -1,5 +1,5 @@
--- What a design text says (01, "Design text"): parameters, rows, invariant, mapping, measure; states of the two processes; and
--- what a text that is not turned down keeps. How a text is read is not here; terms and their values are in the crate terms.
+-- What a design text says (01, "Design text"; 02, order 1): parameters, rows, invariant, mapping, measure, marks; states of the two
+-- processes; and what a text that is not turned down keeps. How a text is read is not here; terms and their values are in the crate terms.
 -- Throughout: d a design, s a state of the implementation, t one of the specification, r a row, q a row of the specification,
 -- e a sum value.
 use mathlib.Core.Path.{_≡_}
@@ -35,6 +35,9 @@ pub record Design : Type 0 where
   pub invariant : Formula
   pub mapping : List Value
   pub measure : Value
+  -- the formulas of each kind 8 line, of which there is none or one: "A text may end with one kind 8 line: a formula for each internal
+  -- row, in row order". `MarkIs` in Step says which formula is whose.
+  pub marks : List (List Formula)
 
 -- row number k of these rows is r: "rows count from 1 within their process"
 abbrev pub RowIs : List Row → ℕ → Row → Type 0

@@ -29,7 +29,7 @@ pub data FailsAt (d : Design) (s : State) : Place → Type 0 where
   second : (Criterion2 d s → ⊥) → FailsAt d s (place 2 0 0)
   third : {k e : ℕ} {r : Row} → RowIs (d .impl .rows) k r → (Criterion3 d s r e → ⊥) → FailsAt d s (place 3 k e)
   fourth : {k e : ℕ} {r : Row} → RowIs (d .impl .rows) k r → (Criterion4 d s r e → ⊥) → FailsAt d s (place 4 k e)
-  fifth : {k e : ℕ} {r : Row} → RowIs (d .impl .rows) k r → (Criterion5 d s r e → ⊥) → FailsAt d s (place 5 k e)
+  fifth : {k e : ℕ} {r : Row} → RowIs (d .impl .rows) k r → (Criterion5 d s k r e → ⊥) → FailsAt d s (place 5 k e)
   sixth : {k e : ℕ} {r : Row} → RowIs (d .impl .rows) k r → (Criterion6 d s r e → ⊥) → FailsAt d s (place 6 k e)
   seventh : {k e : ℕ} {q : Row} → RowIs (d .spec .rows) k q → (Criterion7 d s q e → ⊥) → FailsAt d s (place 7 k e)
   eighth : {k e : ℕ} {r : Row} → RowIs (d .impl .rows) k r → (Criterion8 d s r e → ⊥) → FailsAt d s (place 8 k e)

@@ -5,3 +5,4 @@ pub mod Failure
 pub mod Verdict
 pub mod Bisimilar
 pub mod Rows
+pub mod Unmarked

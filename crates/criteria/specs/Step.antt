@@ -1,10 +1,13 @@
--- Enabled rows, steps and their labels, focus points, lists of internal steps (01, "Nine criteria", "What demand 3 speaks of").
+-- Enabled rows, marks, focus points, steps and their labels, lists of internal and of marked steps (01, "Nine criteria", "What demand 3
+-- speaks of"; 02, order 1; source 004, section 4).
 use mathlib.Core.Path.{_≡_}
 use mathlib.Core.Logic.{_≢_}
-use mathlib.Core.Bool.{true}
+use mathlib.Core.Bool.{true, cond}
 use mathlib.Core.List.{List, [], _∷_}
 use Prim.Native.Nat.{ℕ, suc, _<_}
-use Rattle.terms.specs.Tree.{evalV, evalF}
+use lib.Dec.{eqb}
+use Rattle.foundation.specs.Nth.{Nth}
+use Rattle.terms.specs.Tree.{Formula, evalV, evalF}
 use Rattle.criteria.specs.Design.{Design, Process, Row, State, RowIs, values}
 
 -- "A row is enabled at a state for a sum value if its condition holds." "The sum value of a row runs from 0 to span - 1."
@@ -26,9 +29,31 @@ InternalRow r = r .action ≡ 0
 abbrev pub VisibleRow : Row → Type 0
 VisibleRow r = r .action ≢ 0
 
--- "A focus point is a state with no internal row enabled."
+-- ---- marks
+
+-- how many of these rows are internal
+unfoldable pub internalRows : List Row → ℕ
+internalRows [] = 0
+internalRows (r ∷ rows) = let n = internalRows rows in cond (eqb (r .action) 0) (suc n) n
+
+-- f is the formula of row k among these: "a formula for each internal row, in row order". A visible row has none.
+pub data MarkIs : List Row → List Formula → ℕ → Formula → Type 0 where
+  here : {r : Row} {rows : List Row} {f : Formula} {fs : List Formula} → InternalRow r → MarkIs (r ∷ rows) (f ∷ fs) 1 f
+  past-internal : {r : Row} {rows : List Row} {f g : Formula} {fs : List Formula} {k : ℕ} → InternalRow r → MarkIs rows fs k g → MarkIs (r ∷ rows) (f ∷ fs) (suc k) g
+  past-visible : {r : Row} {rows : List Row} {g : Formula} {fs : List Formula} {k : ℕ} → VisibleRow r → MarkIs rows fs k g → MarkIs (r ∷ rows) fs (suc k) g
+
+-- the step of the internal row k from s, for the sum value e, is marked (004, definition 4.3: ξ holds there; each internal row is an action
+-- of its own among its Int, none its τ)
+pub data Marked (d : Design) (k : ℕ) (s : State) (e : ℕ) : Type 0 where
+  -- "Without the line all steps are marked."
+  all-marked : d .marks ≡ [] → Marked d k s e
+  -- "A marked step is one whose formula holds", "over its parameters and sum value"
+  by-formula : {fs : List Formula} {f : Formula} → Nth (d .marks) 1 fs → MarkIs (d .impl .rows) fs k f → evalF f s e ≡ true → Marked d k s e
+
+-- "A focus point is a state with no internal row enabled"; "Criterion 5 and the focus point then look at marked steps only": no marked
+-- step starts there
 abbrev pub FocusPoint : Design → State → Type 0
-FocusPoint d s = (k : ℕ) (r : Row) (e : ℕ) → RowIs (d .impl .rows) k r → InternalRow r → Enabled r s e → ⊥
+FocusPoint d s = (k : ℕ) (r : Row) (e : ℕ) → RowIs (d .impl .rows) k r → InternalRow r → Enabled r s e → Marked d k s e → ⊥
 
 -- the row of an action is enabled: "An action with no row in a process is never enabled there."
 pub record ActionEnabled (p : Process) (action : ℕ) (s : State) (e : ℕ) : Type 0 where
@@ -62,6 +87,11 @@ pub record Internal (p : Process) (s s′ : State) : Type 0 where
   pub step : Step p label s s′
   pub zero : label .action ≡ 0
 
+-- "A marked step is one whose formula holds."
+pub record MarkedStep (d : Design) (s s′ : State) : Type 0 where
+  pub internal : Internal (d .impl) s s′
+  pub marked : Marked d (internal .step .at) s (internal .step .sum)
+
 -- "Any other is visible"
 pub record Visible (p : Process) (l : Label) (s s′ : State) : Type 0 where
   pub step : Step p l s s′
@@ -79,14 +109,14 @@ abbrev pub statesOf : {Goes : State → State → Type 0} {s s′ : State} {n : 
 statesOf (none {s = s}) = s ∷ []
 statesOf (more {s = s} step rest) = s ∷ statesOf rest
 
--- "some chain of internal steps from s, none or more"
+-- "some chain of internal steps from s, none or more", marked or not
 abbrev pub Chain : Design → State → ℕ → State → Type 0
 Chain d = Steps (Internal (d .impl))
 
--- "A run in demand 3 is a list of internal steps, none or more"
+-- "A run in demand 3 is a list of internal steps, none or more"; 02: "its runs being of marked steps"
 abbrev pub Run : Design → State → ℕ → State → Type 0
-Run d = Steps (Internal (d .impl))
+Run d = Steps (MarkedStep d)
 
--- "It can't go on if no internal step starts where it ends."
+-- "It can't go on if no" marked step "starts where it ends."
 abbrev pub CantGoOn : Design → State → Type 0
-CantGoOn d s = (s′ : State) → Internal (d .impl) s s′ → ⊥
+CantGoOn d s = (s′ : State) → MarkedStep d s s′ → ⊥
