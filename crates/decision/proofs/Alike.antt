@@ -9,7 +9,7 @@ use Rattle.foundation.specs.Trial.{firstOf}
 use Rattle.terms.specs.Tree.{Value, Formula, num, par, sumValue, choice, noValue, const, compare, negation, join, noFormula, evalV, evalF}
 use Rattle.terms.specs.Tree as tree
 use Rattle.criteria.specs.Design.{Design, Row, values, mapped}
-use Rattle.criteria.specs.Rows.{firstRow, internalTest}
+use Rattle.criteria.specs.Rows.{markOf, firstRow, markedTest}
 use Rattle.decision.specs.Tests.{focusB, holds2, holds3, holds4, holds5, holds6, holds7, holds8, holds9}
 use Rattle.decision.specs.Examine.{nothing, once, ofImpl, ofSpec, columns, trialOf, firstFailing}
 
@@ -45,13 +45,13 @@ module _ (v w : List ℕ) (agree : (i : ℕ) → getD v i 0 ≡ getD w i 0) wher
     mapped-alike = values-alike (d .mapping) 0
 
     focus-alike : focusB d v ≡ focusB d w
-    focus-alike = ap (λ t. passes {A = ℕ × ℕ} (firstRow (d .impl .rows) t (λ k e. (k, e)))) internals
+    focus-alike = ap (λ t. passes {A = ℕ × ℕ} (firstRow (d .impl .rows) t (λ k e. (k, e)))) tests
       where
-        internals : internalTest v ≡ internalTest w
-        internals j r e = go r e j
+        tests : markedTest d v ≡ markedTest d w
+        tests j k r e = go k r e j
           where
-            go : (r : Row) (e : ℕ) → internalTest v r e ≡ internalTest w r e
-            go r e = rw (formula-alike (r .condition) e)
+            go : (k : ℕ) (r : Row) (e : ℕ) → markedTest d v k r e ≡ markedTest d w k r e
+            go k r e = rw (formula-alike (r .condition) e, formula-alike (markOf d k) e)
 
     second : holds2 d v ≡ holds2 d w
     second = rw mapped-alike
@@ -62,8 +62,8 @@ module _ (v w : List ℕ) (agree : (i : ℕ) → getD v i 0 ≡ getD w i 0) wher
     fourth : (r : Row) (e : ℕ) → holds4 d v r e ≡ holds4 d w r e
     fourth r e = rw (formula-alike (r .condition) e, values-alike (r .next) e, mapped-alike)
 
-    fifth : (r : Row) (e : ℕ) → holds5 d v r e ≡ holds5 d w r e
-    fifth r e = rw (formula-alike (r .condition) e, values-alike (r .next) e, value-alike (d .measure) 0)
+    fifth : (k : ℕ) (r : Row) (e : ℕ) → holds5 d v k r e ≡ holds5 d w k r e
+    fifth k r e = rw (formula-alike (r .condition) e, formula-alike (markOf d k) e, values-alike (r .next) e, value-alike (d .measure) 0)
 
     sixth : (r : Row) (e : ℕ) → holds6 d v r e ≡ holds6 d w r e
     sixth r e = rw (formula-alike (r .condition) e, mapped-alike)
@@ -82,13 +82,13 @@ module _ (v w : List ℕ) (agree : (i : ℕ) → getD v i 0 ≡ getD w i 0) wher
         nothing
         ∷ nothing
         ∷ once (second j)
-        ∷ ofImpl (λ r e. third r e j)
-        ∷ ofImpl (λ r e. fourth r e j)
-        ∷ ofImpl (λ r e. fifth r e j)
-        ∷ ofImpl (λ r e. sixth r e j)
-        ∷ ofSpec (λ q e. seventh q e j)
-        ∷ ofImpl (λ r e. eighth r e j)
-        ∷ ofImpl (λ r e. ninth r e j)
+        ∷ ofImpl (λ _ r e. third r e j)
+        ∷ ofImpl (λ _ r e. fourth r e j)
+        ∷ ofImpl (λ k r e. fifth k r e j)
+        ∷ ofImpl (λ _ r e. sixth r e j)
+        ∷ ofSpec (λ _ q e. seventh q e j)
+        ∷ ofImpl (λ _ r e. eighth r e j)
+        ∷ ofImpl (λ _ r e. ninth r e j)
         ∷ []
 
     -- the search

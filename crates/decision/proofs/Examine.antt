@@ -31,67 +31,67 @@ use Rattle.decision.proofs.Tests.{by-2, by-3, by-4, by-5, by-6, by-7, b
 
 pub record RowTest : Type 1 where
   pub rows : List Row
-  pub criterion : Row → ℕ → Type 0
-  pub holds : Row → ℕ → Bool
-  pub says : (k : ℕ) (r : Row) (e : ℕ) → RowIs rows k r → e < r .span → Reflects (criterion r e) (holds r e)
+  pub criterion : ℕ → Row → ℕ → Type 0
+  pub holds : ℕ → Row → ℕ → Bool
+  pub says : (k : ℕ) (r : Row) (e : ℕ) → RowIs rows k r → e < r .span → Reflects (criterion k r e) (holds k r e)
   -- outside the span there is nothing to meet
-  pub idle : (r : Row) (e : ℕ) → (e < r .span → ⊥) → criterion r e
+  pub idle : (k : ℕ) (r : Row) (e : ℕ) → (e < r .span → ⊥) → criterion k r e
 
 module _ (T : RowTest) where
   row-of : (k e : ℕ) → e < rowAt (T .rows) k .span → RowIs (T .rows) k (rowAt (T .rows) k)
   row-of k e u = row-at-is (T .rows) k e u
 
-  test-fails : (k e : ℕ) (u : e < rowAt (T .rows) k .span) → not (T .holds (rowAt (T .rows) k) e) ≡ true → T .criterion (rowAt (T .rows) k) e → ⊥
+  test-fails : (k e : ℕ) (u : e < rowAt (T .rows) k .span) → not (T .holds k (rowAt (T .rows) k) e) ≡ true → T .criterion k (rowAt (T .rows) k) e → ⊥
   test-fails k e u h = says-no (T .says k (rowAt (T .rows) k) e (row-of k e u) u) (not-true _ h)
 
-  in-span : (r : Row) (e : ℕ) → (T .criterion r e → ⊥) → e < r .span
-  in-span r e n = go (decLt e (r .span))
+  in-span : (k : ℕ) (r : Row) (e : ℕ) → (T .criterion k r e → ⊥) → e < r .span
+  in-span k r e n = go (decLt e (r .span))
     where
       go : Dec (e < r .span) → e < r .span
       go (yes u) = u
-      go (no m) = absurd (n (T .idle r e m))
+      go (no m) = absurd (n (T .idle k r e m))
 
-  fails-in-span : {k : ℕ} {r : Row} (e : ℕ) → RowIs (T .rows) k r → (T .criterion r e → ⊥) → e < rowAt (T .rows) k .span
-  fails-in-span {k} {r} e is n = rw (is-row-at is) (in-span r e n)
+  fails-in-span : {k : ℕ} {r : Row} (e : ℕ) → RowIs (T .rows) k r → (T .criterion k r e → ⊥) → e < rowAt (T .rows) k .span
+  fails-in-span {k} {r} e is n = rw (is-row-at is) (in-span k r e n)
 
-  fails-test : {k : ℕ} {r : Row} (e : ℕ) → RowIs (T .rows) k r → (T .criterion r e → ⊥) → not (T .holds (rowAt (T .rows) k) e) ≡ true
-  fails-test {k} {r} e is n = rw (is-row-at is, is-not (T .says k r e is (in-span r e n)) n)
+  fails-test : {k : ℕ} {r : Row} (e : ℕ) → RowIs (T .rows) k r → (T .criterion k r e → ⊥) → not (T .holds k (rowAt (T .rows) k) e) ≡ true
+  fails-test {k} {r} e is n = rw (is-row-at is, is-not (T .says k r e is (in-span k r e n)) n)
 
   -- it holds unless it fails
-  holds-unless : (k : ℕ) (r : Row) (e : ℕ) → RowIs (T .rows) k r → ((T .criterion r e → ⊥) → ⊥) → T .criterion r e
+  holds-unless : (k : ℕ) (r : Row) (e : ℕ) → RowIs (T .rows) k r → ((T .criterion k r e → ⊥) → ⊥) → T .criterion k r e
   holds-unless k r e is n = go (decLt e (r .span))
     where
-      by : {b : Bool} → Reflects (T .criterion r e) b → T .criterion r e
+      by : {b : Bool} → Reflects (T .criterion k r e) b → T .criterion k r e
       by (so c) = c
       by (not-so m) = absurd (n m)
 
-      go : Dec (e < r .span) → T .criterion r e
+      go : Dec (e < r .span) → T .criterion k r e
       go (yes u) = by (T .says k r e is u)
-      go (no m) = T .idle r e m
+      go (no m) = T .idle k r e m
 
 -- ---- all of them
 
 module _ (d : Design) (a : Admitted d) (s : State) where
   t3 : RowTest
-  t3 = record { rows = d .impl .rows; criterion = Criterion3 d s; holds = holds3 d s; says = λ k r e is u. by-3 d a s k r e u; idle = λ r e n on. absurd (n (on .in-span)) }
+  t3 = record { rows = d .impl .rows; criterion = λ _. Criterion3 d s; holds = λ _. holds3 d s; says = λ k r e is u. by-3 d a s k r e u; idle = λ k r e n on. absurd (n (on .in-span)) }
 
   t4 : RowTest
-  t4 = record { rows = d .impl .rows; criterion = Criterion4 d s; holds = holds4 d s; says = λ k r e is u. by-4 d a s k r e u; idle = λ r e n on. absurd (n (on .in-span)) }
+  t4 = record { rows = d .impl .rows; criterion = λ _. Criterion4 d s; holds = λ _. holds4 d s; says = λ k r e is u. by-4 d a s k r e u; idle = λ k r e n on. absurd (n (on .in-span)) }
 
   t5 : RowTest
-  t5 = record { rows = d .impl .rows; criterion = Criterion5 d s; holds = holds5 d s; says = λ k r e is u. by-5 d a s k r e u; idle = λ r e n on. absurd (n (on .in-span)) }
+  t5 = record { rows = d .impl .rows; criterion = Criterion5 d s; holds = holds5 d s; says = λ k r e is u. by-5 d a s k r e u is; idle = λ k r e n on. absurd (n (on .in-span)) }
 
   t6 : RowTest
-  t6 = record { rows = d .impl .rows; criterion = Criterion6 d s; holds = holds6 d s; says = λ k r e is u. by-6 d a s k r e u is; idle = λ r e n on. absurd (n (on .in-span)) }
+  t6 = record { rows = d .impl .rows; criterion = λ _. Criterion6 d s; holds = λ _. holds6 d s; says = λ k r e is u. by-6 d a s k r e u is; idle = λ k r e n on. absurd (n (on .in-span)) }
 
   t7 : RowTest
-  t7 = record { rows = d .spec .rows; criterion = Criterion7 d s; holds = holds7 d s; says = λ k q e is u. by-7 d a s k q e u is; idle = λ r e n focus on. absurd (n (on .in-span)) }
+  t7 = record { rows = d .spec .rows; criterion = λ _. Criterion7 d s; holds = λ _. holds7 d s; says = λ k q e is u. by-7 d a s k q e u is; idle = λ k r e n focus on. absurd (n (on .in-span)) }
 
   t8 : RowTest
-  t8 = record { rows = d .impl .rows; criterion = Criterion8 d s; holds = holds8 d s; says = λ k r e is u. by-8 d a s k r e u; idle = λ r e n on. absurd (n (on .in-span)) }
+  t8 = record { rows = d .impl .rows; criterion = λ _. Criterion8 d s; holds = λ _. holds8 d s; says = λ k r e is u. by-8 d a s k r e u; idle = λ k r e n on. absurd (n (on .in-span)) }
 
   t9 : RowTest
-  t9 = record { rows = d .impl .rows; criterion = Criterion9 d s; holds = holds9 d s; says = λ k r e is u. by-9 d a s k r e u; idle = λ r e n on. absurd (n (on .in-span)) }
+  t9 = record { rows = d .impl .rows; criterion = λ _. Criterion9 d s; holds = λ _. holds9 d s; says = λ k r e is u. by-9 d a s k r e u; idle = λ k r e n on. absurd (n (on .in-span)) }
 
   second-at : (k e : ℕ) → k ≡ 0 → e ≡ 0 → (Criterion2 d s → ⊥) → FailsAt d s (place 2 k e)
   second-at k e p q n = rw (p, q) (second n)

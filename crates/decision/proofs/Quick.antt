@@ -2,46 +2,40 @@
 -- criteria, rows and sum values are looked at.
 use mathlib.Core.Path.{_≡_, refl, sym, _∙_, ap}
 use mathlib.Core.Bool.{Bool, true, false, not, _&&_, true≢false, Bool·not-not}
-use mathlib.Core.List.{List, [], _∷_}
+use mathlib.Core.List.{List}
 use Prim.Native.Nat.{ℕ, suc}
-use lib.ListN.{length, getD}
+use lib.ListN.{length}
 use Rattle.foundation.specs.First.{Outcome, pass, fail, firstIn, passes, allIn}
 use Rattle.foundation.specs.Trial.{place, inCriterion, firstPlace}
-use Rattle.foundation.specs.Nth.{eachB}
-use Rattle.foundation.proofs.First.{passes-all, all-alike, all-from, all-both}
+use Rattle.foundation.proofs.First.{passes-all, all-alike, all-both}
 use Rattle.foundation.proofs.Trial.{place-passes}
-use Rattle.foundation.proofs.Nth.{each-both, each-alike}
 use Rattle.criteria.specs.Design.{Design, Row, State}
-use Rattle.criteria.specs.Rows.{noRow, rowAt}
+use Rattle.criteria.specs.Rows.{rowAt}
 use Rattle.decision.specs.Tests.{holds2, holds3, holds4, holds5, holds6, holds7, holds8, holds9}
 use Rattle.decision.specs.Examine.{trial, firstFailing}
 use Rattle.decision.specs.Quick.{allRows, rowHolds, stateHolds}
 
 -- ---- one criterion over rows
 
--- each of a list, by its numbers
-pub by-numbers : (G : Row → Bool) (rows : List Row) → allIn (λ k. G (getD rows k noRow)) (length rows) 0 ≡ eachB G rows
+-- a search through rows finds none exactly if each row passes
+pub rows-none : {A : Type 0} (rows : List Row) (fails : ℕ → Row → ℕ → Bool) (name : ℕ → ℕ → A)
+    → passes (firstPlace (suc (length rows)) (λ k. rowAt rows k .span) (λ k e. fails k (rowAt rows k) e) name) ≡ allRows rows (λ k r e. not (fails k r e))
 unfolding allIn
-by-numbers G [] = refl
-by-numbers G (r ∷ rows) = ap (λ b. G r && b) (all-from (λ k. G (getD (r ∷ rows) k noRow)) (length rows) 0 ∙ by-numbers G rows)
+rows-none rows fails name = place-passes (suc (length rows)) (λ k. rowAt rows k .span) (λ k e. fails k (rowAt rows k) e) name
 
-rows-pass : (rows : List Row) (holds : Row → ℕ → Bool) (c : ℕ)
-    → passes (firstPlace (suc (length rows)) (λ k. rowAt rows k .span) (λ k e. not (holds (rowAt rows k) e)) (place c)) ≡ allRows rows holds
-unfolding allIn
-rows-pass rows holds c =
-    place-passes (suc (length rows)) (λ k. rowAt rows k .span) (λ k e. not (holds (rowAt rows k) e)) (place c)
-    ∙ all-alike _ (λ k. G (rowAt rows k)) (suc (length rows)) 0 (λ k. all-alike _ (λ e. holds (rowAt rows k) e) (rowAt rows k .span) 0 (λ e. Bool·not-not (holds (rowAt rows k) e)))
-    ∙ all-from (λ k. G (rowAt rows k)) (length rows) 0
-    ∙ by-numbers G rows
-  where
-    G : Row → Bool
-    G r = allIn (λ e. holds r e) (r .span) 0
+-- two tests that say the same
+pub rows-alike : (rows : List Row) (t u : ℕ → Row → ℕ → Bool) → ((k : ℕ) (r : Row) (e : ℕ) → t k r e ≡ u k r e) → allRows rows t ≡ allRows rows u
+rows-alike rows t u same = all-alike _ _ (length rows) 1 (λ k. all-alike _ _ (rowAt rows k .span) 0 (λ e. same k (rowAt rows k) e))
+
+rows-pass : (rows : List Row) (holds : ℕ → Row → ℕ → Bool) (c : ℕ)
+    → passes (firstPlace (suc (length rows)) (λ k. rowAt rows k .span) (λ k e. not (holds k (rowAt rows k) e)) (place c)) ≡ allRows rows holds
+rows-pass rows holds c = rows-none rows (λ k r e. not (holds k r e)) (place c) ∙ rows-alike rows _ holds (λ k r e. Bool·not-not (holds k r e))
 
 -- two tests at once
-rows-both : (rows : List Row) (t u : Row → ℕ → Bool) → allRows rows (λ r e. t r e && u r e) ≡ allRows rows t && allRows rows u
+rows-both : (rows : List Row) (t u : ℕ → Row → ℕ → Bool) → allRows rows (λ k r e. t k r e && u k r e) ≡ allRows rows t && allRows rows u
 rows-both rows t u =
-    each-alike _ _ rows (λ r. all-both (λ e. t r e) (λ e. u r e) (r .span) 0)
-    ∙ each-both (λ r. allIn (λ e. t r e) (r .span) 0) (λ r. allIn (λ e. u r e) (r .span) 0) rows
+    all-alike _ _ (length rows) 1 (λ k. all-both (λ e. t k (rowAt rows k) e) (λ e. u k (rowAt rows k) e) (rowAt rows k .span) 0)
+    ∙ all-both (λ k. allIn (λ e. t k (rowAt rows k) e) (rowAt rows k .span) 0) (λ k. allIn (λ e. u k (rowAt rows k) e) (rowAt rows k .span) 0) (length rows) 1
 
 passing : {A : Type 0} (o : Outcome A) → passes o ≡ true → o ≡ pass
 passing pass h = refl
@@ -70,37 +64,50 @@ arranged true true true true true false true false = refl
 arranged true true true true true false false b9 = refl
 
 module _ (d : Design) (s : State) where
-  abbrev impl : (Row → ℕ → Bool) → Bool
+  abbrev impl : (ℕ → Row → ℕ → Bool) → Bool
   impl t = allRows (d .impl .rows) t
 
+  -- the tests of a row, from a criterion on
+  abbrev from8 : ℕ → Row → ℕ → Bool
+  from8 k r e = holds8 d s r e && holds9 d s r e
+
+  abbrev from6 : ℕ → Row → ℕ → Bool
+  from6 k r e = holds6 d s r e && from8 k r e
+
+  abbrev from5 : ℕ → Row → ℕ → Bool
+  from5 k r e = holds5 d s k r e && from6 k r e
+
+  abbrev from4 : ℕ → Row → ℕ → Bool
+  from4 k r e = holds4 d s r e && from5 k r e
+
   -- the rows of the implementation, all six criteria at once
-  six : impl (rowHolds d s) ≡ impl (holds3 d s) && (impl (holds4 d s) && (impl (holds5 d s) && (impl (holds6 d s) && (impl (holds8 d s) && impl (holds9 d s)))))
+  six : impl (rowHolds d s) ≡ impl (λ _. holds3 d s) && (impl (λ _. holds4 d s) && (impl (holds5 d s) && (impl (λ _. holds6 d s) && (impl (λ _. holds8 d s) && impl (λ _. holds9 d s)))))
   six =
       let rows = d .impl .rows in
-      rows-both rows (holds3 d s) _ ∙ ap (λ b. impl (holds3 d s) && b) (rows-both rows (holds4 d s) _
-      ∙ ap (λ b. impl (holds4 d s) && b) (rows-both rows (holds5 d s) _ ∙ ap (λ b. impl (holds5 d s) && b) (rows-both rows (holds6 d s) _
-      ∙ ap (λ b. impl (holds6 d s) && b) (rows-both rows (holds8 d s) (holds9 d s)))))
+      rows-both rows (λ _. holds3 d s) from4 ∙ ap (λ b. impl (λ _. holds3 d s) && b) (rows-both rows (λ _. holds4 d s) from5
+      ∙ ap (λ b. impl (λ _. holds4 d s) && b) (rows-both rows (holds5 d s) from6 ∙ ap (λ b. impl (holds5 d s) && b) (rows-both rows (λ _. holds6 d s) from8
+      ∙ ap (λ b. impl (λ _. holds6 d s) && b) (rows-both rows (λ _. holds8 d s) (λ _. holds9 d s)))))
 
-  row-pass : (holds : Row → ℕ → Bool) (c : ℕ)
-      → passes (firstPlace (suc (length (d .impl .rows))) (λ k. rowAt (d .impl .rows) k .span) (λ k e. not (holds (rowAt (d .impl .rows) k) e)) (place c)) ≡ impl holds
+  row-pass : (holds : ℕ → Row → ℕ → Bool) (c : ℕ)
+      → passes (firstPlace (suc (length (d .impl .rows))) (λ k. rowAt (d .impl .rows) k .span) (λ k e. not (holds k (rowAt (d .impl .rows) k) e)) (place c)) ≡ impl holds
   row-pass holds c = rows-pass (d .impl .rows) holds c
 
   pub quick : stateHolds d s ≡ passes (firstFailing d s)
   unfolding allIn firstIn
   quick =
       let f : ℕ → Bool = λ c. passes (inCriterion (trial d s) c) in
-      let spec : Bool = allRows (d .spec .rows) (holds7 d s) in
+      let spec : Bool = allRows (d .spec .rows) (λ _. holds7 d s) in
       let p2 : f 2 ≡ holds2 d s = once-pass (holds2 d s) 2 in
-      let p3 : f 3 ≡ impl (holds3 d s) = row-pass (holds3 d s) 3 in
-      let p4 : f 4 ≡ impl (holds4 d s) = row-pass (holds4 d s) 4 in
+      let p3 : f 3 ≡ impl (λ _. holds3 d s) = row-pass (λ _. holds3 d s) 3 in
+      let p4 : f 4 ≡ impl (λ _. holds4 d s) = row-pass (λ _. holds4 d s) 4 in
       let p5 : f 5 ≡ impl (holds5 d s) = row-pass (holds5 d s) 5 in
-      let p6 : f 6 ≡ impl (holds6 d s) = row-pass (holds6 d s) 6 in
-      let p7 : f 7 ≡ spec = rows-pass (d .spec .rows) (holds7 d s) 7 in
-      let p8 : f 8 ≡ impl (holds8 d s) = row-pass (holds8 d s) 8 in
-      let p9 : f 9 ≡ impl (holds9 d s) = row-pass (holds9 d s) 9 in
+      let p6 : f 6 ≡ impl (λ _. holds6 d s) = row-pass (λ _. holds6 d s) 6 in
+      let p7 : f 7 ≡ spec = rows-pass (d .spec .rows) (λ _. holds7 d s) 7 in
+      let p8 : f 8 ≡ impl (λ _. holds8 d s) = row-pass (λ _. holds8 d s) 8 in
+      let p9 : f 9 ≡ impl (λ _. holds9 d s) = row-pass (λ _. holds9 d s) 9 in
       sym (passes-all (λ c. inCriterion (trial d s) c) 10 0
       ∙ (λ i. p2 i && (p3 i && (p4 i && (p5 i && (p6 i && (p7 i && (p8 i && (p9 i && true))))))))
-      ∙ arranged (holds2 d s) (impl (holds3 d s)) (impl (holds4 d s)) (impl (holds5 d s)) (impl (holds6 d s)) spec (impl (holds8 d s)) (impl (holds9 d s))
+      ∙ arranged (holds2 d s) (impl (λ _. holds3 d s)) (impl (λ _. holds4 d s)) (impl (holds5 d s)) (impl (λ _. holds6 d s)) spec (impl (λ _. holds8 d s)) (impl (λ _. holds9 d s))
       ∙ ap (λ b. holds2 d s && (b && spec)) (sym six))
 
   -- so the search is needed only where it says no

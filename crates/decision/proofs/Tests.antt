@@ -12,9 +12,9 @@ use Rattle.terms.specs.Tree.{evalF}
 use Rattle.criteria.specs.Design.{Design, Process, Row, State, RowIs, OneRowEach, Admitted, InvariantState, sizes, initialState, mapped, measureAt}
 use Rattle.criteria.specs.Step.{Enabled, FocusPoint, ActionEnabled, InternalRow, nextState, dataNumber}
 use Rattle.criteria.specs.Criteria.{Criterion1, Criterion2, Criterion3, Criterion4, Criterion5, Criterion6, Criterion7, Criterion8, Criterion9, Partner}
-use Rattle.criteria.specs.Rows.{rowAt, firstInternal}
-use Rattle.criteria.proofs.Rows.{pass-focus, fail-internal}
-use Rattle.decision.specs.Tests.{enabledB, internalB, invariantB, invariantStateB, focusB, rowNumber, partner, holds1, holds2, holds3, holds4, holds5, holds6, holds7, holds8, holds9}
+use Rattle.criteria.specs.Rows.{rowAt, firstMarked}
+use Rattle.criteria.proofs.Rows.{marked-holds, holds-marked, pass-focus, fail-marked}
+use Rattle.decision.specs.Tests.{enabledB, internalB, markedB, invariantB, invariantStateB, focusB, rowNumber, partner, holds1, holds2, holds3, holds4, holds5, holds6, holds7, holds8, holds9}
 use Rattle.decision.proofs.Find.{Found, Missing, find, found-some, found-partner, found-only}
 
 -- ---- the parts
@@ -28,11 +28,11 @@ by-invariant-state d s =
     (by-and (by-below (sizes (d .impl)) s) (by-value (invariantB d s)))
 
 pub by-focus : (d : Design) (s : State) → Reflects (FocusPoint d s) (focusB d s)
-by-focus d s = go (firstInternal d s) refl
+by-focus d s = go (firstMarked d s) refl
   where
-    go : (o : Outcome (ℕ × ℕ)) → firstInternal d s ≡ o → Reflects (FocusPoint d s) (passes o)
+    go : (o : Outcome (ℕ × ℕ)) → firstMarked d s ≡ o → Reflects (FocusPoint d s) (passes o)
     go pass h = so (pass-focus d s h)
-    go (fail x) h = not-so (λ f. let i = fail-internal d s x h in f (i .at) (i .row) (i .sum) (i .is-row) (i .zero) (i .enabled))
+    go (fail x) h = not-so (λ f. let i = fail-marked d s x h in f (i .at) (i .row) (i .sum) (i .is-row) (i .zero) (i .enabled) (i .marked))
 
 -- the row of a visible action is enabled; e is in the span of each row of that action
 by-action : (p : Process) (action : ℕ) (s : State) (e : ℕ) → OneRowEach p → action ≢ 0
@@ -93,8 +93,11 @@ module _ (d : Design) (a : Admitted d) (s : State) (k : ℕ) (r : Row) (e : ℕ)
   pub by-4 : Reflects (Criterion4 d s r e) (holds4 d s r e)
   by-4 = by-if _ on (λ _. by-if _ internal (λ _. by-same (mapped d s) (mapped d (nextState r s e))))
 
-  pub by-5 : Reflects (Criterion5 d s r e) (holds5 d s r e)
-  by-5 = by-if _ on (λ _. by-if _ internal (λ _. by-ltb (measureAt d (nextState r s e)) (measureAt d s)))
+  pub by-5 : RowIs (d .impl .rows) k r → Reflects (Criterion5 d s k r e) (holds5 d s k r e)
+  by-5 is =
+      by-if _ on (λ _. by-if _ internal (λ zero.
+      by-if _ (by-iff (holds-marked d k s e is zero) (marked-holds d k s e) (by-value (markedB d k s e))) (λ _.
+      by-ltb (measureAt d (nextState r s e)) (measureAt d s))))
 
   pub by-6 : RowIs (d .impl .rows) k r → Reflects (Criterion6 d s r e) (holds6 d s r e)
   by-6 is =

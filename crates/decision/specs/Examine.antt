@@ -12,11 +12,12 @@ use Rattle.criteria.specs.Failure.{Failure, failureAt}
 use Rattle.criteria.specs.Rows.{rowAt}
 use Rattle.decision.specs.Tests.{invariantB, holds2, holds3, holds4, holds5, holds6, holds7, holds8, holds9}
 
--- what is tried for one criterion: nothing; a test at row 0 and sum value 0; a test at each row of a process, for each sum value
+-- what is tried for one criterion: nothing; a test at row 0 and sum value 0; a test at each row of a process, by its number, for each
+-- sum value
 pub data Column : Type 0 where
   nothing : Column
   once : Bool → Column
-  ofImpl ofSpec : (Row → ℕ → Bool) → Column
+  ofImpl ofSpec : (ℕ → Row → ℕ → Bool) → Column
 
 -- the criteria by their numbers, from 0
 abbrev pub columns : Design → State → List Column
@@ -24,13 +25,13 @@ columns d s =
     nothing
     ∷ nothing
     ∷ once (holds2 d s)
-    ∷ ofImpl (holds3 d s)
-    ∷ ofImpl (holds4 d s)
+    ∷ ofImpl (λ _. holds3 d s)
+    ∷ ofImpl (λ _. holds4 d s)
     ∷ ofImpl (holds5 d s)
-    ∷ ofImpl (holds6 d s)
-    ∷ ofSpec (holds7 d s)
-    ∷ ofImpl (holds8 d s)
-    ∷ ofImpl (holds9 d s)
+    ∷ ofImpl (λ _. holds6 d s)
+    ∷ ofSpec (λ _. holds7 d s)
+    ∷ ofImpl (λ _. holds8 d s)
+    ∷ ofImpl (λ _. holds9 d s)
     ∷ []
 
 abbrev pub column : List Column → ℕ → Column
@@ -54,8 +55,8 @@ sumsIn d (ofSpec holds) k = rowAt (d .spec .rows) k .span
 abbrev pub failsIn : Design → Column → ℕ → ℕ → Bool
 failsIn d nothing k e = false
 failsIn d (once holds) k e = not holds
-failsIn d (ofImpl holds) k e = not (holds (rowAt (d .impl .rows) k) e)
-failsIn d (ofSpec holds) k e = not (holds (rowAt (d .spec .rows) k) e)
+failsIn d (ofImpl holds) k e = not (holds k (rowAt (d .impl .rows) k) e)
+failsIn d (ofSpec holds) k e = not (holds k (rowAt (d .spec .rows) k) e)
 
 abbrev pub trialOf : Design → List Column → Trial
 trialOf d cs = record {

@@ -3,18 +3,19 @@
 use mathlib.Core.Bool.{Bool, _&&_}
 use mathlib.Core.List.{List}
 use Prim.Native.Nat.{ℕ}
+use lib.ListN.{length}
 use Rattle.foundation.specs.First.{allIn}
-use Rattle.foundation.specs.Nth.{eachB}
 use Rattle.criteria.specs.Design.{Design, Row, State}
+use Rattle.criteria.specs.Rows.{rowAt}
 use Rattle.decision.specs.Tests.{holds2, holds3, holds4, holds5, holds6, holds7, holds8, holds9}
 
--- the test says yes at each row, for each sum value in its span
-abbrev pub allRows : List Row → (Row → ℕ → Bool) → Bool
-allRows rows t = eachB (λ r. allIn (λ e. t r e) (r .span) 0) rows
+-- the test says yes at each row by its number, from 1 on, for each sum value in its span
+abbrev pub allRows : List Row → (ℕ → Row → ℕ → Bool) → Bool
+allRows rows t = allIn (λ k. allIn (λ e. t k (rowAt rows k) e) (rowAt rows k .span) 0) (length rows) 1
 
--- criteria 3, 4, 5, 6, 8, 9 at a row of the implementation, for a sum value
-abbrev pub rowHolds : Design → State → Row → ℕ → Bool
-rowHolds d s r e = holds3 d s r e && (holds4 d s r e && (holds5 d s r e && (holds6 d s r e && (holds8 d s r e && holds9 d s r e))))
+-- criteria 3, 4, 5, 6, 8, 9 at row k of the implementation, for a sum value
+abbrev pub rowHolds : Design → State → ℕ → Row → ℕ → Bool
+rowHolds d s k r e = holds3 d s r e && (holds4 d s r e && (holds5 d s k r e && (holds6 d s r e && (holds8 d s r e && holds9 d s r e))))
 
 abbrev pub stateHolds : Design → State → Bool
-stateHolds d s = holds2 d s && (allRows (d .impl .rows) (rowHolds d s) && allRows (d .spec .rows) (holds7 d s))
+stateHolds d s = holds2 d s && (allRows (d .impl .rows) (rowHolds d s) && allRows (d .spec .rows) (λ _. holds7 d s))

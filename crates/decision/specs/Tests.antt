@@ -10,7 +10,7 @@ use Rattle.foundation.specs.Reflects.{_⇒_}
 use Rattle.terms.specs.Tree.{evalF}
 use Rattle.criteria.specs.Design.{Design, Process, Row, State, sizes, initialState, mapped, measureAt}
 use Rattle.criteria.specs.Step.{nextState, dataNumber}
-use Rattle.criteria.specs.Rows.{rowAt, firstInternal}
+use Rattle.criteria.specs.Rows.{rowAt, markOf, firstMarked}
 
 -- a row's condition, where the sum value is known to be in its span
 abbrev pub enabledB : Row → State → ℕ → Bool
@@ -19,6 +19,10 @@ enabledB r s e = evalF (r .condition) s e
 abbrev pub internalB : Row → Bool
 internalB r = eqb (r .action) 0
 
+-- the mark of row k, if it is internal
+abbrev pub markedB : Design → ℕ → State → ℕ → Bool
+markedB d k s e = evalF (markOf d k) s e
+
 abbrev pub invariantB : Design → State → Bool
 invariantB d s = evalF (d .invariant) s 0
 
@@ -26,7 +30,7 @@ abbrev pub invariantStateB : Design → State → Bool
 invariantStateB d s = belowB (sizes (d .impl)) s && invariantB d s
 
 abbrev pub focusB : Design → State → Bool
-focusB d s = passes (firstInternal d s)
+focusB d s = passes (firstMarked d s)
 
 -- the number of the first row of an action, counted from k; 0 if there is none
 unfoldable pub rowFrom : List Row → ℕ → ℕ → ℕ
@@ -53,8 +57,9 @@ holds3 d s r e = enabledB r s e ⇒ invariantStateB d (nextState r s e)
 abbrev pub holds4 : Design → State → Row → ℕ → Bool
 holds4 d s r e = enabledB r s e ⇒ internalB r ⇒ sameB (mapped d s) (mapped d (nextState r s e))
 
-abbrev pub holds5 : Design → State → Row → ℕ → Bool
-holds5 d s r e = enabledB r s e ⇒ internalB r ⇒ ltb (measureAt d (nextState r s e)) (measureAt d s)
+-- k is the row's number
+abbrev pub holds5 : Design → State → ℕ → Row → ℕ → Bool
+holds5 d s k r e = enabledB r s e ⇒ internalB r ⇒ markedB d k s e ⇒ ltb (measureAt d (nextState r s e)) (measureAt d s)
 
 abbrev pub holds6 : Design → State → Row → ℕ → Bool
 holds6 d s r e = enabledB r s e ⇒ not (internalB r) ⇒ enabledB (partner (d .spec) (r .action)) (mapped d s) e
