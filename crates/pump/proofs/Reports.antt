@@ -23,7 +23,7 @@ use Rattle.decision.proofs.Demand2.{demand2}
 use Rattle.pump.specs.Table.{given, Case, cases, Right}
 
 -- what is computed of each
-abbrev Computed : List Case → Type 0
+abbrev pub Computed : List Case → Type 0
 Computed [] = Unit {0}
 Computed (c ∷ cs) = ((admittedB (c .table) ≡ true) × (reportOf (verdictOf (c .table)) ≡ c .says)) × Computed cs
 
@@ -36,7 +36,7 @@ right-by c h e =
     let a = says-yes (by-admitted (c .table)) h in
     record { admitted = a; verdict = verdictOf (c .table); right = demand2 (c .table) a; reported = e }
 
-each-right : (cs : List Case) → Computed cs → EachIs cs Right
+pub each-right : (cs : List Case) → Computed cs → EachIs cs Right
 each-right [] h = λ k x at. absurd (nth-nil at)
 each-right (c ∷ cs) h = nth-cons Right (right-by c (h .0 .0) (h .0 .1)) (each-right cs (h .1))
 

@@ -33,6 +33,7 @@ design z w row2 c x i m u = record {
   invariant = i;
   mapping = choice (is 0) (num 0) (num 1) ∷ m ∷ [];
   measure = u;
+  marks = [];
 }
 
 -- row 2, with its last next value
@@ -48,7 +49,7 @@ given = design 3 4 (done (par 1)) (is 2) (par 1) (const true) (par 1) busy
 abbrev pub wrong-data : Design
 wrong-data = design 3 4 (done (par 1)) (is 2) (num 0) (const true) (par 1) busy
 
--- a design and the report that 01 gives it
+-- a design and its report
 pub record Case : Type 0 where
   pub table : Design
   pub says : Report
