@@ -9,16 +9,18 @@ use lib.Dec.{eqb}
 use lib.ListN.{length, getD, take, drop, length-append, List·getD-append}
 use lib.Seq.{take-append-seam, drop-append-seam, getD-append-add}
 use Rattle.reader.specs.Text.{countAll}
-use Rattle.kinds.specs.Kinds.{wholeText, entryIn, value, formula, nValues}
-use Rattle.design.specs.Line.{parameterOf, rowOf, invariantOf, mappingOf, measureOf}
-use Rattle.design.specs.Lines.{kindOf, ofKind, theLine, countOf, countsOf, designOf}
+use Rattle.kinds.specs.Kinds.{wholeText, entryIn, value, formula, nValues, nFormulas}
+use Rattle.criteria.specs.Design.{Row}
+use Rattle.criteria.specs.Step.{internalRows}
+use Rattle.design.specs.Line.{parameterOf, rowOf, invariantOf, mappingOf, measureOf, marksOf}
+use Rattle.design.specs.Lines.{kindOf, ofKind, theLine, countOf, countsOf, rowsSaid, internalOf, designOf}
 use Rattle.design.specs.Faults.{HasTerms, Terms, LineTerms}
 use Rattle.design.specs.Loaded.{lineFrom, eachLine, fieldsHeld, startsHeld, designIn}
 use Rattle.design.proofs.Each.{EachLine, each-cons}
 use Rattle.design.proofs.Fault4.{Layout}
-use Rattle.design.proofs.WholeText.{in-order, Counted, counted, Exactly, AtLeast, exact-length, least-length, exactly-1, exactly-2, least-3, least-4, least-5, least-6, least-7}
+use Rattle.design.proofs.WholeText.{in-order, Counted, counted, Exactly, AtLeast, exact-length, least-length, exactly-1, exactly-2, least-3, least-4, least-5, least-6, least-7, least-8}
 use Rattle.design.proofs.Loaded.{each-same, each-map, line-then, later-fields}
-use Rattle.design.proofs.Terms.{parameter-same, row-same, invariant-same, mapping-same, measure-same}
+use Rattle.design.proofs.Terms.{parameter-same, row-same, invariant-same, mapping-same, measure-same, marks-same}
 
 -- line j is one of the lines
 pub nth-among : (lines : List (List ℕ)) (j : ℕ) → j < length lines → List·Memᴰ (getD lines j []) lines
@@ -54,7 +56,7 @@ module _ (lines a b c : List (List ℕ)) (split : lines ≡ a ++ (b ++ c)) where
 
 -- ---- the design
 
-module _ (lines : List (List ℕ)) (few : length lines ≤ 83) (fit : countAll lines ≤ 4096) where
+module _ (lines : List (List ℕ)) (few : length lines ≤ 84) (fit : countAll lines ≤ 4096) where
   abbrev fields : List ℕ
   fields = fieldsHeld lines
 
@@ -87,9 +89,28 @@ module _ (lines : List (List ℕ)) (few : length lines ≤ 83) (fit : countAll l
       let is : getD lines (length a) [] ≡ getD b 0 [] = ap (λ k. getD lines k []) (sym at) ∙ line-in lines a b c split 0 (omega arith) in
       rw (line-then lines few fit (length a) (omega arith), is) (same (getD b 0 []) (nth-among b 0 (omega arith)) (later-fields lines (length a)))
 
+-- ---- how many rows are internal shows in their lines' actions
+
+abbrev actionIn : List ℕ → ℕ
+actionIn line = getD line 1 0
+
+zerosIn : List ℕ → ℕ
+zerosIn [] = 0
+zerosIn (a ∷ actions) = let n = zerosIn actions in cond (eqb a 0) (suc n) n
+
+zeros-each : (n : ℕ) (l : ℕ → List ℕ) (c i : ℕ) → internalRows (eachLine (rowOf n) l c i) ≡ zerosIn (eachLine actionIn l c i)
+unfolding internalRows eachLine zerosIn
+zeros-each n l zero i = refl
+zeros-each n l (suc c) i = rw (zeros-each n l c (suc i))
+
+zeros-map : (n : ℕ) (ls : List (List ℕ)) → internalRows (map (rowOf n) ls) ≡ zerosIn (map actionIn ls)
+unfolding internalRows zerosIn
+zeros-map n [] = refl
+zeros-map n (l ∷ ls) = rw (zeros-map n ls)
+
 -- a line of a kind with terms is made of them
 abbrev pub TermsFit : List (List ℕ) → Type 0
-TermsFit lines = EachLine (λ line. HasTerms (kindOf line) → LineTerms (countOf 1 lines) (countOf 2 lines) line (kindOf line)) lines
+TermsFit lines = EachLine (λ line. HasTerms (kindOf line) → LineTerms (countOf 1 lines) (countOf 2 lines) (internalOf lines) line (kindOf line)) lines
 
 -- which these are, by the kind
 module _ (lines : List (List ℕ)) (made : TermsFit lines) (line : List ℕ) where
@@ -99,10 +120,13 @@ module _ (lines : List (List ℕ)) (made : TermsFit lines) (line : List ℕ) whe
   abbrev theirs : ℕ
   theirs = countOf 2 lines
 
-  made-of : (k : ℕ) → HasTerms k → List·Memᴰ line (ofKind k lines) → LineTerms own theirs line k
+  abbrev internal : ℕ
+  internal = internalOf lines
+
+  made-of : (k : ℕ) → HasTerms k → List·Memᴰ line (ofKind k lines) → LineTerms own theirs internal line k
   made-of k h m =
       let o = of-kind k lines line m in
-      subst (LineTerms own theirs line) (o .0) (made line (o .1) (subst HasTerms (sym (o .0)) h))
+      subst (LineTerms own theirs internal line) (o .0) (made line (o .1) (subst HasTerms (sym (o .0)) h))
 
   pub row-terms : List·Memᴰ line (ofKind 3 lines) → Terms own true (formula ∷ value ∷ nValues own) (drop 3 line)
   unfolding entryIn
@@ -124,6 +148,10 @@ module _ (lines : List (List ℕ)) (made : TermsFit lines) (line : List ℕ) whe
   unfolding entryIn
   measure-terms m = made-of 7 refl m
 
+  pub marks-terms : List·Memᴰ line (ofKind 8 lines) → Terms own true (nFormulas internal) (drop 1 line)
+  unfolding entryIn
+  marks-terms m = made-of 8 refl m
+
 -- and how many fields a line has
 module _ {lines : List (List ℕ)} (lay : Layout wholeText lines) (k n : ℕ) (line : List ℕ) (m : List·Memᴰ line (ofKind k lines)) where
   pub exactly : Exactly k n → length line ≡ n
@@ -132,7 +160,7 @@ module _ {lines : List (List ℕ)} (lay : Layout wholeText lines) (k n : ℕ) (l
   pub at-least : AtLeast k n → n ≤ length line
   at-least x = let o = of-kind k lines line m in least-length lay k n line (o .1) (o .0) x
 
-module _ (lines : List (List ℕ)) (few : length lines ≤ 83) (fit : countAll lines ≤ 4096) (lay : Layout wholeText lines) where
+module _ (lines : List (List ℕ)) (few : length lines ≤ 84) (fit : countAll lines ≤ 4096) (lay : Layout wholeText lines) where
   -- the lines of each kind, and those before them
   abbrev k : ℕ → List (List ℕ)
   k i = ofKind i lines
@@ -152,23 +180,29 @@ module _ (lines : List (List ℕ)) (few : length lines ≤ 83) (fit : countAll l
   abbrev before7 : List (List ℕ)
   before7 = before6 ++ k 6
 
-  split2 : lines ≡ k 1 ++ (k 2 ++ (k 3 ++ (k 4 ++ (k 5 ++ (k 6 ++ (k 7 ++ []))))))
+  abbrev before8 : List (List ℕ)
+  before8 = before7 ++ k 7
+
+  split2 : lines ≡ k 1 ++ (k 2 ++ (k 3 ++ (k 4 ++ (k 5 ++ (k 6 ++ (k 7 ++ (k 8 ++ [])))))))
   split2 = sym (in-order (lay .kinds))
 
-  split3 : lines ≡ before3 ++ (k 3 ++ (k 4 ++ (k 5 ++ (k 6 ++ (k 7 ++ [])))))
+  split3 : lines ≡ before3 ++ (k 3 ++ (k 4 ++ (k 5 ++ (k 6 ++ (k 7 ++ (k 8 ++ []))))))
   split3 = split2 ∙ sym (append-assoc (k 1) (k 2) _)
 
-  split4 : lines ≡ before4 ++ (k 4 ++ (k 5 ++ (k 6 ++ (k 7 ++ []))))
+  split4 : lines ≡ before4 ++ (k 4 ++ (k 5 ++ (k 6 ++ (k 7 ++ (k 8 ++ [])))))
   split4 = split3 ∙ sym (append-assoc before3 (k 3) _)
 
-  split5 : lines ≡ before5 ++ (k 5 ++ (k 6 ++ (k 7 ++ [])))
+  split5 : lines ≡ before5 ++ (k 5 ++ (k 6 ++ (k 7 ++ (k 8 ++ []))))
   split5 = split4 ∙ sym (append-assoc before4 (k 4) _)
 
-  split6 : lines ≡ before6 ++ (k 6 ++ (k 7 ++ []))
+  split6 : lines ≡ before6 ++ (k 6 ++ (k 7 ++ (k 8 ++ [])))
   split6 = split5 ∙ sym (append-assoc before5 (k 5) _)
 
-  split7 : lines ≡ before7 ++ (k 7 ++ [])
+  split7 : lines ≡ before7 ++ (k 7 ++ (k 8 ++ []))
   split7 = split6 ∙ sym (append-assoc before6 (k 6) _)
+
+  split8 : lines ≡ before8 ++ (k 8 ++ [])
+  split8 = split7 ∙ sym (append-assoc before7 (k 7) _)
 
   one : Counted lines
   one = counted lay
@@ -189,6 +223,9 @@ module _ (lines : List (List ℕ)) (few : length lines ≤ 83) (fit : countAll l
   at7 : length before7 ≡ length (k 1) + length (k 2) + length (k 3) + length (k 4) + 2
   at7 = length-append before6 (k 6) ∙ rw (at6, one .kind6) (omega arith)
 
+  at8 : length before8 ≡ length (k 1) + length (k 2) + length (k 3) + length (k 4) + 3
+  at8 = length-append before7 (k 7) ∙ rw (at7, one .kind7) (omega arith)
+
   abbrev line : ℕ → List ℕ
   line i = lineFrom (fieldsHeld lines) (startsHeld lines) i
 
@@ -203,6 +240,16 @@ module _ (lines : List (List ℕ)) (few : length lines ≤ 83) (fit : countAll l
 
   parameters2 : eachLine parameterOf line m n ≡ map parameterOf (k 2)
   parameters2 = block lines few fit parameterOf (k 1) (k 2) _ split2 (λ l h more. parameter-same l more (exactly lay 2 3 l h exactly-2))
+
+  -- whether or not their terms are right
+  pub internal3 : internalRows (eachLine (rowOf n) line (length (k 3)) (n + m)) ≡ internalOf lines
+  internal3 =
+      zeros-each n line (length (k 3)) (n + m)
+      ∙ ap zerosIn
+      (ap (λ at. eachLine actionIn line (length (k 3)) at) (sym at3)
+      ∙ block lines few fit actionIn before3 (k 3) _ split3
+      (λ l h more. let long = at-least lay 3 3 l h least-3 in List·getD-append l more 0 1 (omega arith)))
+      ∙ sym (zeros-map n (k 3))
 
   rows3 : TermsFit lines → eachLine (rowOf n) line (length (k 3)) (n + m) ≡ map (rowOf n) (k 3)
   rows3 made =
@@ -234,6 +281,19 @@ module _ (lines : List (List ℕ)) (few : length lines ≤ 83) (fit : countAll l
       ∙ single lines few fit measureOf before7 (k 7) _ split7 (one .kind7)
       (λ l h. measure-same n l (at-least lay 7 1 l h least-7) (measure-terms lines made l h))
 
+  -- the rows of the implementation, and what the marks' line says of them
+  abbrev rowsHeld : List Row
+  rowsHeld = eachLine (rowOf n) line (length (k 3)) (n + m)
+
+  line8 : TermsFit lines
+      → eachLine (marksOf (internalRows rowsHeld)) line (length (k 8)) (n + m + length (k 3) + length (k 4) + 3) ≡ map (marksOf (internalOf lines)) (k 8)
+  line8 made =
+      let i : ℕ = internalOf lines in
+      ap (λ (rows : List Row). eachLine (marksOf (internalRows rows)) line (length (k 8)) (n + m + length (k 3) + length (k 4) + 3)) (rows3 made)
+      ∙ ap (λ at. eachLine (marksOf i) line (length (k 8)) at) (sym at8)
+      ∙ block lines few fit (marksOf i) before8 (k 8) _ split8
+      (λ l h. marks-same n l (at-least lay 8 1 l h least-8) i (marks-terms lines made l h))
+
   -- the design that the arrays hold is that of the lines
   pub design-held : TermsFit lines → designIn (fieldsHeld lines) (startsHeld lines) (countsOf lines) ≡ designOf lines
   unfolding designOf
@@ -243,4 +303,5 @@ module _ (lines : List (List ℕ)) (few : length lines ≤ 83) (fit : countAll l
     invariant = line5 made i;
     mapping = line6 made i;
     measure = line7 made i;
+    marks = line8 made i;
   }

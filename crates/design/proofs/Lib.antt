@@ -7,3 +7,4 @@ pub mod Terms
 pub mod Held
 pub mod Printed
 pub mod Reprinted
+pub mod Marks

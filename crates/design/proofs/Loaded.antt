@@ -45,7 +45,7 @@ drop-joined (line ∷ lines) (suc i) more =
 pub zeros : List (List ℕ) → List ℕ
 zeros lines = drop (length (joined lines)) (replicate 4096 0)
 
-module _ (lines : List (List ℕ)) (few : length lines ≤ 83) (fit : countAll lines ≤ 4096) where
+module _ (lines : List (List ℕ)) (few : length lines ≤ 84) (fit : countAll lines ≤ 4096) where
   fields-are : fieldsHeld lines ≡ joined lines ++ zeros lines
   unfolding fieldsHeld zeros
   fields-are =
@@ -57,10 +57,10 @@ module _ (lines : List (List ℕ)) (few : length lines ≤ 83) (fit : countAll l
   starts-are : (i : ℕ) → i ≤ length lines → getD (startsHeld lines) i 0 ≡ countAll (take i lines)
   unfolding startsHeld
   starts-are i h =
-      let long : length (replicate {A = ℕ} 84 0) ≡ 84 = length-replicate {A = ℕ} 84 0 in
+      let long : length (replicate {A = ℕ} 85 0) ≡ 85 = length-replicate {A = ℕ} 85 0 in
       let l = length-starts 0 lines in
       rw
-      (sets-eq (startsFrom 0 lines) (replicate 84 0) 0 (omega arith), List·getD-append (startsFrom 0 lines) (drop (0 + length (startsFrom 0 lines)) (replicate 84 0)) 0 i (omega arith), start-of 0 lines i h)
+      (sets-eq (startsFrom 0 lines) (replicate 85 0) 0 (omega arith), List·getD-append (startsFrom 0 lines) (drop (0 + length (startsFrom 0 lines)) (replicate 85 0)) 0 i (omega arith), start-of 0 lines i h)
       (omega arith)
 
   -- from line i on: the later lines, one after the other
@@ -89,6 +89,13 @@ each-same says says′ line line′ zero i h = refl
 each-same says says′ line line′ (suc n) i h =
     rw (h i (omega arith) (omega arith), each-same says says′ line line′ n (suc i) (λ j l u. h j (omega arith) (omega arith)))
 
+-- the first n of them
+pub each-take : {A : Type 0} (says : List ℕ → A) (line : ℕ → List ℕ) (c n i : ℕ) → n ≤ c → take n (eachLine says line c i) ≡ eachLine says line n i
+unfolding eachLine
+each-take says line c zero i l = refl
+each-take says line zero (suc n) i l = absurd (omega arith)
+each-take says line (suc c) (suc n) i l = ap (λ rest. says (line i) ∷ rest) (each-take says line c n (suc i) (omega arith))
+
 pub each-map : {A : Type 0} (says : List ℕ → A) (lines : List (List ℕ)) (n i : ℕ) → i + n ≤ length lines
     → eachLine says (λ j. getD lines j []) n i ≡ map says (take n (drop i lines))
 unfolding eachLine
@@ -100,7 +107,7 @@ each-map says lines (suc n) i h =
 abbrev pub later-fields : List (List ℕ) → ℕ → List ℕ
 later-fields lines i = joined (drop (suc i) lines) ++ zeros lines
 
-module _ (lines : List (List ℕ)) (few : length lines ≤ 83) (fit : countAll lines ≤ 4096) where
+module _ (lines : List (List ℕ)) (few : length lines ≤ 84) (fit : countAll lines ≤ 4096) where
   pub line-then : (i : ℕ) → i < length lines → lineFrom (fieldsHeld lines) (startsHeld lines) i ≡ getD lines i [] ++ later-fields lines i
   line-then i h =
       line-from lines few fit i (omega arith) ∙ rw (first-of lines i h) (append-assoc (getD lines i []) (joined (drop (suc i) lines)) (zeros lines))

@@ -10,10 +10,12 @@ use Rattle.terms.specs.Tree.{Value, Formula}
 use Rattle.terms.specs.Print.{printV, printF}
 use Rattle.terms.specs.Read.{leaf}
 use Rattle.terms.proofs.Printing.{print-read-v, print-read-f}
+use Rattle.foundation.specs.Nth.{EachIs, first, later}
 use Rattle.criteria.specs.Design.{Design, Parameter, Row}
-use Rattle.design.specs.Line.{valueIn, formulaIn, valuesIn, parameterOf, rowOf}
+use Rattle.criteria.specs.Step.{internalRows}
+use Rattle.design.specs.Line.{valueIn, formulaIn, valuesIn, formulasIn, parameterOf, rowOf, marksOf}
 use Rattle.design.specs.Lines.{kindOf, ofKind, theLine, designOf}
-use Rattle.design.specs.Print.{printValues, parameterLine, rowLine, lastLines, printLines, ValueFits, FormulaFits, ValuesFit, RowFits, RowsFit, Printable}
+use Rattle.design.specs.Print.{printValues, printFormulas, parameterLine, rowLine, lastLines, marksLine, printLines, ValueFits, FormulaFits, ValuesFit, RowFits, RowsFit, FormulasFit, MarksFit, Printable}
 use Rattle.design.specs.Print as print
 
 -- ---- terms
@@ -30,6 +32,12 @@ module _ (n : ℕ) (row : Bool) where
   values-back [] print.none = refl
   values-back (v ∷ vs) (print.then-value f fs) =
       rw (value-back v (printValues vs) f, drop-append-seam (printV v) (printValues vs), values-back vs fs)
+
+formulas-back : (n : ℕ) (fs : List Formula) → FormulasFit n fs → formulasIn (length fs) (printFormulas fs) ≡ fs
+unfolding formulasIn
+formulas-back n [] print.none = refl
+formulas-back n (f ∷ fs) (print.then-formula g gs) =
+    rw (formula-back n true f (printFormulas fs) g, drop-append-seam (printF f) (printFormulas fs), formulas-back n fs gs)
 
 value-alone : (n : ℕ) (v : Value) → ValueFits n false v → valueIn (printV v) .tree ≡ v
 value-alone n v f = ap (λ l. valueIn l .tree) (sym (append-nil (printV v))) ∙ ap (λ r. r .tree) (value-back n false v [] f)
@@ -49,6 +57,12 @@ row-back k n r f =
 rows-back : (k n : ℕ) (rows : List Row) → RowsFit n rows → map (rowOf n) (map (rowLine k) rows) ≡ rows
 rows-back k n [] print.none = refl
 rows-back k n (r ∷ rows) (print.then-row f fs) = rw (row-back k n r f, rows-back k n rows fs)
+
+marks-back : (n i : ℕ) (marks : List (List Formula)) → EachIs marks (MarksFit n i) → map (marksOf i) (map marksLine marks) ≡ marks
+marks-back n i [] f = refl
+marks-back n i (fs ∷ marks) f =
+    let g = f 1 fs first in
+    rw (marks-back n i marks (λ k x at. f (suc k) x (later at)), ← g .all-marks, formulas-back n fs (g .formulas))
 
 parameters-back : (k : ℕ) (ps : List Parameter) → map parameterOf (map (parameterLine k) ps) ≡ ps
 parameters-back k [] = refl
@@ -94,60 +108,85 @@ module _ (d : Design) where
   abbrev ss : List Row
   ss = d .spec .rows
 
+  abbrev ends : List (List ℕ)
+  ends = lastLines d ++ map marksLine (d .marks)
+
   parts : (k : ℕ) → ofKind k (printLines d)
       ≡ ofKind k (map (parameterLine 1) ps)
       ++ (ofKind k (map (parameterLine 2) qs)
       ++ (ofKind k (map (rowLine 3) rs)
       ++ (ofKind k (map (rowLine 4) ss)
-      ++ ofKind k (lastLines d))))
+      ++ (ofKind k (lastLines d)
+      ++ ofKind k (map marksLine (d .marks))))))
   parts k =
       rw (
-        of-append k (map (parameterLine 1) ps) (map (parameterLine 2) qs ++ (map (rowLine 3) rs ++ (map (rowLine 4) ss ++ lastLines d))),
-        of-append k (map (parameterLine 2) qs) (map (rowLine 3) rs ++ (map (rowLine 4) ss ++ lastLines d)),
-        of-append k (map (rowLine 3) rs) (map (rowLine 4) ss ++ lastLines d),
-        of-append k (map (rowLine 4) ss) (lastLines d),
+        of-append k (map (parameterLine 1) ps) (map (parameterLine 2) qs ++ (map (rowLine 3) rs ++ (map (rowLine 4) ss ++ ends))),
+        of-append k (map (parameterLine 2) qs) (map (rowLine 3) rs ++ (map (rowLine 4) ss ++ ends)),
+        of-append k (map (rowLine 3) rs) (map (rowLine 4) ss ++ ends),
+        of-append k (map (rowLine 4) ss) ends,
+        of-append k (lastLines d) (map marksLine (d .marks)),
       )
 
   of-1 : ofKind 1 (printLines d) ≡ map (parameterLine 1) ps
   unfolding ofKind
   of-1 =
-      rw (parts 1, of-same (parameterLine 1) 1 (λ _. refl) ps, of-other (parameterLine 2) 1 (λ _. refl) qs, of-other (rowLine 3) 1 (λ _. refl) rs, of-other (rowLine 4) 1 (λ _. refl) ss)
+      rw (parts 1, of-same (parameterLine 1) 1 (λ _. refl) ps, of-other (parameterLine 2) 1 (λ _. refl) qs, of-other (rowLine 3) 1 (λ _. refl) rs, of-other (rowLine 4) 1 (λ _. refl) ss, of-other marksLine 1 (λ _. refl) (d .marks))
       (append-nil (map (parameterLine 1) ps))
 
   of-2 : ofKind 2 (printLines d) ≡ map (parameterLine 2) qs
   unfolding ofKind
   of-2 =
-      rw (parts 2, of-other (parameterLine 1) 2 (λ _. refl) ps, of-same (parameterLine 2) 2 (λ _. refl) qs, of-other (rowLine 3) 2 (λ _. refl) rs, of-other (rowLine 4) 2 (λ _. refl) ss)
+      rw (parts 2, of-other (parameterLine 1) 2 (λ _. refl) ps, of-same (parameterLine 2) 2 (λ _. refl) qs, of-other (rowLine 3) 2 (λ _. refl) rs, of-other (rowLine 4) 2 (λ _. refl) ss, of-other marksLine 2 (λ _. refl) (d .marks))
       (append-nil (map (parameterLine 2) qs))
 
   of-3 : ofKind 3 (printLines d) ≡ map (rowLine 3) rs
   unfolding ofKind
   of-3 =
-      rw (parts 3, of-other (parameterLine 1) 3 (λ _. refl) ps, of-other (parameterLine 2) 3 (λ _. refl) qs, of-same (rowLine 3) 3 (λ _. refl) rs, of-other (rowLine 4) 3 (λ _. refl) ss)
+      rw (parts 3, of-other (parameterLine 1) 3 (λ _. refl) ps, of-other (parameterLine 2) 3 (λ _. refl) qs, of-same (rowLine 3) 3 (λ _. refl) rs, of-other (rowLine 4) 3 (λ _. refl) ss, of-other marksLine 3 (λ _. refl) (d .marks))
       (append-nil (map (rowLine 3) rs))
 
   of-4 : ofKind 4 (printLines d) ≡ map (rowLine 4) ss
   unfolding ofKind
   of-4 =
-      rw (parts 4, of-other (parameterLine 1) 4 (λ _. refl) ps, of-other (parameterLine 2) 4 (λ _. refl) qs, of-other (rowLine 3) 4 (λ _. refl) rs, of-same (rowLine 4) 4 (λ _. refl) ss)
+      rw (parts 4, of-other (parameterLine 1) 4 (λ _. refl) ps, of-other (parameterLine 2) 4 (λ _. refl) qs, of-other (rowLine 3) 4 (λ _. refl) rs, of-same (rowLine 4) 4 (λ _. refl) ss, of-other marksLine 4 (λ _. refl) (d .marks))
       (append-nil (map (rowLine 4) ss))
 
-  -- kinds above 4 stand in the last lines
-  of-last : (k : ℕ) → eqb 1 k ≡ false → eqb 2 k ≡ false → eqb 3 k ≡ false → eqb 4 k ≡ false → ofKind k (printLines d) ≡ ofKind k (lastLines d)
-  of-last k a b c e =
-      rw (parts k, of-other (parameterLine 1) k (λ _. a) ps, of-other (parameterLine 2) k (λ _. b) qs, of-other (rowLine 3) k (λ _. c) rs, of-other (rowLine 4) k (λ _. e) ss)
+  -- kinds 5 to 7 stand in the last lines
+  of-last : (k : ℕ) → eqb 1 k ≡ false → eqb 2 k ≡ false → eqb 3 k ≡ false → eqb 4 k ≡ false → eqb 8 k ≡ false → ofKind k (printLines d) ≡ ofKind k (lastLines d)
+  of-last k a b c e m =
+      rw (
+        parts k,
+        of-other (parameterLine 1) k (λ _. a) ps,
+        of-other (parameterLine 2) k (λ _. b) qs,
+        of-other (rowLine 3) k (λ _. c) rs,
+        of-other (rowLine 4) k (λ _. e) ss,
+        of-other marksLine k (λ _. m) (d .marks),
+      )
+      (append-nil (ofKind k (lastLines d)))
+
+  of-8 : ofKind 8 (printLines d) ≡ map marksLine (d .marks)
+  unfolding ofKind
+  of-8 =
+      rw (
+        parts 8,
+        of-other (parameterLine 1) 8 (λ _. refl) ps,
+        of-other (parameterLine 2) 8 (λ _. refl) qs,
+        of-other (rowLine 3) 8 (λ _. refl) rs,
+        of-other (rowLine 4) 8 (λ _. refl) ss,
+        of-same marksLine 8 (λ _. refl) (d .marks),
+      )
 
   the-5 : theLine 5 (printLines d) ≡ 5 ∷ printF (d .invariant)
   unfolding ofKind
-  the-5 = rw (of-last 5 refl refl refl refl)
+  the-5 = rw (of-last 5 refl refl refl refl refl)
 
   the-6 : theLine 6 (printLines d) ≡ 6 ∷ printValues (d .mapping)
   unfolding ofKind
-  the-6 = rw (of-last 6 refl refl refl refl)
+  the-6 = rw (of-last 6 refl refl refl refl refl)
 
   the-7 : theLine 7 (printLines d) ≡ 7 ∷ printV (d .measure)
   unfolding ofKind
-  the-7 = rw (of-last 7 refl refl refl refl)
+  the-7 = rw (of-last 7 refl refl refl refl refl)
 
   -- ---- the law
 
@@ -163,6 +202,7 @@ module _ (d : Design) where
           the-5,
           the-6,
           the-7,
+          of-8,
           length-map (parameterLine 1) ps,
           length-map (parameterLine 2) qs,
           parameters-back 1 ps,
@@ -173,4 +213,5 @@ module _ (d : Design) where
           value-alone (length ps) (d .measure) (p .measure),
           ← p .all-mapped,
           values-back (length ps) false (d .mapping) (p .mapping),
+          marks-back (length ps) (internalRows rs) (d .marks) (p .marks),
         )

@@ -7,15 +7,15 @@ use native.Mathlib.Omega.{arith}
 use lib.ListN.{length, getD, drop}
 use Rattle.terms.specs.Read.{leaf}
 use Rattle.terms.specs.Print.{printV, printF}
-use Rattle.kinds.specs.Kinds.{wholeText, Sort, value, formula, nValues}
-use Rattle.design.specs.Line.{valueIn, formulaIn, valuesIn, parameterOf, rowOf, invariantOf, mappingOf, measureOf}
-use Rattle.design.specs.Lines.{kindOf, ofKind, theLine, countOf, designOf}
+use Rattle.kinds.specs.Kinds.{wholeText, Sort, value, formula, nValues, nFormulas}
+use Rattle.design.specs.Line.{valueIn, formulaIn, valuesIn, formulasIn, parameterOf, rowOf, invariantOf, mappingOf, measureOf, marksOf}
+use Rattle.design.specs.Lines.{kindOf, ofKind, theLine, countOf, internalOf, designOf}
 use Rattle.design.specs.Faults.{Terms}
-use Rattle.design.specs.Print.{printValues, parameterLine, rowLine, printLines}
+use Rattle.design.specs.Print.{printValues, printFormulas, parameterLine, rowLine, marksLine, printLines}
 use Rattle.design.proofs.Each.{EachLine}
 use Rattle.design.proofs.Fault4.{Layout}
 use Rattle.design.proofs.WholeText.{in-order, Counted, counted, Exactly, exactly-1, exactly-2, least-3, least-4}
-use Rattle.design.proofs.Held.{TermsFit, nth-among, of-kind, exactly, at-least, row-terms, spec-terms, invariant-terms, mapping-terms, measure-terms}
+use Rattle.design.proofs.Held.{TermsFit, nth-among, of-kind, exactly, at-least, row-terms, spec-terms, invariant-terms, mapping-terms, measure-terms, marks-terms}
 use Rattle.design.proofs.Terms.{FirstValue, FirstFormula, first-value, first-formula, no-terms, value-read, value-after, formula-read, formula-after}
 
 -- ---- terms: what is read of them and printed again
@@ -39,6 +39,13 @@ values-print zero t = sym (no-terms t)
 values-print (suc k) t =
     let v = first-value t in
     rw (value-at v, value-next v) (ap (λ r. printV (v .tree) ++ r) (values-print k (v .terms)) ∙ sym (v .split))
+
+formulas-print : {n : ℕ} {row : Bool} (k : ℕ) {fields : List ℕ} → Terms n row (nFormulas k) fields → printFormulas (formulasIn k fields) ≡ fields
+unfolding formulasIn
+formulas-print zero t = sym (no-terms t)
+formulas-print (suc k) t =
+    let f = first-formula t in
+    rw (formula-at f, formula-next f) (ap (λ r. printF (f .tree) ++ r) (formulas-print k (f .terms)) ∙ sym (f .split))
 
 value-print : {n : ℕ} {row : Bool} {fields : List ℕ} → Terms n row (value ∷ []) fields → printV (valueIn fields .tree) ≡ fields
 value-print {fields = fields} t =
@@ -91,8 +98,8 @@ single [] h = absurd (omega arith)
 single (line ∷ []) h = refl
 single (line ∷ other ∷ lines) h = absurd (omega arith)
 
-joined : (a b c : List ℕ) (x y z : List (List ℕ)) → a ∷ [] ≡ x → b ∷ [] ≡ y → c ∷ [] ≡ z → a ∷ b ∷ c ∷ [] ≡ x ++ (y ++ (z ++ []))
-joined a b c x y z p q r = rw (← p, ← q, ← r)
+joined : (a b c : List ℕ) (x y z w : List (List ℕ)) → a ∷ [] ≡ x → b ∷ [] ≡ y → c ∷ [] ≡ z → (a ∷ b ∷ c ∷ []) ++ w ≡ x ++ (y ++ (z ++ (w ++ [])))
+joined a b c x y z w p q r = rw (← p, ← q, ← r, append-nil w)
 
 -- ---- all lines
 
@@ -140,11 +147,19 @@ module _ (lines : List (List ℕ)) (lay : Layout wholeText lines) (made : TermsF
   last7 : (7 ∷ printV (measureOf (theLine 7 lines))) ∷ [] ≡ k 7
   last7 = let e = one .kind7 in last-line 7 e _ (omega arith) (value-print (measure-terms lines made (theLine 7 lines) (among 7 e)))
 
+  marks8 : map marksLine (map (marksOf (internalOf lines)) (k 8)) ≡ k 8
+  marks8 = again-each (marksOf (internalOf lines)) marksLine (k 8) marks-line
+    where
+      marks-line : EachLine (λ line. marksLine (marksOf (internalOf lines) line) ≡ line) (k 8)
+      marks-line line m =
+          let kind = of-kind 8 lines line m .0 in
+          ap (λ r. 8 ∷ r) (formulas-print (internalOf lines) (marks-terms lines made line m)) ∙ ap (λ j. j ∷ drop 1 line) (sym kind) ∙ one-more line (rw kind (omega arith))
+
   pub lines-again : printLines (designOf lines) ≡ lines
   unfolding designOf
   lines-again = pieces ∙ in-order (lay .kinds)
     where
-      pieces : printLines (designOf lines) ≡ k 1 ++ (k 2 ++ (k 3 ++ (k 4 ++ (k 5 ++ (k 6 ++ (k 7 ++ []))))))
+      pieces : printLines (designOf lines) ≡ k 1 ++ (k 2 ++ (k 3 ++ (k 4 ++ (k 5 ++ (k 6 ++ (k 7 ++ (k 8 ++ [])))))))
       pieces =
-          rw (parameters 1 exactly-1, parameters 2 exactly-2, rows3, rows4)
-          (ap (λ r. k 1 ++ (k 2 ++ (k 3 ++ (k 4 ++ r)))) (joined _ _ _ (k 5) (k 6) (k 7) last5 last6 last7))
+          rw (parameters 1 exactly-1, parameters 2 exactly-2, rows3, rows4, marks8)
+          (ap (λ r. k 1 ++ (k 2 ++ (k 3 ++ (k 4 ++ r)))) (joined _ _ _ (k 5) (k 6) (k 7) (k 8) last5 last6 last7))

@@ -12,9 +12,9 @@ use Rattle.terms.specs.Depth.{depthV, depthF}
 use Rattle.terms.specs.Print.{printV, printF}
 use Rattle.terms.specs.Read.{leaf}
 use Rattle.terms.proofs.Printing.{print-read-v, print-read-f}
-use Rattle.kinds.specs.Kinds.{Sort, value, formula, nValues}
+use Rattle.kinds.specs.Kinds.{Sort, value, formula, nValues, nFormulas}
 use Rattle.criteria.specs.Design.{Row}
-use Rattle.design.specs.Line.{valueIn, formulaIn, valuesIn, parameterOf, rowOf, invariantOf, mappingOf, measureOf}
+use Rattle.design.specs.Line.{valueIn, formulaIn, valuesIn, formulasIn, parameterOf, rowOf, invariantOf, mappingOf, measureOf, marksOf}
 use Rattle.design.specs.Faults.{Terms, none, then-value, then-formula}
 
 -- ---- the first term, and those after it
@@ -86,6 +86,19 @@ values-read {n} {row} (suc k) {fields} t more =
     let v = first-value t in
     rw (value-read n row more v, value-after n row more v, values-read k (v .terms) more)
 
+-- the formulas
+pub formulasOf : {n : ℕ} {row : Bool} (k : ℕ) {fields : List ℕ} → Terms n row (nFormulas k) fields → List Formula
+formulasOf zero t = []
+formulasOf (suc k) t = let f = first-formula t in f .tree ∷ formulasOf k (f .terms)
+
+pub formulas-read : {n : ℕ} {row : Bool} (k : ℕ) {fields : List ℕ} (t : Terms n row (nFormulas k) fields) (more : List ℕ)
+    → formulasIn k (fields ++ more) ≡ formulasOf k t
+unfolding formulasIn formulasOf
+formulas-read zero t more = refl
+formulas-read {n} {row} (suc k) {fields} t more =
+    let f = first-formula t in
+    rw (formula-read n row more f, formula-after n row more f, formulas-read k (f .terms) more)
+
 -- ---- so what a line says is the same with more behind it
 
 get-same : (line more : List ℕ) (i : ℕ) → i < length line → getD (line ++ more) i 0 ≡ getD line i 0
@@ -137,3 +150,6 @@ module _ (n : ℕ) (line : List ℕ) (long : 1 ≤ length line) where
   measure-same t =
       let v = first-value t in
       alone measureOf (v .tree) line (λ more. rw (measureOf, drop-append-le 1 line more long) (ap (λ r. r .tree) (value-read n false more v)))
+
+  pub marks-same : (i : ℕ) → Terms n true (nFormulas i) (drop 1 line) → (more : List ℕ) → marksOf i (line ++ more) ≡ marksOf i line
+  marks-same i t = alone (λ l. marksOf i l) (formulasOf i t) line (λ more. rw (drop-append-le 1 line more long) (formulas-read i t more))

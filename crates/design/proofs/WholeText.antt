@@ -34,10 +34,10 @@ from-1 none = none
 from-1 (next {line = line} a b c) = next a (rank-some (kindOf line) a) c
 
 pub in-order : {lines : List (List ℕ)} → Climbs wholeText 0 lines
-    → ofKind 1 lines ++ (ofKind 2 lines ++ (ofKind 3 lines ++ (ofKind 4 lines ++ (ofKind 5 lines ++ (ofKind 6 lines ++ (ofKind 7 lines ++ [])))))) ≡ lines
+    → ofKind 1 lines ++ (ofKind 2 lines ++ (ofKind 3 lines ++ (ofKind 4 lines ++ (ofKind 5 lines ++ (ofKind 6 lines ++ (ofKind 7 lines ++ (ofKind 8 lines ++ []))))))) ≡ lines
 unfolding gathered
 in-order {lines} c =
-    rw (← r 1 (omega arith) (omega arith), ← r 2 (omega arith) (omega arith), ← r 3 (omega arith) (omega arith), ← r 4 (omega arith) (omega arith), ← r 5 (omega arith) (omega arith), ← r 6 (omega arith) (omega arith), ← r 7 (omega arith) (omega arith))
+    rw (← r 1 (omega arith) (omega arith), ← r 2 (omega arith) (omega arith), ← r 3 (omega arith) (omega arith), ← r 4 (omega arith) (omega arith), ← r 5 (omega arith) (omega arith), ← r 6 (omega arith) (omega arith), ← r 7 (omega arith) (omega arith), ← r 8 (omega arith) (omega arith))
     (gather wholeText lastKind rank-most (from-1 c) 1 lastKind (omega arith) (omega arith))
   where
     r : (k : ℕ) → 1 ≤ k → k ≤ lastKind → ofRank wholeText k lines ≡ ofKind k lines
@@ -52,6 +52,7 @@ pub record Counted (lines : List (List ℕ)) : Type 0 where
   pub kind5 : countOf 5 lines ≡ 1
   pub kind6 : countOf 6 lines ≡ 1
   pub kind7 : countOf 7 lines ≡ 1
+  pub kind8 : countOf 8 lines ≤ 1
 
 pub counted : {lines : List (List ℕ)} → Layout wholeText lines → Counted lines
 unfolding entryIn
@@ -64,6 +65,7 @@ counted {lines} l =
       kind5 = one (of 5 (omega arith) (omega arith) (omega arith));
       kind6 = one (of 6 (omega arith) (omega arith) (omega arith));
       kind7 = one (of 7 (omega arith) (omega arith) (omega arith));
+      kind8 = of 8 (omega arith) (omega arith) (omega arith) .1;
     }
   where
     of : (k : ℕ) → 1 ≤ k → k ≤ lastKind → entryIn wholeText k .most ≢ 0 → Allowed (entryIn wholeText k) (countOf k lines)
@@ -86,7 +88,7 @@ module _ {lines : List (List ℕ)} (l : Layout wholeText lines) (k n : ℕ) (lin
   pub least-length : AtLeast k n → n ≤ length line
   least-length x = let h = l .lengths line m .1 (rw e (x .0)) in let f : entryOf wholeText line .fixed ≡ n = rw e (x .1) in omega arith
 
--- kinds 1 and 2, kinds 3 and 4, kinds 5 to 7
+-- kinds 1 and 2, kinds 3 and 4, kinds 5 to 8
 pub exactly-1 : Exactly 1 3
 unfolding entryIn
 exactly-1 = (refl, refl)
@@ -114,3 +116,7 @@ least-6 = (refl, refl)
 pub least-7 : AtLeast 7 1
 unfolding entryIn
 least-7 = (refl, refl)
+
+pub least-8 : AtLeast 8 1
+unfolding entryIn
+least-8 = (refl, refl)

@@ -19,7 +19,7 @@ use Rattle.kinds.specs.Kinds.{Table, wholeText, entryIn, Sort, value, formula, 
 use Rattle.kinds.specs.declared.Entry.{Entry}
 use Rattle.kinds.specs.declared.Role.the-variants as role
 use Rattle.criteria.specs.Design.{Design, Process, Row, RowIs}
-use Rattle.design.specs.Lines.{kindOf, ofKind, countOf, designOf}
+use Rattle.design.specs.Lines.{kindOf, ofKind, countOf, internalOf, designOf}
 
 -- ---- 4, by the table of the kinds that a call takes
 
@@ -52,7 +52,7 @@ pub data Fault4 (table : Table) (lines : List (List ℕ)) : Type 0 where
   -- "a kind 1 or 2 line without exactly three fields": these have no terms; nor has what is no kind, which is a 4 already
   not-exactly : {line : List ℕ} → List·Memᴰ line lines → hasTerms (entryOf table line .terms) ≡ false → length line ≢ entryOf table line .fixed
       → Fault4 table lines
-  -- "a row line with fewer than three"; a line of kinds 5 to 7 needs but its kind
+  -- "a row line with fewer than three"; a line of kinds 5 to 8 needs but its kind
   too-few : {line : List ℕ} → List·Memᴰ line lines → hasTerms (entryOf table line .terms) ≡ true → length line < entryOf table line .fixed
       → Fault4 table lines
 
@@ -81,7 +81,7 @@ pub data Fault5 (lines : List (List ℕ)) : Type 0 where
 -- ---- 6. "A term with a wrong mark, a parameter that doesn't exist, a sum value outside a row, depth over 32, or a line that ends
 -- early or late." So a line is as it should be if it is its terms, one after the other, and nothing else.
 
--- fields are the terms of these sorts, of n parameters, in a row or not
+-- fields are the terms of these sorts, of n parameters, which may read a row's sum value or not
 pub data Terms (n : ℕ) (row : Bool) : List Sort → List ℕ → Type 0 where
   none : Terms n row [] []
   then-value : {sorts : List Sort} {fields : List ℕ} (v : Value) → okV v n row ≡ true → depthV v ≤ maxDepth → Terms n row sorts fields
@@ -89,21 +89,21 @@ pub data Terms (n : ℕ) (row : Bool) : List Sort → List ℕ → Type 0 where
   then-formula : {sorts : List Sort} {fields : List ℕ} (f : Formula) → okF f n row ≡ true → depthF f ≤ maxDepth → Terms n row sorts fields
       → Terms n row (formula ∷ sorts) (printF f ++ fields)
 
--- the terms of a kind stand on a line after its numbers, where n lines are of kind 1 and m of kind 2
-abbrev pub LineTerms : ℕ → ℕ → List ℕ → ℕ → Type 0
-LineTerms n m line k =
+-- the terms of a kind stand on a line after its numbers, where n lines are of kind 1 and m of kind 2, and i rows are internal
+abbrev pub LineTerms : ℕ → ℕ → ℕ → List ℕ → ℕ → Type 0
+LineTerms n m i line k =
     let e = entryIn wholeText k in
     let own = ownOf (e .side) n m in
-    Terms own (readsSum (e .terms)) (sortsOf (e .terms) own m) (drop (e .fixed) line)
+    Terms own (readsSum (e .terms)) (sortsOf (e .terms) own m i) (drop (e .fixed) line)
 
--- a kind with terms: 3 to 7
+-- a kind with terms: 3 to 8
 abbrev pub HasTerms : ℕ → Type 0
 HasTerms k = hasTerms (entryIn wholeText k .terms) ≡ true
 
 -- a line of such a kind that is not so
 pub data Fault6 (lines : List (List ℕ)) : Type 0 where
   wrong-terms : {line : List ℕ} → List·Memᴰ line lines → HasTerms (kindOf line)
-      → (LineTerms (countOf 1 lines) (countOf 2 lines) line (kindOf line) → ⊥) → Fault6 lines
+      → (LineTerms (countOf 1 lines) (countOf 2 lines) (internalOf lines) line (kindOf line) → ⊥) → Fault6 lines
 
 -- ---- 7
 

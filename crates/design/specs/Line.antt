@@ -1,7 +1,7 @@
--- What the fields of one line say (01, "Design text", the table of kinds): a parameter, a row, the invariant, the mapping, the measure.
--- The fields are given from the line's kind on; what stands after the line's last term is not looked at. Terms are read as in the
+-- What the fields of one line say (01, "Design text", the table of kinds): a parameter, a row, the invariant, the mapping, the measure,
+-- the marks. The fields are given from the line's kind on; what stands after the line's last term is not looked at. Terms are read as in the
 -- crate terms, at most 32 deep. Which lines a text has is not here (Lines), nor what is wrong with a line (Faults).
-use Prim.Native.Nat.{ℕ, zero, suc}
+use Prim.Native.Nat.{ℕ, zero, suc, _+_}
 use mathlib.Core.List.{List, [], _∷_}
 use lib.ListN.{getD, drop}
 use Rattle.limits.specs.Limits.{maxDepth}
@@ -20,6 +20,16 @@ formulaIn fields = readF maxDepth fields
 unfoldable pub valuesIn : ℕ → List ℕ → List Value
 valuesIn zero fields = []
 valuesIn (suc n) fields = let v = valueIn fields in v .tree ∷ valuesIn n (drop (v .used) fields)
+
+-- n formulas
+unfoldable pub formulasIn : ℕ → List ℕ → List Formula
+formulasIn zero fields = []
+formulasIn (suc n) fields = let f = formulaIn fields in f .tree ∷ formulasIn n (drop (f .used) fields)
+
+-- how many fields these are
+unfoldable pub formulasUsed : ℕ → List ℕ → ℕ
+formulasUsed zero fields = 0
+formulasUsed (suc n) fields = let u : ℕ = formulaIn fields .used in u + formulasUsed n (drop u fields)
 
 -- kinds 1 and 2: "size, initial value"
 abbrev pub parameterOf : List ℕ → Parameter
@@ -47,3 +57,7 @@ mappingOf n line = valuesIn n (drop 1 line)
 
 abbrev pub measureOf : List ℕ → Value
 measureOf line = valueIn (drop 1 line) .tree
+
+-- kind 8: "a formula for each internal row", of which there are n
+abbrev pub marksOf : ℕ → List ℕ → List Formula
+marksOf n line = formulasIn n (drop 1 line)

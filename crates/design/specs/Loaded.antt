@@ -9,7 +9,8 @@ use lib.Seq.{sets}
 use Rattle.limits.specs.Limits.{maxFields, lineStarts}
 use Rattle.criteria.specs.Design.{Design}
 use Rattle.criteria.specs.Design as design
-use Rattle.design.specs.Line.{parameterOf, rowOf, invariantOf, mappingOf, measureOf}
+use Rattle.criteria.specs.Step.{internalRows}
+use Rattle.design.specs.Line.{parameterOf, rowOf, invariantOf, mappingOf, measureOf, marksOf}
 use Rattle.design.specs.declared.Counts.{Counts}
 use Rattle.design.specs.declared.Section.{Section}
 use Rattle.design.specs.declared.Process.{Process}
@@ -70,6 +71,7 @@ designAt fields starts h = record {
   invariant = invariantOf (lineFrom fields starts (h .invariant));
   mapping = mappingOf (h .specification .parameters .count) (lineFrom fields starts (h .mapping));
   measure = measureOf (lineFrom fields starts (h .measure));
+  marks = eachIn (marksOf (internalRows (processIn fields starts (h .implementation) .rows))) fields starts (h .marks);
 }
 
 -- where the lines stand that are counted, kind after kind
@@ -90,6 +92,7 @@ sections c =
       invariant = invariant;
       mapping = invariant + 1;
       measure = invariant + 2;
+      marks = record { first = invariant + 3; count = c .kind8 };
     }
 
 abbrev pub designIn : List ℕ → List ℕ → Counts → Design

@@ -29,12 +29,13 @@ rank-own (suc (suc (suc (suc zero)))) h = refl
 rank-own (suc (suc (suc (suc (suc zero))))) h = refl
 rank-own (suc (suc (suc (suc (suc (suc zero)))))) h = refl
 rank-own (suc (suc (suc (suc (suc (suc (suc zero))))))) h = refl
-rank-own (suc (suc (suc (suc (suc (suc (suc (suc k)))))))) h = absurd (omega arith)
+rank-own (suc (suc (suc (suc (suc (suc (suc (suc zero)))))))) h = refl
+rank-own (suc (suc (suc (suc (suc (suc (suc (suc (suc k))))))))) h = absurd (omega arith)
 
 pub rank-none : (k : ℕ) → lastKind < k → entryIn wholeText k .rank ≡ 0
 unfolding entryIn
 rank-none k h =
-    rw (ne-eqb k 1 (omega arith), ne-eqb k 2 (omega arith), ne-eqb k 3 (omega arith), ne-eqb k 4 (omega arith), ne-eqb k 5 (omega arith), ne-eqb k 6 (omega arith), ne-eqb k 7 (omega arith))
+    rw (ne-eqb k 1 (omega arith), ne-eqb k 2 (omega arith), ne-eqb k 3 (omega arith), ne-eqb k 4 (omega arith), ne-eqb k 5 (omega arith), ne-eqb k 6 (omega arith), ne-eqb k 7 (omega arith), ne-eqb k 8 (omega arith))
 
 pub rank-most : (k : ℕ) → entryIn wholeText k .rank ≤ lastKind
 rank-most k = go (leb k lastKind) refl

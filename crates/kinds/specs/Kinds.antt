@@ -1,6 +1,6 @@
--- The table of kinds (01, "Design text"): for each kind of line its rank in the order of kinds, how many lines of it there are, how many
--- fields stand before its terms, what these say, and what terms follow, of whose parameters. The faults of a line (design/specs/Faults)
--- are stated by it; what the fields of a line mean is in design/specs/Line.
+-- The table of kinds (01, "Design text"; 02, order 1): for each kind of line its rank in the order of kinds, how many lines of it there
+-- are, how many fields stand before its terms, what these say, and what terms follow, of whose parameters. The faults of a line
+-- (design/specs/Faults) are stated by it; what the fields of a line mean is in design/specs/Line.
 use Prim.Native.Nat.{ℕ, zero, suc, max}
 use mathlib.Core.Bool.{Bool, true, false, cond}
 use mathlib.Core.List.{List, [], _∷_}
@@ -10,7 +10,7 @@ use Rattle.kinds.specs.declared.Entry.{Entry}
 use Rattle.kinds.specs.declared.Role.{Role}
 use Rattle.kinds.specs.declared.Role.the-variants.{Parameter, Row, Other}
 use Rattle.kinds.specs.declared.Follow.{Follow}
-use Rattle.kinds.specs.declared.Follow.the-variants.{Nothing, RowTerms, Formula, Mapped, Value}
+use Rattle.kinds.specs.declared.Follow.the-variants.{Nothing, RowTerms, Formula, Mapped, Value, Marks}
 use Rattle.kinds.specs.declared.Side.{Side}
 use Rattle.kinds.specs.declared.Side.the-variants.{Implementation, Specification}
 
@@ -34,14 +34,15 @@ wholeText =
     ∷ (5, entry 5 1 1 1 Other Formula Implementation)
     ∷ (6, entry 6 1 1 1 Other Mapped Implementation)
     ∷ (7, entry 7 1 1 1 Other Value Implementation)
+    ∷ (8, entry 8 0 1 1 Other Marks Implementation)
     ∷ []
 
 -- its highest number (`lastIn wholeText`), and how many ranks it has, from 0 on: 0 is that of no kind
 abbrev pub lastKind : ℕ
-lastKind = 7
+lastKind = 8
 
 abbrev pub ranks : ℕ
-ranks = 8
+ranks = 9
 
 -- what is no kind: there are no lines of it
 abbrev pub noKind : Entry
@@ -68,6 +69,11 @@ abbrev pub nValues : ℕ → List Sort
 nValues zero = []
 nValues (suc n) = value ∷ nValues n
 
+-- n formulas
+abbrev pub nFormulas : ℕ → List Sort
+nFormulas zero = []
+nFormulas (suc n) = formula ∷ nFormulas n
+
 -- whether there are any
 abbrev pub hasTerms : Follow → Bool
 hasTerms Nothing = false
@@ -75,25 +81,29 @@ hasTerms RowTerms = true
 hasTerms Formula = true
 hasTerms Mapped = true
 hasTerms Value = true
+hasTerms Marks = true
 
--- which they are, where the process has n parameters and m lines are of kind 2: "condition, data, one next value for each" parameter
--- of the row's process; "a formula"; "one value for each kind 2 line"; "a value"
-abbrev pub sortsOf : Follow → ℕ → ℕ → List Sort
-sortsOf Nothing n m = []
-sortsOf RowTerms n m = formula ∷ value ∷ nValues n
-sortsOf Formula n m = formula ∷ []
-sortsOf Mapped n m = nValues m
-sortsOf Value n m = value ∷ []
+-- which they are, where the process has n parameters, m lines are of kind 2 and i rows of the implementation are internal: "condition,
+-- data, one next value for each" parameter of the row's process; "a formula"; "one value for each kind 2 line"; "a value"; "a formula
+-- for each internal row"
+abbrev pub sortsOf : Follow → ℕ → ℕ → ℕ → List Sort
+sortsOf Nothing n m i = []
+sortsOf RowTerms n m i = formula ∷ value ∷ nValues n
+sortsOf Formula n m i = formula ∷ []
+sortsOf Mapped n m i = nValues m
+sortsOf Value n m i = value ∷ []
+sortsOf Marks n m i = nFormulas i
 
--- "`2` the sum value, only in rows"
+-- "`2` the sum value, only in rows"; a row's mark is "over its parameters and sum value"
 abbrev pub readsSum : Follow → Bool
 readsSum Nothing = false
 readsSum RowTerms = true
 readsSum Formula = false
 readsSum Mapped = false
 readsSum Value = false
+readsSum Marks = true
 
--- "of the row's process (the implementation's in kinds 5 to 7)", where n lines are of kind 1 and m of kind 2
+-- "of the row's process (the implementation's in kinds 5 to 7)", and in kind 8, where n lines are of kind 1 and m of kind 2
 abbrev pub ownOf : Side → ℕ → ℕ → ℕ
 ownOf Implementation n m = n
 ownOf Specification n m = m

@@ -1,5 +1,5 @@
-// The table of kinds (01, "Design text"): each entry stands here once for code, and once in specs/Kinds for definitions. Code is proved
-// against definitions, so an entry that moves on one side alone is refused.
+// The table of kinds (01, "Design text"; 02, order 1): each entry stands here once for code, and once in specs/Kinds for definitions. Code
+// is proved against definitions, so an entry that moves on one side alone is refused.
 ghost use mathlib.Core.Path.{_≡_};
 ghost use Rattle.limits.specs.Limits.{maxParameters, maxRows};
 ghost use Rattle.kinds.specs.Kinds.{entry, wholeText, noKind, entryIn, hasTerms, ownOf};
@@ -26,13 +26,15 @@ pub enum Role {
     Other,
 }
 
-// What terms follow: none; condition, data and a next value for each parameter; a formula; a value for each kind 2 line; a value.
+// What terms follow: none; condition, data and a next value for each parameter; a formula; a value for each kind 2 line; a value; a
+// formula for each internal row.
 pub enum Follow {
     Nothing,
     RowTerms,
     Formula,
     Mapped,
     Value,
+    Marks,
 }
 
 // Whose parameters the terms read.
@@ -42,9 +44,9 @@ pub enum Side {
 }
 
 // The highest number of a kind, and how many ranks there are, from 0 on: 0 is that of no kind.
-pub const LAST_KIND: u16 = 7;
+pub const LAST_KIND: u16 = 8;
 
-pub const RANKS: usize = 8;
+pub const RANKS: usize = 9;
 
 // The entry of a kind.
 pub fn entry_at(kind: u16) -> Entry
@@ -55,9 +57,10 @@ pub fn entry_at(kind: u16) -> Entry
         2 => parameter(2, Side::Specification),
         3 => row(3, Side::Implementation),
         4 => row(4, Side::Specification),
-        5 => single(5, Follow::Formula),
-        6 => single(6, Follow::Mapped),
-        7 => single(7, Follow::Value),
+        5 => single(5, 1, Follow::Formula),
+        6 => single(6, 1, Follow::Mapped),
+        7 => single(7, 1, Follow::Value),
+        8 => single(8, 0, Follow::Marks),
         _ => none(),
     }
 }
@@ -92,13 +95,13 @@ fn row(rank: usize, side: Side) -> Entry
     }
 }
 
-// One line with nothing but terms, over the implementation's parameters.
-fn single(rank: usize, terms: Follow) -> Entry
-    ensures { λ r. ⌜ r ≡ entry rank 1 1 1 Other terms Implementation ⌝ }
+// One line, or at most one, with nothing but terms, over the implementation's parameters.
+fn single(rank: usize, fewest: usize, terms: Follow) -> Entry
+    ensures { λ r. ⌜ r ≡ entry rank fewest 1 1 Other terms Implementation ⌝ }
 {
     Entry {
         rank,
-        fewest: 1,
+        fewest,
         most: 1,
         fixed: 1,
         role: Role::Other,
@@ -132,6 +135,7 @@ pub fn has_terms(terms: Follow) -> bool
         Follow::Formula => true,
         Follow::Mapped => true,
         Follow::Value => true,
+        Follow::Marks => true,
     }
 }
 

@@ -1,21 +1,22 @@
--- Which counts of lines fit, which shape they have, how many states the design in a desk's arrays has, and which number its initial state has, each for every
--- arrays and counts. The design itself is in design/specs/Loaded; that a loaded design has at most 65,536 states, and that its
--- initial state is one of them, is no matter here: where it is so, nothing is cut off.
+-- Which counts of lines fit, which shape they have, how many states the design in a desk's arrays has, which number its initial state
+-- has, and how many rows are internal, each for any arrays and counts. The design itself is in design/specs/Loaded; that a loaded design
+-- has at most 65,536 states, and that its initial state is one of them, is no matter here: where it is so, nothing is cut off.
 use mathlib.Core.Bool.{Bool, _&&_, cond}
 use mathlib.Core.List.{List, []}
-use Prim.Native.Nat.{ℕ, _≤_, min}
-use lib.Dec.{leb}
+use Prim.Native.Nat.{ℕ, _+_, _≤_, min}
+use lib.Dec.{eqb, leb}
 use Rattle.foundation.specs.Radix.{product, numberOf}
 use Rattle.criteria.specs.Design.{Parameter, sizes, initialState, states, stateNumber}
-use Rattle.design.specs.Line.{parameterOf}
+use Rattle.criteria.specs.Step.{internalRows}
+use Rattle.design.specs.Line.{parameterOf, rowOf}
 use Rattle.design.specs.Loaded.{lineFrom, eachLine, sections, designIn}
 use Rattle.design.specs.declared.Counts.{Counts}
 use Rattle.design.specs.declared.Process.{Process}
 use Rattle.design.specs.declared.Shape.{Shape}
 
--- "1 to 8" lines of kinds 1 and 2, "0 to 32" of kinds 3 and 4: there are no more
+-- "1 to 8" lines of kinds 1 and 2, "0 to 32" of kinds 3 and 4, "one kind 8 line": there are no more
 abbrev pub countsFit : Counts → Bool
-countsFit c = leb (c .kind1) 8 && (leb (c .kind2) 8 && (leb (c .kind3) 32 && leb (c .kind4) 32))
+countsFit c = leb (c .kind1) 8 && (leb (c .kind2) 8 && (leb (c .kind3) 32 && (leb (c .kind4) 32 && leb (c .kind8) 1)))
 
 -- as facts
 pub record Fit (c : Counts) : Type 0 where
@@ -23,14 +24,15 @@ pub record Fit (c : Counts) : Type 0 where
   pub kind2 : c .kind2 ≤ 8
   pub kind3 : c .kind3 ≤ 32
   pub kind4 : c .kind4 ≤ 32
+  pub kind8 : c .kind8 ≤ 1
 
--- the places of n and m parameters, k and l rows, and the three lines after them
-unfoldable pub sectionsOf : ℕ → ℕ → ℕ → ℕ → Shape
-sectionsOf n m k l = sections (record { kind1 = n; kind2 = m; kind3 = k; kind4 = l })
+-- the places of n and m parameters, k and l rows, the three lines after them, and j of marks
+unfoldable pub sectionsOf : ℕ → ℕ → ℕ → ℕ → ℕ → Shape
+sectionsOf n m k l j = sections (record { kind1 = n; kind2 = m; kind3 = k; kind4 = l; kind8 = j })
 
 -- of lines that are counted, where the counts fit, and else of none
 unfoldable pub shapeOf : Counts → Shape
-shapeOf c = cond (countsFit c) (sections c) (sectionsOf 0 0 0 0)
+shapeOf c = cond (countsFit c) (sections c) (sectionsOf 0 0 0 0 0)
 
 -- no more parameters than a state has values, and no more rows than there may be
 pub record FitsIn (p : Process) : Type 0 where
@@ -67,3 +69,11 @@ unfoldable pub initialNumberIn : List ℕ → List ℕ → Counts → ℕ
 initialNumberIn fields starts c =
     let d = designIn fields starts c in
     cond (countsFit c) (min (stateNumber d (initialState (d .impl))) 65535) 0
+
+-- ---- internal rows: how many of the first n of a process
+unfoldable pub internalIn : List ℕ → List ℕ → Process → ℕ → ℕ
+internalIn fields starts p n = internalRows (eachLine (rowOf (p .parameters .count)) (lineFrom fields starts) n (p .rows .first))
+
+-- one more for a row of action 0
+abbrev pub countedIf : ℕ → ℕ → ℕ
+countedIf count action = cond (eqb action 0) (count + 1) count

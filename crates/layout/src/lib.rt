@@ -1,15 +1,15 @@
 // What is read off a desk's arrays before any state is looked at: whether the counts of lines fit, where the lines of a design stand
-// (`Shape`), where a line starts, the sizes and initial values of parameters, how many states there are, and the number of the initial state. Every function answers any arrays
-// and any counts. Which design the arrays hold is in the crate design.
+// (`Shape`), where a line starts, the sizes and initial values of parameters, how many states there are, the number of the initial state,
+// and how many rows are internal. Every function answers any arrays and any counts. Which design the arrays hold is in the crate design.
 use design::Counts;
 use design::Process;
 use design::Section;
 use design::Shape;
 ghost use mathlib.Core.Path.{_≡_};
-ghost use Prim.Native.Nat.{_+_, _*_, _≤_, min};
+ghost use Prim.Native.Nat.{_+_, _*_, _≤_, _<_, min};
 ghost use lib.ListN.{getD, drop};
 ghost use Rattle.design.specs.Loaded.{lineFrom};
-ghost use Rattle.layout.specs.Sizes.{countsFit, sectionsOf, shapeOf, productUpTo, stateCountIn, numberUpTo, initialNumberIn};
+ghost use Rattle.layout.specs.Sizes.{countsFit, sectionsOf, shapeOf, productUpTo, stateCountIn, numberUpTo, initialNumberIn, internalIn, countedIf};
 
 // One more than the most states that a design may have: a count that says "too many".
 pub const TOO_MANY: u32 = limits::MAX_STATES as u32 + 1;
@@ -17,19 +17,20 @@ pub const TOO_MANY: u32 = limits::MAX_STATES as u32 + 1;
 // The largest number of a state.
 pub const LAST_NUMBER: u32 = limits::MAX_STATES as u32 - 1;
 
-// Whether there are no more lines of kinds 1 to 4 than a text may have.
+// Whether there are no more lines of kinds 1 to 4, and of kind 8, than a text may have.
 pub fn counts_fit(counts: Counts) -> bool
     ensures { λ r. ⌜ r ≡ countsFit counts ⌝ }
 {
     (counts.kind1 <= limits::MAX_PARAMETERS)
         & ((counts.kind2 <= limits::MAX_PARAMETERS)
-            & ((counts.kind3 <= limits::MAX_ROWS) & (counts.kind4 <= limits::MAX_ROWS)))
+            & ((counts.kind3 <= limits::MAX_ROWS)
+                & ((counts.kind4 <= limits::MAX_ROWS) & (counts.kind8 <= 1))))
 }
 
-// Where the lines stand: of n and m parameters, k and l rows, and the three lines after them.
-fn sections(n: u8, m: u8, k: u8, l: u8) -> Shape
+// Where the lines stand: of n and m parameters, k and l rows, the three lines after them, and j of marks.
+fn sections(n: u8, m: u8, k: u8, l: u8, j: u8) -> Shape
     requires { ⌜ n + m + k + l ≤ 80 ⌝ }
-    ensures { λ r. ⌜ r ≡ sectionsOf n m k l ⌝ }
+    ensures { λ r. ⌜ r ≡ sectionsOf n m k l j ⌝ }
 {
     let rows = n + m;
     let others = rows + k;
@@ -52,6 +53,10 @@ fn sections(n: u8, m: u8, k: u8, l: u8) -> Shape
         invariant: invariant,
         mapping: invariant + 1,
         measure: invariant + 2,
+        marks: Section {
+            first: invariant + 3,
+            count: j,
+        },
     }
 }
 
@@ -60,13 +65,14 @@ pub fn shape_of(counts: Counts) -> Shape
     ensures { λ r. ⌜ r ≡ shapeOf counts ⌝ }
 {
     if !counts_fit(counts) {
-        return sections(0, 0, 0, 0);
+        return sections(0, 0, 0, 0, 0);
     }
     sections(
         counts.kind1 as u8,
         counts.kind2 as u8,
         counts.kind3 as u8,
         counts.kind4 as u8,
+        counts.kind8 as u8,
     )
 }
 
@@ -165,4 +171,31 @@ fn number<'a>(fields: &'a limits::Fields, starts: &'a limits::Starts, n: usize) 
         i += 1;
     }
     v
+}
+
+// How many of the first n rows of a process are internal.
+pub fn internal_rows<'a>(
+    fields: &'a limits::Fields,
+    starts: &'a limits::Starts,
+    process: Process,
+    n: u16,
+) -> u16
+    ensures { λ r. ⌜ r ≡ internalIn (now (fields .entry)) (now (starts .entry)) process n ⌝ }
+{
+    let mut count = 0;
+    let mut i = 0;
+    while i < n {
+        let line = line(starts, process.rows.first as usize + i as usize);
+        count = counted(count, field_of(fields, line, 1));
+        i += 1;
+    }
+    count
+}
+
+// One more for an internal row, by its action.
+fn counted(count: u16, action: u16) -> u16
+    requires { ⌜ count < 65535 ⌝ }
+    ensures { λ r. ⌜ r ≡ countedIf count action ⌝ }
+{
+    if action == 0 { count + 1 } else { count }
 }

@@ -35,10 +35,10 @@ maxStates = 65536
 
 -- ---- what follows
 
--- the lines of a text: parameters and rows of two processes, and kinds 5 to 7
+-- the lines of a text: parameters and rows of two processes, and kinds 5 to 8
 abbrev pub maxLines : ℕ
-maxLines = 83
+maxLines = 84
 
 -- the starts of lines that are kept: one for each, and the end of the last
 abbrev pub lineStarts : ℕ
-lineStarts = 84
+lineStarts = 85

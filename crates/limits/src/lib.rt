@@ -21,8 +21,8 @@ pub const MAX_SPAN: u16 = 256;
 // The states of the implementation.
 pub const MAX_STATES: usize = 65536;
 
-// The lines of a text: those of two processes, and invariant, mapping and measure.
-pub const MAX_LINES: usize = 2 * MAX_PARAMETERS + 2 * MAX_ROWS + 3;
+// The lines of a text: those of two processes, and invariant, mapping, measure and marks.
+pub const MAX_LINES: usize = 2 * MAX_PARAMETERS + 2 * MAX_ROWS + 4;
 
 // A start for each line, and the end of the last.
 pub const STARTS: usize = MAX_LINES + 1;

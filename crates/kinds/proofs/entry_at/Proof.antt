@@ -18,6 +18,7 @@ entry-at-spec =
     (λ c κs. search needs)
     (λ c κs. search needs)
     (λ c κs. search needs)
+    (λ c κs. search needs)
     (λ c. rw (c .before .match .keys1) (c .parameter .ensures))
     (λ c. rw (c .before .match .keys2) (c .parameter2 .ensures))
     (λ c. rw (c .before .match .keys3) (c .row .ensures))
@@ -25,6 +26,7 @@ entry-at-spec =
     (λ c. rw (c .before .match .keys5) (c .single .ensures))
     (λ c. rw (c .before .match .keys6) (c .single2 .ensures))
     (λ c. rw (c .before .match .keys7) (c .single3 .ensures))
+    (λ c. rw (c .before .match .keys8) (c .single4 .ensures))
     (λ c.
     let no = c .before .match .rest in
-    rw (ne-eqb _ 7 (no .1), ne-eqb _ 6 (no .0 .1), ne-eqb _ 5 (no .0 .0 .1), ne-eqb _ 4 (no .0 .0 .0 .1), ne-eqb _ 3 (no .0 .0 .0 .0 .1), ne-eqb _ 2 (no .0 .0 .0 .0 .0 .1), ne-eqb _ 1 (no .0 .0 .0 .0 .0 .0 .1)) (c .none .ensures)))
+    rw (ne-eqb _ 8 (no .1), ne-eqb _ 7 (no .0 .1), ne-eqb _ 6 (no .0 .0 .1), ne-eqb _ 5 (no .0 .0 .0 .1), ne-eqb _ 4 (no .0 .0 .0 .0 .1), ne-eqb _ 3 (no .0 .0 .0 .0 .0 .1), ne-eqb _ 2 (no .0 .0 .0 .0 .0 .0 .1), ne-eqb _ 1 (no .0 .0 .0 .0 .0 .0 .0 .1)) (c .none .ensures)))

@@ -17,5 +17,6 @@ shape-of-spec =
     (λ c. let n = c .before .before .before .before .args .counts in let h : n .kind1 + n .kind2 + n .kind3 + n .kind4 ≤ 80 = search laws.four-fit in omega arith)
     (λ c. let n = c .before .before .before .before .before .args .counts in let h : n .kind1 + n .kind2 + n .kind3 + n .kind4 ≤ 80 = search laws.four-fit in omega arith)
     (λ c. let n = c .before .before .before .before .before .before .args .counts in let h : n .kind1 + n .kind2 + n .kind3 + n .kind4 ≤ 80 = search laws.four-fit in omega arith)
+    (λ c. let n = c .before .before .before .before .before .before .before .args .counts in let h : n .kind8 ≤ 1 = search laws.marks-fit in omega arith)
     (λ c κs. search laws.four-fit)
     (λ c. search laws.shape-fit))
