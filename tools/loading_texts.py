@@ -157,7 +157,7 @@ case("invariant_of_257_fields", 3, pump((INVARIANT, [5, 14] + conjunction(128)))
 
 FEWEST = [[1, 1, 0], [2, 1, 0], [5, 10], [6, 0, 0], [7, 0, 0]]
 case("fewest_lines", 0, FEWEST)
-for kind in (0, 8, 9, 13, 14, 65535):
+for kind in (0, 9, 13, 14, 65535):
     case(f"kind_{kind}_first", 4, [[kind, 1, 0]] + FEWEST)
     case(f"kind_{kind}_last", 4, FEWEST + [[kind, 1, 0]])
 for at, line in enumerate(FEWEST):
@@ -195,6 +195,8 @@ case("9_specification_parameters", 4, many(8, 9, 32, 31))
 case("33_implementation_rows", 4, many(8, 7, 33, 32))
 case("33_specification_rows", 4, many(7, 8, 32, 33))
 case("84_lines_33_rows", 4, many(8, 8, 33, 32))
+case("84_lines_with_marks", 0, many(8, 8, 32, 32) + [[8]])
+case("85_lines_two_of_marks", 4, many(8, 8, 32, 32) + [[8], [8]])
 case("84_lines_two_measures", 4, many(8, 8, 32, 32) + [[7, 0, 0]])
 case("120_lines", 4, many(8, 8, 50, 51))
 
@@ -302,6 +304,29 @@ def joined(at):
 for at, number in ((0, 4), (3, 4), (4, 6), (6, 6), (7, 6), (8, 4), (9, 4), (10, 4)):
     case(f"byte_10_lost_after_line_{at + 1}", number, joined(at))
 
+# ---- 4 and 6: marks
+
+case("marks", 0, PUMP + [[8, 10]])
+case("marks_first", 4, [[8, 10]] + PUMP)
+case("marks_before_the_measure", 4, PUMP[:MEASURE] + [[8, 10], PUMP[MEASURE]])
+case("marks_twice", 4, PUMP + [[8, 10], [8, 10]])
+case("marks_and_no_measure", 4, PUMP[:MEASURE] + [[8, 10]])
+case("a_mark_too_few", 6, PUMP + [[8]])
+case("a_mark_too_many", 6, PUMP + [[8, 10, 10]])
+case("marks_end_early", 6, PUMP + [[8, 15, 10]])
+case("marks_of_no_internal_row", 0, FEWEST + [[8]])
+case("a_mark_of_no_internal_row", 6, FEWEST + [[8, 10]])
+case("a_mark_of_the_sum_value", 0, PUMP + [[8, 12, 2, 0, 0]])
+case("a_mark_of_the_last_parameter", 0, PUMP + [[8, 12, 1, 1, 0, 0]])
+case("a_mark_past_the_last_parameter", 6, PUMP + [[8, 12, 1, 2, 0, 0]])
+case("a_value_for_a_mark", 6, PUMP + [[8, 0, 1]])
+case("a_mark_of_depth_32", 0, PUMP + [[8] + negations(32)])
+case("a_mark_of_depth_33", 6, PUMP + [[8] + negations(33)])
+case("marks_of_256_fields", 0, PUMP + [[8] + conjunction(128)])
+case("marks_of_257_fields", 3, PUMP + [[8, 14] + conjunction(128)])
+case("bad_span_and_a_mark_too_few", 5, pump((INTERNAL_ROW, with_field(PUMP[INTERNAL_ROW], 2, 0))) + [[8]])
+case("a_mark_too_few_and_bad_data", 6, pump((INTERNAL_ROW, with_field(PUMP[INTERNAL_ROW], 9, 1))) + [[8]])
+
 # ---- 7: actions
 
 
@@ -330,7 +355,7 @@ for name, data in (("0_1", [0, 1]), ("sum_of_zeros", [3, 0, 0, 0, 0]), ("sum_val
 
 # ---- what the program writes
 
-MODULUS, FACTOR, FIELDS, STARTS = 65521, 31, 4096, 84
+MODULUS, FACTOR, FIELDS, STARTS = 65521, 31, 4096, 85
 
 
 def check_number(numbers):
@@ -342,10 +367,10 @@ def check_number(numbers):
 
 def written(name, number, lines):
     if number:
-        return f"{name}: fault {number}, lines 0 0 0 0, fields 0, starts 0\n"
+        return f"{name}: fault {number}, lines 0 0 0 0 0, fields 0, starts 0\n"
     fields = [field for line in lines for field in line]
     starts = [sum(len(line) for line in lines[:i]) for i in range(len(lines) + 1)]
-    counts = " ".join(str(sum(line[0] == kind for line in lines)) for kind in (1, 2, 3, 4))
+    counts = " ".join(str(sum(line[0] == kind for line in lines)) for kind in (1, 2, 3, 4, 8))
     checks = [check_number(held + [0] * (room - len(held))) for held, room in ((fields, FIELDS), (starts, STARTS))]
     each = "".join(f", {line[0]} of {len(line)}" for line in lines)
     return f"{name}: fault 0, lines {counts}, fields {checks[0]}, starts {checks[1]}{each}\n"

@@ -10,7 +10,7 @@ use mathlib.Core.Bool.{Bool, true, false, not, _&&_, true≢false, false≢true}
 use mathlib.Core.List.{List, [], _∷_}
 use Prim.Native.Nat.{ℕ, suc, _≤_}
 use native.Mathlib.Nat.{suc-inj}
-use borrow.Author.Tests.{eqb-true, eqb-false, le-leb}
+use borrow.Author.Tests.{eqb-true, eqb-false}
 use lib.Dec.{eqb}
 use Rattle.foundation.specs.Nth.{first, later, EachIs, eachB}
 use Rattle.foundation.specs.Reflects.{Reflects, so, not-so, _⇒_}
@@ -23,6 +23,7 @@ use Rattle.decision.specs.Admitted.{oneEachB, isZero}
 use Rattle.design.specs.Faults.{Fault7, twice-impl, twice-spec, internal-spec, internal-data, spans-differ}
 use Rattle.design.specs.declared.Counts.{Counts}
 use Rattle.design.specs.Loaded.{designIn}
+use Rattle.layout.specs.Sizes.{countsFit}
 use Rattle.action_check.specs.ActionsFit.{visibleB, bareB, sameSpanB, actionsFit, actionsFitIn}
 use Rattle.action_check.proofs.Lines.{was-yes}
 
@@ -208,6 +209,5 @@ module _ (d : Design) where
 
 -- ---- on a desk's arrays
 
-pub in-arrays : (fields starts : List ℕ) (c : Counts) → c .kind1 ≤ 8 → c .kind2 ≤ 8 → c .kind3 ≤ 32 → c .kind4 ≤ 32
-    → actionsFitIn fields starts c ≡ actionsFit (designIn fields starts c)
-in-arrays fields starts c h1 h2 h3 h4 = rw (le-leb (c .kind1) 8 h1, le-leb (c .kind2) 8 h2, le-leb (c .kind3) 32 h3, le-leb (c .kind4) 32 h4)
+pub in-arrays : (fields starts : List ℕ) (c : Counts) → countsFit c ≡ true → actionsFitIn fields starts c ≡ actionsFit (designIn fields starts c)
+in-arrays fields starts c h = rw h

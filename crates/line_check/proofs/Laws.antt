@@ -20,10 +20,10 @@ use Rattle.term_check.specs.declared.Checked.{Checked}
 use Rattle.term_check.specs.declared.Checked.the-variants.{Next, Wrong}
 use Rattle.term_check.proofs.Laws.{good-of, took-of}
 use Rattle.term_check.proofs.Passed.{passed-v, passed-f}
-use Rattle.kinds.specs.Kinds.{wholeText, entryIn, Sort, value, formula, nValues, hasTerms, sortsOf, readsSum, ownOf}
+use Rattle.kinds.specs.Kinds.{wholeText, entryIn, Sort, value, formula, nValues, nFormulas, hasTerms, sortsOf, readsSum, ownOf}
 use Rattle.kinds.specs.declared.Entry.{Entry}
 use Rattle.kinds.specs.declared.Follow.{Follow}
-use Rattle.kinds.specs.declared.Follow.the-variants.{Nothing, RowTerms, Formula, Mapped, Value}
+use Rattle.kinds.specs.declared.Follow.the-variants.{Nothing, RowTerms, Formula, Mapped, Value, Marks}
 use Rattle.line_check.specs.LineFits.{nothing, termsFit, lineFits}
 
 -- ---- the first field of a part
@@ -92,6 +92,29 @@ module _ (n : ℕ) (row : Bool) (part : List ℕ) (count i : ℕ) (left : List �
   unfolding termsFit
   values-end h b eb = let z : count - i ≡ 0 = omega arith in eb ∙ (rw z at inv)
 
+-- ---- formulas, in the same way
+
+pub formulas-start : (n : ℕ) (row : Bool) (part : List ℕ) (count : ℕ)
+    → termsFit n row (nFormulas (count - 0)) (fieldsOf part) ≡ termsFit n row (nFormulas count) (fieldsOf part)
+formulas-start n row part count = let e : count - 0 ≡ count = omega arith in rw e
+
+module _ (n : ℕ) (row : Bool) (part : List ℕ) (count i : ℕ) (left : List ℕ)
+    (inv : termsFit n row (nFormulas (count - i)) (fieldsOf left) ≡ termsFit n row (nFormulas count) (fieldsOf part)) where
+  module _ (go : i < count) (f : Checked) (ef : f ≡ checkedF n row (readF 32 (fieldsOf left))) where
+    now-formula : termsFit n row (formula ∷ nFormulas (count - (i + 1))) (fieldsOf left) ≡ termsFit n row (nFormulas count) (fieldsOf part)
+    now-formula = let e : count - i ≡ suc (count - (i + 1)) = omega arith in rw e at inv
+
+    pub formulas-stop : f ≡ Wrong → false ≡ termsFit n row (nFormulas count) (fieldsOf part)
+    formulas-stop e = formula-wrong n row (nFormulas (count - (i + 1))) left f ef e ∙ now-formula
+
+    pub formulas-turn : (k : ℕ) → f ≡ Next k → (after : List ℕ) → after ≡ drop (6 * k) left
+        → termsFit n row (nFormulas (count - (i + 1))) (fieldsOf after) ≡ termsFit n row (nFormulas count) (fieldsOf part)
+    formulas-turn k e after ea = rw ea (sym (formula-next n row (nFormulas (count - (i + 1))) left f ef k e) ∙ now-formula)
+
+  pub formulas-end : count ≤ i → (b : Bool) → b ≡ nothing (fieldsOf left) → b ≡ termsFit n row (nFormulas count) (fieldsOf part)
+  unfolding termsFit
+  formulas-end h b eb = let z : count - i ≡ 0 = omega arith in eb ∙ (rw z at inv)
+
 -- a formula, and then values
 module _ (n : ℕ) (row : Bool) (part : List ℕ) (count : ℕ) (a : Checked) (ea : a ≡ checkedF n row (readF 32 (fieldsOf part))) where
   pub then-wrong : a ≡ Wrong → false ≡ termsFit n row (formula ∷ nValues count) (fieldsOf part)
@@ -103,9 +126,9 @@ module _ (n : ℕ) (row : Bool) (part : List ℕ) (count : ℕ) (a : Checked) (e
 
 -- ---- the terms of a kind
 
-module _ (n m : ℕ) (part : List ℕ) (terms : Follow) (r : Bool) where
+module _ (n m i : ℕ) (part : List ℕ) (terms : Follow) (r : Bool) where
   abbrev whole : Bool
-  whole = termsFit n (readsSum terms) (sortsOf terms n m) (fieldsOf part)
+  whole = termsFit n (readsSum terms) (sortsOf terms n m i) (fieldsOf part)
 
   pub no-terms : terms ≡ Nothing → r ≡ nothing (fieldsOf part) → r ≡ whole
   unfolding termsFit
@@ -122,6 +145,9 @@ module _ (n m : ℕ) (part : List ℕ) (terms : Follow) (r : Bool) where
 
   pub a-value : terms ≡ Value → r ≡ termsFit n false (nValues 1) (fieldsOf part) → r ≡ whole
   a-value e er = er ∙ rw e
+
+  pub marks : terms ≡ Marks → r ≡ termsFit n true (nFormulas i) (fieldsOf part) → r ≡ whole
+  marks e er = er ∙ rw e
 
 -- ---- the fields before them
 
@@ -144,12 +170,12 @@ module _ (part left : List ℕ) (i n : ℕ) (inv : fieldsOf left ≡ drop i (fie
 
 -- ---- a line
 
-module _ (n m kind : ℕ) (line : List ℕ) (e : Entry) (ee : e ≡ entryIn wholeText kind) (b : Bool) (eb : b ≡ hasTerms (e .terms)) where
-  pub of-nothing : not b ≡ true → true ≡ lineFits n m (fieldsOf line) kind
+module _ (n m i kind : ℕ) (line : List ℕ) (e : Entry) (ee : e ≡ entryIn wholeText kind) (b : Bool) (eb : b ≡ hasTerms (e .terms)) where
+  pub of-nothing : not b ≡ true → true ≡ lineFits n m i (fieldsOf line) kind
   unfolding lineFits
   of-nothing h = rw (← ee, ← eb, not-true b h)
 
   pub of-terms : not b ≡ false → (part : List ℕ) → fieldsOf part ≡ drop (e .fixed) (fieldsOf line) → (own : ℕ) → own ≡ ownOf (e .side) n m
-      → (r : Bool) → r ≡ termsFit own (readsSum (e .terms)) (sortsOf (e .terms) own m) (fieldsOf part) → r ≡ lineFits n m (fieldsOf line) kind
+      → (r : Bool) → r ≡ termsFit own (readsSum (e .terms)) (sortsOf (e .terms) own m i) (fieldsOf part) → r ≡ lineFits n m i (fieldsOf line) kind
   unfolding lineFits
   of-terms h part ep own eo r er = rw (← ee, ← eb, not-false b h) (er ∙ rw (eo, ep))

@@ -20,7 +20,7 @@ use Rattle.terms.specs.Print.{printV, printF}
 use Rattle.terms.proofs.Printing.{Printed, print-read-v, print-read-f, read-print-v, read-print-f}
 use Rattle.kinds.specs.Kinds as kinds
 use Rattle.kinds.specs.Kinds.{wholeText, entryIn, Sort, hasTerms}
-use Rattle.design.specs.Lines.{kindOf, countOf}
+use Rattle.design.specs.Lines.{kindOf, countOf, internalOf}
 use Rattle.design.specs.Faults as faults
 use Rattle.design.specs.Faults.{Terms, HasTerms, LineTerms, Fault6}
 use Rattle.line_check.specs.LineFits.{nothing, termsFit, lineFits}
@@ -114,8 +114,8 @@ module _ (n : ℕ) (row : Bool) where
 
 -- ---- a line, by its kind
 
-module _ (n m : ℕ) (line : List ℕ) (kind : ℕ) where
-  pub by-line : Reflects (HasTerms kind → LineTerms n m line kind) (lineFits n m line kind)
+module _ (n m i : ℕ) (line : List ℕ) (kind : ℕ) where
+  pub by-line : Reflects (HasTerms kind → LineTerms n m i line kind) (lineFits n m i line kind)
   unfolding lineFits
   by-line = by-if _ (by-value _) (λ _. by-terms _ _ _ _)
 
@@ -123,18 +123,18 @@ module _ (n m : ℕ) (line : List ℕ) (kind : ℕ) where
 
 module _ (lines : List (List ℕ)) where
   abbrev Fits : List ℕ → Type 0
-  Fits line = lineFits (countOf 1 lines) (countOf 2 lines) line (kindOf line) ≡ true
+  Fits line = lineFits (countOf 1 lines) (countOf 2 lines) (internalOf lines) line (kindOf line) ≡ true
 
   -- where the test says yes for each line, fault 6 is not in the text
   pub no-fault6 : ((line : List ℕ) → List·Memᴰ line lines → Fits line) → Fault6 lines → ⊥
-  no-fault6 each (faults.wrong-terms {line = line} at h wrong) = wrong (says-yes (by-line _ _ line (kindOf line)) (each line at) h)
+  no-fault6 each (faults.wrong-terms {line = line} at h wrong) = wrong (says-yes (by-line _ _ _ line (kindOf line)) (each line at) h)
 
   -- where it says no for one, it is
-  pub fault6-at : {line : List ℕ} → List·Memᴰ line lines → lineFits (countOf 1 lines) (countOf 2 lines) line (kindOf line) ≡ false → Fault6 lines
+  pub fault6-at : {line : List ℕ} → List·Memᴰ line lines → lineFits (countOf 1 lines) (countOf 2 lines) (internalOf lines) line (kindOf line) ≡ false → Fault6 lines
   fault6-at {line} at e = go (hasTerms (entryIn wholeText (kindOf line) .terms)) refl
     where
-      not-so-it-is : (HasTerms (kindOf line) → LineTerms (countOf 1 lines) (countOf 2 lines) line (kindOf line)) → ⊥
-      not-so-it-is = says-no (by-line _ _ line (kindOf line)) e
+      not-so-it-is : (HasTerms (kindOf line) → LineTerms (countOf 1 lines) (countOf 2 lines) (internalOf lines) line (kindOf line)) → ⊥
+      not-so-it-is = says-no (by-line _ _ _ line (kindOf line)) e
 
       go : (b : Bool) → hasTerms (entryIn wholeText (kindOf line) .terms) ≡ b → Fault6 lines
       go true h = faults.wrong-terms at h (λ t. not-so-it-is (λ _. t))
@@ -142,10 +142,10 @@ module _ (lines : List (List ℕ)) where
 
   -- so a line of a text without fault 6 is made of its terms
   pub made-of : (Fault6 lines → ⊥) → {line : List ℕ} → List·Memᴰ line lines → HasTerms (kindOf line)
-      → LineTerms (countOf 1 lines) (countOf 2 lines) line (kindOf line)
-  made-of free {line} at h = go (by-line (countOf 1 lines) (countOf 2 lines) line (kindOf line))
+      → LineTerms (countOf 1 lines) (countOf 2 lines) (internalOf lines) line (kindOf line)
+  made-of free {line} at h = go (by-line (countOf 1 lines) (countOf 2 lines) (internalOf lines) line (kindOf line))
     where
-      go : {b : Bool} → Reflects (HasTerms (kindOf line) → LineTerms (countOf 1 lines) (countOf 2 lines) line (kindOf line)) b
-          → LineTerms (countOf 1 lines) (countOf 2 lines) line (kindOf line)
+      go : {b : Bool} → Reflects (HasTerms (kindOf line) → LineTerms (countOf 1 lines) (countOf 2 lines) (internalOf lines) line (kindOf line)) b
+          → LineTerms (countOf 1 lines) (countOf 2 lines) (internalOf lines) line (kindOf line)
       go (so p) = p h
       go (not-so p) = absurd (free (faults.wrong-terms at h (λ t. p (λ _. t))))

@@ -25,9 +25,10 @@ termsFit n row (value ∷ sorts) fields =
 termsFit n row (formula ∷ sorts) fields =
     let f = readF 32 fields in okF (f .tree) n row && termsFit n row sorts (drop (f .used) fields)
 
--- the terms of a kind, after its numbers, where n lines are of kind 1 and m of kind 2; a kind without terms has nothing to keep
-unfoldable pub lineFits : ℕ → ℕ → List ℕ → ℕ → Bool
-lineFits n m line kind =
+-- the terms of a kind, after its numbers, where n lines are of kind 1 and m of kind 2, and i rows are internal; a kind without terms has
+-- nothing to keep
+unfoldable pub lineFits : ℕ → ℕ → ℕ → List ℕ → ℕ → Bool
+lineFits n m i line kind =
     let e = entryIn wholeText kind in
     let own = ownOf (e .side) n m in
-    hasTerms (e .terms) ⇒ termsFit own (readsSum (e .terms)) (sortsOf (e .terms) own m) (drop (e .fixed) line)
+    hasTerms (e .terms) ⇒ termsFit own (readsSum (e .terms)) (sortsOf (e .terms) own m i) (drop (e .fixed) line)

@@ -9,12 +9,13 @@ ghost use mathlib.Core.Path.{_≡_};
 ghost use mathlib.Core.List.{_∷_};
 ghost use lib.ListN.{drop};
 ghost use Rattle.reader.specs.Line.{fieldsOf};
-ghost use Rattle.kinds.specs.Kinds.{formula, nValues, sortsOf, readsSum};
+ghost use Rattle.kinds.specs.Kinds.{formula, nValues, nFormulas, sortsOf, readsSum};
 ghost use Rattle.line_check.specs.LineFits.{nothing, termsFit, lineFits};
 
-// Whether a line of this kind is as it should be, where n lines of the text are of kind 1 and m of kind 2.
-pub fn line_fits(line: &[u8], kind: u16, n: u16, m: u16) -> bool
-    ensures { λ r. ⌜ r ≡ lineFits n m (fieldsOf (now (line .entry))) kind ⌝ }
+// Whether a line of this kind is as it should be, where n lines of the text are of kind 1 and m of kind 2, and i rows of the implementation
+// are internal.
+pub fn line_fits(line: &[u8], kind: u16, n: u16, m: u16, i: u16) -> bool
+    ensures { λ r. ⌜ r ≡ lineFits n m i (fieldsOf (now (line .entry))) kind ⌝ }
 {
     let entry = kinds::entry_at(kind);
     let terms = entry.terms;
@@ -23,12 +24,12 @@ pub fn line_fits(line: &[u8], kind: u16, n: u16, m: u16) -> bool
     }
     let side = entry.side;
     let params = kinds::own(side, n, m);
-    terms_fit(after_fields(line, entry.fixed), terms, params, m)
+    terms_fit(after_fields(line, entry.fixed), terms, params, m, i)
 }
 
-// Whether a part is the terms that follow, of n parameters, where m lines are of kind 2, and nothing else.
-fn terms_fit(part: &[u8], terms: Follow, n: u16, m: u16) -> bool
-    ensures { λ r. ⌜ r ≡ termsFit n (readsSum terms) (sortsOf terms n m) (fieldsOf (now (part .entry))) ⌝ }
+// Whether a part is the terms that follow, of n parameters, where m lines are of kind 2 and i rows internal, and nothing else.
+fn terms_fit(part: &[u8], terms: Follow, n: u16, m: u16, i: u16) -> bool
+    ensures { λ r. ⌜ r ≡ termsFit n (readsSum terms) (sortsOf terms n m i) (fieldsOf (now (part .entry))) ⌝ }
 {
     match terms {
         Follow::Nothing => ended(part),
@@ -36,6 +37,7 @@ fn terms_fit(part: &[u8], terms: Follow, n: u16, m: u16) -> bool
         Follow::Formula => formula_then_values_fit(part, 0, n, false),
         Follow::Mapped => values_fit(part, m as usize, n, false),
         Follow::Value => values_fit(part, 1, n, false),
+        Follow::Marks => formulas_fit(part, i as usize, n, true),
     }
 }
 
@@ -64,6 +66,24 @@ fn values_fit(part: &[u8], count: usize, params: u16, row: bool) -> bool
         let after = reader::rest(left, used);
         left = after;
         i += 1;
+    }
+    ended(left)
+}
+
+// Whether a part is so many formulas and nothing else.
+fn formulas_fit(part: &[u8], count: usize, params: u16, row: bool) -> bool
+    ensures { λ r. ⌜ r ≡ termsFit params row (nFormulas count) (fieldsOf (now (part .entry))) ⌝ }
+{
+    let mut left = part;
+    let mut done = 0;
+    while done < count {
+        let f = term_check::formula(left, params, row, limits::MAX_DEPTH);
+        let Checked::Next(used) = f else {
+            return false;
+        };
+        let after = reader::rest(left, used);
+        left = after;
+        done += 1;
     }
     ended(left)
 }

@@ -57,7 +57,7 @@ sets-append l (x ∷ xs) ys to =
 
 pub record Progress (text fields₀ starts₀ fields starts : List ℕ) (at to k : ℕ) : Type 0 where
   pub here : AtLine text at k
-  pub few : k ≤ 83
+  pub few : k ≤ 84
   pub total : to + countAll (drop k (fieldsByLine text)) ≡ countAll (fieldsByLine text)
   pub fields-so : sets fields to (joined (drop k (fieldsByLine text))) ≡ sets fields₀ 0 (joined (fieldsByLine text))
   pub starts-so : sets starts k (startsFrom to (drop k (fieldsByLine text))) ≡ sets starts₀ 0 (startsFrom 0 (fieldsByLine text))
@@ -108,12 +108,12 @@ module _ (text fields₀ starts₀ fields starts : List ℕ) (at to k : ℕ) (p 
     pub copy-fits : to + length (fieldsOf (take (length text - at) (drop at text))) ≤ 4096
     copy-fits = rw fields-here (let t = total-here in let f = fits in omega arith)
 
-    pub too-many : 83 ≤ k → Filled lines fields₀ starts₀ 84 fields starts
+    pub too-many : 84 ≤ k → Filled lines fields₀ starts₀ 85 fields starts
     too-many h =
         let m = more-lines text at k (p .here) inside in
         record { few = λ l. absurd (omega arith); fields-held = λ l. absurd (omega arith); starts-held = λ l. absurd (omega arith); many = λ l. refl }
 
-    module _ (room : k < 83) (n : ℕ) (en : n ≡ length (fieldsOf (take (length text - at) (drop at text))))
+    module _ (room : k < 84) (n : ℕ) (en : n ≡ length (fieldsOf (take (length text - at) (drop at text))))
         (fields′ : List ℕ) (ef : fields′ ≡ sets fields to (fieldsOf (take (length text - at) (drop at text)))) where
       pub to-next : to + n ≤ 4096
       to-next = let h = copy-fits in omega arith

@@ -20,13 +20,13 @@ use Rattle.loader.specs.Filled.{Filled}
 use Rattle.loader.specs.Load.{tableFault, faultOf, refusedBy, loadedOf, Holds}
 use Rattle.loader.specs.declared.Loaded.{Loaded}
 
--- ---- lines without fault 4 are at most 83
+-- ---- lines without fault 4 are at most 84
 
 module _ (lines : List (List ℕ)) (l : Layout wholeText lines) where
   abbrev k : ℕ → ℕ
   k i = length (ofKind i lines)
 
-  all-lines : length lines ≡ k 1 + (k 2 + (k 3 + (k 4 + (k 5 + (k 6 + (k 7 + 0))))))
+  all-lines : length lines ≡ k 1 + (k 2 + (k 3 + (k 4 + (k 5 + (k 6 + (k 7 + (k 8 + 0)))))))
   all-lines =
       ap length (sym (in-order (l .kinds)))
       ∙ (length-append (ofKind 1 lines) _
@@ -34,9 +34,9 @@ module _ (lines : List (List ℕ)) (l : Layout wholeText lines) where
       ∙ ap (λ x. k 2 + x) (length-append (ofKind 3 lines) _
       ∙ ap (λ x. k 3 + x) (length-append (ofKind 4 lines) _
       ∙ ap (λ x. k 4 + x) (length-append (ofKind 5 lines) _
-      ∙ ap (λ x. k 5 + x) (length-append (ofKind 6 lines) _ ∙ ap (λ x. k 6 + x) (length-append (ofKind 7 lines) [])))))))
+      ∙ ap (λ x. k 5 + x) (length-append (ofKind 6 lines) _ ∙ ap (λ x. k 6 + x) (length-append (ofKind 7 lines) _ ∙ ap (λ x. k 7 + x) (length-append (ofKind 8 lines) []))))))))
 
-  pub few-lines : length lines ≤ 83
+  pub few-lines : length lines ≤ 84
   few-lines =
       let a = all-lines in
       let c = counted l in
@@ -47,10 +47,11 @@ module _ (lines : List (List ℕ)) (l : Layout wholeText lines) where
       let h5 = c .kind5 in
       let h6 = c .kind6 in
       let h7 = c .kind7 in
+      let h8 = c .kind8 in
       omega arith
 
 -- so more have fault 4
-pub many-lines : (lines : List (List ℕ)) → 83 < length lines → tableFault lines ≡ 4
+pub many-lines : (lines : List (List ℕ)) → 84 < length lines → tableFault lines ≡ 4
 unfolding tableFault
 many-lines lines h =
     rw (is-not (by-layout wholeText lines) (λ free. let f = few-lines lines (layout-of wholeText lines free) in omega arith))
@@ -75,18 +76,18 @@ module _ (text : List ℕ) where
       unfolding faultOf
       fault-is = rw free
 
-      module _ (n : ℕ) (fields starts : List ℕ) (f : Filled (fieldsByLine text) (replicate 4096 0) (replicate 84 0) n fields starts) where
-        too-many : 83 < n → 83 < length (fieldsByLine text)
+      module _ (n : ℕ) (fields starts : List ℕ) (f : Filled (fieldsByLine text) (replicate 4096 0) (replicate 85 0) n fields starts) where
+        too-many : 84 < n → 84 < length (fieldsByLine text)
         too-many h =
-            let g : length (fieldsByLine text) ≤ 83 → ⊥ = λ l. let e = f .few l in omega arith in
+            let g : length (fieldsByLine text) ≤ 84 → ⊥ = λ l. let e = f .few l in omega arith in
             omega arith
 
-        pub load-many : 83 < n → (r : Loaded) → r ≡ refusedBy 4 → r ≡ loadedOf text
+        pub load-many : 84 < n → (r : Loaded) → r ≡ refusedBy 4 → r ≡ loadedOf text
         load-many h r er = turned-down 4 (λ z. omega arith) (fault-is ∙ many-lines (fieldsByLine text) (too-many h)) r er
 
-        module _ (h : n ≤ 83) where
-          not-many : length (fieldsByLine text) ≤ 83
-          not-many = let g : 83 < length (fieldsByLine text) → ⊥ = λ l. let e = f .many l in omega arith in omega arith
+        module _ (h : n ≤ 84) where
+          not-many : length (fieldsByLine text) ≤ 84
+          not-many = let g : 84 < length (fieldsByLine text) → ⊥ = λ l. let e = f .many l in omega arith in omega arith
 
           fields-are : fields ≡ fieldsHeld (fieldsByLine text)
           unfolding fieldsHeld

@@ -14,7 +14,7 @@ use Rattle.reader.specs.Text.{fieldsByLine, Fault1, Fault2, Fault3, ColumnsFaul
 use Rattle.reader.specs.Text as text
 use Rattle.reader.proofs.Faults.{columns-lowest, ColumnsFree, columns-free}
 use Rattle.kinds.specs.Kinds.{wholeText}
-use Rattle.design.specs.Lines.{countOf, designOf}
+use Rattle.design.specs.Lines.{countOf, internalOf, designOf}
 use Rattle.design.specs.Faults.{Fault4, Fault5, Fault6, Fault, first, second, third, fourth, fifth, sixth, seventh, LowestFault, DesignText}
 use Rattle.design.specs.Tests.{layoutFits, boundsFit}
 use Rattle.design.proofs.Each.{by-each-line, some-line}
@@ -51,10 +51,10 @@ module _ {t : List ℕ} where
 -- fault 6 is absent where each line passes, and there where one does not
 no-terms-fault : (lines : List (List ℕ)) → termsFitAll lines ≡ true → Fault6 lines → ⊥
 no-terms-fault lines e =
-    no-fault6 lines (says-yes (by-each-line _ (lineTest (countOf 1 lines) (countOf 2 lines)) (λ line. by-value (lineTest (countOf 1 lines) (countOf 2 lines) line)) lines) e)
+    no-fault6 lines (says-yes (by-each-line _ (lineTest (countOf 1 lines) (countOf 2 lines) (internalOf lines)) (λ line. by-value (lineTest (countOf 1 lines) (countOf 2 lines) (internalOf lines) line)) lines) e)
 
 terms-fault : (lines : List (List ℕ)) → termsFitAll lines ≡ false → Fault6 lines
-terms-fault lines e = let s = some-line (lineTest (countOf 1 lines) (countOf 2 lines)) lines e in fault6-at lines (s .among) (s .fails)
+terms-fault lines e = let s = some-line (lineTest (countOf 1 lines) (countOf 2 lines) (internalOf lines)) lines e in fault6-at lines (s .among) (s .fails)
 
 -- what loading gives: the first fault, or none at all
 data Settled (t : List ℕ) : ℕ → Type 0 where

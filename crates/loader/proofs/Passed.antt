@@ -11,7 +11,7 @@ use Rattle.reader.specs.Text.{fieldsByLine, columnsFault}
 use Rattle.reader.proofs.Faults.{columns-free, most-in-all}
 use Rattle.criteria.specs.Design.{Admitted}
 use Rattle.kinds.specs.Kinds.{wholeText}
-use Rattle.design.specs.Lines.{kindOf, countOf, countsOf, designOf}
+use Rattle.design.specs.Lines.{kindOf, countOf, countsOf, internalOf, designOf}
 use Rattle.design.specs.Faults.{DesignText}
 use Rattle.design.specs.Loaded.{fieldsHeld, startsHeld, designIn}
 use Rattle.design.specs.Tests.{layoutFits, boundsFit}
@@ -56,7 +56,7 @@ module _ (text : List ℕ) (ok : faultOf text ≡ 0) where
 
   made : TermsFit lines
   made =
-      says-yes (by-each-line _ (lineTest (countOf 1 lines) (countOf 2 lines)) (λ line. by-line (countOf 1 lines) (countOf 2 lines) line (kindOf line)) lines) (tests .1)
+      says-yes (by-each-line _ (lineTest (countOf 1 lines) (countOf 2 lines) (internalOf lines)) (λ line. by-line (countOf 1 lines) (countOf 2 lines) (internalOf lines) line (kindOf line)) lines) (tests .1)
 
   pub is-design-text : DesignText text
   is-design-text = free-exactly text .0 ok
@@ -69,4 +69,4 @@ module _ (text : List ℕ) (ok : faultOf text ≡ 0) where
   design-in = design-held lines (few-lines lines lay) (most-in-all text (columns-free text (parts .0) .third)) lay made
 
   pub counts-allowed : countsFit (countsOf lines) ≡ true
-  counts-allowed = let q = counted lay in rw (le-leb _ 8 (q .kind1 .1), le-leb _ 8 (q .kind2 .1), le-leb _ 32 (q .kind3), le-leb _ 32 (q .kind4))
+  counts-allowed = let q = counted lay in rw (le-leb _ 8 (q .kind1 .1), le-leb _ 8 (q .kind2 .1), le-leb _ 32 (q .kind3), le-leb _ 32 (q .kind4), le-leb _ 1 (q .kind8))

@@ -17,7 +17,7 @@ use Rattle.reader.proofs.Faults.{columns-free, most-in-all}
 use Rattle.criteria.specs.Design.{Parameter}
 use Rattle.kinds.specs.Kinds.{wholeText}
 use Rattle.design.specs.Line.{parameterOf}
-use Rattle.design.specs.Lines.{kindOf, ofKind, countOf, countsOf, designOf}
+use Rattle.design.specs.Lines.{kindOf, ofKind, countOf, countsOf, internalOf, designOf}
 use Rattle.design.specs.Faults.{sizeOf}
 use Rattle.design.specs.Loaded.{heldLines, fieldsHeld, startsHeld}
 use Rattle.design.specs.Tests.{eachLineIs, layoutFits, numbersFit, boundsFit}
@@ -26,12 +26,13 @@ use Rattle.design.proofs.Fault4.{Layout, by-layout, layout-of}
 use Rattle.design.proofs.WholeText.{counted}
 use Rattle.design.proofs.Each.{by-each-line}
 use Rattle.design.proofs.Loaded.{lines-held}
-use Rattle.design.proofs.Held.{TermsFit, parameters1, design-held}
-use Rattle.layout.specs.Sizes.{countsFit, stateCountIn}
+use Rattle.design.proofs.Held.{TermsFit, parameters1, internal3, design-held}
+use Rattle.layout.specs.Sizes.{countsFit, shapeOf, stateCountIn, internalIn}
+use Rattle.layout.proofs.Sizes.{sections-kept}
 use Rattle.line_check.proofs.LineFits.{by-line}
 use Rattle.action_check.specs.ActionsFit.{actionsFit, actionsFitIn}
 use Rattle.action_check.proofs.ActionsFit.{in-arrays}
-use Rattle.loader.specs.Load.{lineTest, termsFitAll, tableFault, Holds}
+use Rattle.loader.specs.Load.{lineTest, internalWith, termsFitAll, tableFault, Holds}
 
 -- the sizes of parameters are those of their lines
 pub sizes-same : (lines : List (List ℕ)) → map (λ (q : Parameter). q .size) (map parameterOf lines) ≡ map sizeOf lines
@@ -45,7 +46,7 @@ module _ (text fields starts : List ℕ) (n : ℕ) (c : Counts) (h : Holds text 
   abbrev lines : List (List ℕ)
   lines = fieldsByLine text
 
-  few : length lines ≤ 83
+  few : length lines ≤ 84
   few = rw (h .lines-all) at (h .few)
 
   fit : countAll lines ≤ 4096
@@ -79,7 +80,7 @@ module _ (text fields starts : List ℕ) (n : ℕ) (c : Counts) (h : Holds text 
 
         module _ (hb : not b ≡ false) (m : ℕ) (em : m ≡ stateCountIn fields starts c) where
           counts-fit : countsFit (countsOf lines) ≡ true
-          counts-fit = let q = counted lay in rw (le-leb _ 8 (q .kind1 .1), le-leb _ 8 (q .kind2 .1), le-leb _ 32 (q .kind3), le-leb _ 32 (q .kind4))
+          counts-fit = let q = counted lay in rw (le-leb _ 8 (q .kind1 .1), le-leb _ 8 (q .kind2 .1), le-leb _ 32 (q .kind3), le-leb _ 32 (q .kind4), le-leb _ 1 (q .kind8))
 
           -- how many states there are
           product-is : m ≡ min (product (map sizeOf (ofKind 1 lines))) 65537
@@ -112,32 +113,37 @@ module _ (text fields starts : List ℕ) (n : ℕ) (c : Counts) (h : Holds text 
             pub fits-2 : Fits w16 (c .kind2)
             fits-2 = let q = counted lay .kind2 .1 in let e = kind2-is in record { fits = omega arith }
 
-            module _ (t : Bool) (et : t ≡ eachLineIs (lineTest (c .kind1) (c .kind2)) (fieldsByLine text)) where
-              terms-are : termsFitAll lines ≡ t
-              terms-are = sym (et ∙ rw (kind1-is, kind2-is))
+            module _ (i : ℕ) (ei : i ≡ internalWith fields starts (shapeOf c)) where
+              internal-is : i ≡ internalOf lines
+              unfolding internalIn
+              internal-is =
+                  ei ∙ rw (h .fields-held, h .starts-held, h .counts-all, sections-kept (countsOf lines) counts-fit) (internal3 lines few fit lay)
 
-              pub fault-6 : not t ≡ true → 6 ≡ tableFault lines
-              unfolding tableFault
-              fault-6 e = rw (four, five, terms-are, not-true t e)
+              module _ (t : Bool) (et : t ≡ eachLineIs (lineTest (c .kind1) (c .kind2) i) (fieldsByLine text)) where
+                terms-are : termsFitAll lines ≡ t
+                terms-are = sym (et ∙ rw (kind1-is, kind2-is, internal-is))
 
-              module _ (ht : not t ≡ false) (u : Bool) (eu : u ≡ actionsFitIn fields starts c) where
-                made : TermsFit lines
-                made =
-                    says-yes (by-each-line _ (lineTest (countOf 1 lines) (countOf 2 lines)) (λ line. by-line (countOf 1 lines) (countOf 2 lines) line (kindOf line)) lines)
-                    (terms-are ∙ not-false t ht)
-
-                actions-are : actionsFit (designOf lines) ≡ u
-                actions-are =
-                    let q = counted lay in
-                    sym
-                    (eu
-                    ∙ rw (h .fields-held, h .starts-held, h .counts-all)
-                    (in-arrays (fieldsHeld lines) (startsHeld lines) (countsOf lines) (q .kind1 .1) (q .kind2 .1) (q .kind3) (q .kind4) ∙ ap actionsFit (design-held lines few fit lay made)))
-
-                pub fault-7 : not u ≡ true → 7 ≡ tableFault lines
+                pub fault-6 : not t ≡ true → 6 ≡ tableFault lines
                 unfolding tableFault
-                fault-7 e = rw (four, five, terms-are, not-false t ht, actions-are, not-true u e)
+                fault-6 e = rw (four, five, terms-are, not-true t e)
 
-                pub no-fault : not u ≡ false → 0 ≡ tableFault lines
-                unfolding tableFault
-                no-fault e = rw (four, five, terms-are, not-false t ht, actions-are, not-false u e)
+                module _ (ht : not t ≡ false) (u : Bool) (eu : u ≡ actionsFitIn fields starts c) where
+                  made : TermsFit lines
+                  made =
+                      says-yes (by-each-line _ (lineTest (countOf 1 lines) (countOf 2 lines) (internalOf lines)) (λ line. by-line (countOf 1 lines) (countOf 2 lines) (internalOf lines) line (kindOf line)) lines)
+                      (terms-are ∙ not-false t ht)
+
+                  actions-are : actionsFit (designOf lines) ≡ u
+                  actions-are =
+                      sym
+                      (eu
+                      ∙ rw (h .fields-held, h .starts-held, h .counts-all)
+                      (in-arrays (fieldsHeld lines) (startsHeld lines) (countsOf lines) counts-fit ∙ ap actionsFit (design-held lines few fit lay made)))
+
+                  pub fault-7 : not u ≡ true → 7 ≡ tableFault lines
+                  unfolding tableFault
+                  fault-7 e = rw (four, five, terms-are, not-false t ht, actions-are, not-true u e)
+
+                  pub no-fault : not u ≡ false → 0 ≡ tableFault lines
+                  unfolding tableFault
+                  no-fault e = rw (four, five, terms-are, not-false t ht, actions-are, not-false u e)

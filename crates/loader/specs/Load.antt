@@ -10,20 +10,26 @@ use lib.ListN.{length, replicate}
 use Rattle.limits.specs.Limits.{maxFields, maxLines, lineStarts}
 use Rattle.reader.specs.Text.{fieldsByLine, columnsFault}
 use Rattle.kinds.specs.Kinds.{wholeText}
-use Rattle.design.specs.Lines.{kindOf, countOf, countsOf, designOf}
+use Rattle.design.specs.Lines.{kindOf, countOf, countsOf, internalOf, designOf}
 use Rattle.design.specs.Loaded.{fieldsHeld, startsHeld}
 use Rattle.design.specs.Tests.{eachLineIs, layoutFits, boundsFit}
 use Rattle.design.specs.declared.Counts.{Counts}
+use Rattle.design.specs.declared.Shape.{Shape}
+use Rattle.layout.specs.Sizes.{internalIn}
 use Rattle.line_check.specs.LineFits.{lineFits}
 use Rattle.action_check.specs.ActionsFit.{actionsFit}
 use Rattle.loader.specs.declared.Loaded.{Loaded}
 
+-- how many rows of the implementation are internal, where its lines stand so
+abbrev pub internalWith : List ℕ → List ℕ → Shape → ℕ
+internalWith fields starts h = internalIn fields starts (h .implementation) (h .implementation .rows .count)
+
 -- a line is the terms of its kind
-abbrev pub lineTest : ℕ → ℕ → List ℕ → Bool
-lineTest n m line = lineFits n m line (kindOf line)
+abbrev pub lineTest : ℕ → ℕ → ℕ → List ℕ → Bool
+lineTest n m i line = lineFits n m i line (kindOf line)
 
 abbrev pub termsFitAll : List (List ℕ) → Bool
-termsFitAll lines = eachLineIs (lineTest (countOf 1 lines) (countOf 2 lines)) lines
+termsFitAll lines = eachLineIs (lineTest (countOf 1 lines) (countOf 2 lines) (internalOf lines)) lines
 
 -- the lowest of 4 to 7, or 0
 unfoldable pub tableFault : List (List ℕ) → ℕ
@@ -40,7 +46,7 @@ refusedBy k = record {
   fault = k;
   fields = replicate maxFields 0;
   starts = replicate lineStarts 0;
-  counts = record { kind1 = 0; kind2 = 0; kind3 = 0; kind4 = 0 };
+  counts = record { kind1 = 0; kind2 = 0; kind3 = 0; kind4 = 0; kind8 = 0 };
 }
 
 -- no fault, and the lines in the arrays

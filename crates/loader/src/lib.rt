@@ -13,7 +13,8 @@ ghost use Rattle.reader.specs.Text.{fieldsByLine, columnsFault};
 ghost use Rattle.design.specs.Lines.{kindOf};
 ghost use Rattle.design.specs.Tests.{eachLineIs};
 ghost use Rattle.loader.specs.Filled.{Filled, stored};
-ghost use Rattle.loader.specs.Load.{lineTest, tableFault, loadedOf, refusedBy, Holds};
+ghost use Rattle.layout.specs.Sizes.{shapeOf};
+ghost use Rattle.loader.specs.Load.{lineTest, internalWith, tableFault, loadedOf, refusedBy, Holds};
 
 // A text's fault, or 0; then the arrays hold the text's lines.
 pub struct Loaded {
@@ -63,6 +64,7 @@ fn refused(fault: u16) -> Loaded
             kind2: 0,
             kind3: 0,
             kind4: 0,
+            kind8: 0,
         },
     }
 }
@@ -87,7 +89,8 @@ fn table_fault<'a>(
     if limits::MAX_STATES < layout::state_count(fields, starts, counts) {
         return 5;
     }
-    if !terms_fit(text, counts.kind1 as u16, counts.kind2 as u16) {
+    let internal = internal_rows(fields, starts, counts);
+    if !terms_fit(text, counts.kind1 as u16, counts.kind2 as u16, internal) {
         return 6;
     }
     if !action_check::actions_fit(fields, starts, counts) {
@@ -96,16 +99,25 @@ fn table_fault<'a>(
     0
 }
 
-// Whether each line is the terms of its kind, where n lines are of kind 1 and m of kind 2.
-fn terms_fit(text: &[u8], n: u16, m: u16) -> bool
+// How many rows of the implementation are internal, where the lines are so many.
+fn internal_rows<'a>(fields: &'a limits::Fields, starts: &'a limits::Starts, counts: Counts) -> u16
+    ensures { λ r. ⌜ r ≡ internalWith (now (fields .entry)) (now (starts .entry)) (shapeOf counts) ⌝ }
+{
+    let shape = layout::shape_of(counts);
+    let rows = shape.implementation.rows.count as u16;
+    layout::internal_rows(fields, starts, shape.implementation, rows)
+}
+
+// Whether each line is the terms of its kind, where n lines are of kind 1 and m of kind 2, and i rows are internal.
+fn terms_fit(text: &[u8], n: u16, m: u16, i: u16) -> bool
     requires { ⌜ columnsFault (now text) ≡ 0 ⌝ }
-    ensures { λ r. ⌜ r ≡ eachLineIs (lineTest n m) (fieldsByLine (now (text .entry))) ⌝ }
+    ensures { λ r. ⌜ r ≡ eachLineIs (lineTest n m i) (fieldsByLine (now (text .entry))) ⌝ }
 {
     let mut at = 0;
     while at < text.len() {
         let count = reader::count(&text[at..]);
         let end = at + reader::COLUMNS * count;
-        if line_terms_fit(&text[at..end], n, m) {
+        if line_terms_fit(&text[at..end], n, m, i) {
             at = end + 1;
         } else {
             return false;
@@ -115,10 +127,10 @@ fn terms_fit(text: &[u8], n: u16, m: u16) -> bool
 }
 
 // Whether a line is the terms of its kind.
-fn line_terms_fit(line: &[u8], n: u16, m: u16) -> bool
-    ensures { λ r. ⌜ r ≡ lineTest n m (fieldsOf (now (line .entry))) ⌝ }
+fn line_terms_fit(line: &[u8], n: u16, m: u16, i: u16) -> bool
+    ensures { λ r. ⌜ r ≡ lineTest n m i (fieldsOf (now (line .entry))) ⌝ }
 {
-    line_check::line_fits(line, kind_of(line), n, m)
+    line_check::line_fits(line, kind_of(line), n, m, i)
 }
 
 // A line's first field; 0 where it has none.

@@ -231,8 +231,8 @@ module _ (lines : List (List ℕ)) (tally : List ℕ) (t : Tallied lines tally) 
   pub tally-counts : (r : Bool) → r ≡ tallyFits tally → r ≡ countsAllowed wholeText lines
   tally-counts r er = er ∙ ap (λ (f : ℕ → Bool). allIn f (suc (lastIn wholeText)) 0) (λ i k. same-counts k i)
 
-  pub kinds-counted : record { kind1 = getD tally 1 0; kind2 = getD tally 2 0; kind3 = getD tally 3 0; kind4 = getD tally 4 0 } ≡ countsOf lines
-  kinds-counted = rw (of 1 (omega arith) (omega arith), of 2 (omega arith) (omega arith), of 3 (omega arith) (omega arith), of 4 (omega arith) (omega arith))
+  pub kinds-counted : record { kind1 = getD tally 1 0; kind2 = getD tally 2 0; kind3 = getD tally 3 0; kind4 = getD tally 4 0; kind8 = getD tally 8 0 } ≡ countsOf lines
+  kinds-counted = rw (of 1 (omega arith) (omega arith), of 2 (omega arith) (omega arith), of 3 (omega arith) (omega arith), of 4 (omega arith) (omega arith), of 8 (omega arith) (omega arith))
     where
       of : (k : ℕ) → 1 ≤ k → k ≤ lastKind → getD tally k 0 ≡ countOf k lines
       of k a b = t .of-rank k (omega arith) ∙ ap length (rank-kind k a b lines)

@@ -42,7 +42,7 @@ pub fn numbers_fit<'a>(fields: &'a [u16], starts: &'a [u16], n: usize) -> bool
     true
 }
 
-// How many of the first n lines are of kinds 1 to 4, whose ranks are their numbers.
+// How many of the first n lines are of kinds 1 to 4 and 8, whose ranks are their numbers.
 pub fn counts_of<'a>(fields: &'a limits::Fields, starts: &'a limits::Starts, n: usize) -> Counts
     ensures { λ r. ⌜ r ≡ countsOf (heldLines (now (fields .entry)) (now (starts .entry)) n) ⌝ }
 {
@@ -53,6 +53,7 @@ pub fn counts_of<'a>(fields: &'a limits::Fields, starts: &'a limits::Starts, n: 
         kind2: tally[2],
         kind3: tally[3],
         kind4: tally[4],
+        kind8: tally[8],
     }
 }
 

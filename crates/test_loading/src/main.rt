@@ -1,5 +1,5 @@
-// Loads each text that an argument names, and writes a line for each: its fault, how many lines of kinds 1 to 4 the desk's arrays hold,
-// a check number over all fields and one over all starts of lines, and of each line its kind and how many fields it has.
+// Loads each text that an argument names, and writes a line for each: its fault, how many lines of kinds 1 to 4 and 8 the desk's
+// arrays hold, a check number over all fields and one over all starts of lines, and of each line its kind and how many fields it has.
 //
 // The texts are in data/, with the expected output made by tools/loading_texts.py, which says what each is and which fault it has.
 use loader::Loaded;
@@ -41,6 +41,7 @@ fn write_loaded(loaded: Loaded) {
     write_number(b" ", loaded.counts.kind2 as u64);
     write_number(b" ", loaded.counts.kind3 as u64);
     write_number(b" ", loaded.counts.kind4 as u64);
+    write_number(b" ", loaded.counts.kind8 as u64);
     write_number(b", fields ", check_number(&fields) as u64);
     write_number(b", starts ", check_number(&starts) as u64);
     write_lines(&fields, &starts);

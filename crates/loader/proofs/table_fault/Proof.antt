@@ -14,6 +14,7 @@ table-fault-spec =
     (λ c. search table.fault-5)
     (λ c κs. search needs)
     (λ c. search table.fault-5-states)
+    (λ c κs. search needs)
     (λ c. search table.fits-1)
     (λ c. search table.fits-2)
     (λ c κs. search table.still-free)

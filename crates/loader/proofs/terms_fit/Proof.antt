@@ -9,10 +9,10 @@ use Rattle.loader.proofs.terms_fit.Statement.{statement}
 use Rattle.loader.proofs.terms_fit.Tie as tie
 
 abbrev Inv-loop : tie.InvT-loop
-Inv-loop text n m at₀ at = (at ≤ length text) × filling.Asked (lineTest n m) text at
+Inv-loop text n m i at₀ at = (at ≤ length text) × filling.Asked (lineTest n m i) text at
 
 abbrev μ-loop : tie.MeasureT-loop
-μ-loop text n m at₀ at = length text - at
+μ-loop text n m i at₀ at = length text - at
 
 pub terms-fit-spec : {M : Type 1} → statement M
 terms-fit-spec =
@@ -28,33 +28,33 @@ terms-fit-spec =
     (λ c.
     let l = c .before .before .before in
     let n = c .count .result in
-    let h : l .loop .at + 6 * n + 1 ≤ length (l .before .before .args .text .now) = search (filling.ask-within (lineTest (l .before .before .args .n) (l .before .before .args .m))) in
+    let h : l .loop .at + 6 * n + 1 ≤ length (l .before .before .args .text .now) = search (filling.ask-within (lineTest (l .before .before .args .n) (l .before .before .args .m) (l .before .before .args .i))) in
     omega arith)
     (λ c.
     let l = c .before .before .before in
     let n = c .count .result in
-    let h : l .loop .at + 6 * n + 1 ≤ length (l .before .before .args .text .now) = search (filling.ask-within (lineTest (l .before .before .args .n) (l .before .before .args .m))) in
+    let h : l .loop .at + 6 * n + 1 ≤ length (l .before .before .args .text .now) = search (filling.ask-within (lineTest (l .before .before .args .n) (l .before .before .args .m) (l .before .before .args .i))) in
     omega arith)
     (λ c. search needs)
     (λ c. search needs)
     (λ c.
     let l = c .before .before .before in
     let n = c .count .result in
-    let h : l .loop .at + 6 * n + 1 ≤ length (l .before .before .args .text .now) = search (filling.ask-within (lineTest (l .before .before .args .n) (l .before .before .args .m))) in
+    let h : l .loop .at + 6 * n + 1 ≤ length (l .before .before .args .text .now) = search (filling.ask-within (lineTest (l .before .before .args .n) (l .before .before .args .m) (l .before .before .args .i))) in
     omega arith)
     (λ c κs. search needs)
     (λ c.
     let l = c .before .before .before .before .before .before in
     let n = c .before .before .before .count .result in
-    let h : l .loop .at + 6 * n + 1 ≤ length (l .before .before .args .text .now) = search (filling.ask-within (lineTest (l .before .before .args .n) (l .before .before .args .m))) in
+    let h : l .loop .at + 6 * n + 1 ≤ length (l .before .before .args .text .now) = search (filling.ask-within (lineTest (l .before .before .args .n) (l .before .before .args .m) (l .before .before .args .i))) in
     omega arith)
     (λ c.
     let l = c .before .before .before .before .before .before in
     let n = c .before .before .before .count .result in
-    let h : l .loop .at + 6 * n + 1 ≤ length (l .before .before .args .text .now) = search (filling.ask-within (lineTest (l .before .before .args .n) (l .before .before .args .m))) in
+    let h : l .loop .at + 6 * n + 1 ≤ length (l .before .before .args .text .now) = search (filling.ask-within (lineTest (l .before .before .args .n) (l .before .before .args .m) (l .before .before .args .i))) in
     omega arith)
     (λ c.
     let l = c .before .before .before .before .before .before in
-    (search (filling.ask-within (lineTest (l .before .before .args .n) (l .before .before .args .m))), search filling.ask-turn))
+    (search (filling.ask-within (lineTest (l .before .before .args .n) (l .before .before .args .m) (l .before .before .args .i))), search filling.ask-turn))
     (λ c. search filling.ask-stop)
     (λ c. search filling.ask-end))

@@ -8,7 +8,7 @@ abbrev Inv-loop : tie.InvT-loop
 Inv-loop fields starts i₀ i = Unit {0}
 
 abbrev μ-loop : tie.MeasureT-loop
-μ-loop fields starts i₀ i = 83 - i
+μ-loop fields starts i₀ i = 84 - i
 
 pub write-lines-spec : {M : Type 1} → statement M
 write-lines-spec =
