@@ -109,6 +109,7 @@ impl Desk {
                 kind2: 0,
                 kind3: 0,
                 kind4: 0,
+                kind8: 0,
             },
             plan: [0u16; walk::PLAN_LENGTH],
             next: 0,

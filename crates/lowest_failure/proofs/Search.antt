@@ -19,7 +19,7 @@ use Rattle.design.specs.declared.Shape.{Shape}
 use Rattle.layout.specs.Sizes.{Fits}
 use Rattle.steps.specs.Arrays.{rowSpan, mappedIn}
 use Rattle.steps.proofs.States.{rows-count}
-use Rattle.lowest_failure.specs.Search.{Known, toldPlace, atImpl, atSpec, holdsFor, spanFor, rowsFor, inRow, inRows, inCriteria}
+use Rattle.lowest_failure.specs.Search.{Known, toldPlace, atImpl, atImplBy, atSpec, holdsFor, spanFor, rowsFor, inRow, inRows, inCriteria}
 use Rattle.verdicts.specs.declared.Place.{Place}
 use Rattle.lowest_failure.specs.declared.Finding.{Finding}
 use Rattle.lowest_failure.specs.declared.Finding.the-variants.{Nothing, Found}
@@ -53,7 +53,7 @@ module _ (d : Design) (v : State) (r : Bool) (n k e : ℕ) where
   unfolding holdsFor
   arm4 y er = er ∙ rw y
 
-  pub arm5 : n ≡ 5 → r ≡ atImpl holds5 d v k e → r ≡ holdsFor d v n k e
+  pub arm5 : n ≡ 5 → r ≡ atImplBy holds5 d v k e → r ≡ holdsFor d v n k e
   unfolding holdsFor
   arm5 y er = er ∙ rw y
 
@@ -161,9 +161,9 @@ module _ (f s : List ℕ) (h : Shape) (v : State) where
   d = designAt f s h
 
   -- a criterion at the rows of a process
-  of-rows : (n m : ℕ) (rows : List Row) (holds : Row → ℕ → Bool) → m ≡ length rows
-      → firstIn (λ k. firstIn (λ e. failIf (not (holds (rowAt rows k) e)) (place n k e)) (rowAt rows k .span) 0) (suc m) 0
-      ≡ firstPlace (suc (length rows)) (λ k. rowAt rows k .span) (λ k e. not (holds (rowAt rows k) e)) (place n)
+  of-rows : (n m : ℕ) (rows : List Row) (holds : ℕ → Row → ℕ → Bool) → m ≡ length rows
+      → firstIn (λ k. firstIn (λ e. failIf (not (holds k (rowAt rows k) e)) (place n k e)) (rowAt rows k .span) 0) (suc m) 0
+      ≡ firstPlace (suc (length rows)) (λ k. rowAt rows k .span) (λ k e. not (holds k (rowAt rows k) e)) (place n)
   of-rows n m rows holds em = rw em
 
   implRows : h .implementation .rows .count ≡ length (d .impl .rows)
@@ -173,17 +173,17 @@ module _ (f s : List ℕ) (h : Shape) (v : State) where
   specRows = sym (rows-count f s (h .specification))
 
   criterion : (n : ℕ) → 3 ≤ n → n < 10 → inRows h d v n ≡ inCriterion (trial d v) n
-  unfolding inRows inRow rowsFor spanFor holdsFor atImpl atSpec
+  unfolding inRows inRow rowsFor spanFor holdsFor atImpl atImplBy atSpec
   criterion zero l u = absurd (omega arith)
   criterion (suc zero) l u = absurd (omega arith)
   criterion (suc (suc zero)) l u = absurd (omega arith)
-  criterion (suc (suc (suc zero))) l u = of-rows 3 _ (d .impl .rows) (holds3 d v) implRows
-  criterion (suc (suc (suc (suc zero)))) l u = of-rows 4 _ (d .impl .rows) (holds4 d v) implRows
+  criterion (suc (suc (suc zero))) l u = of-rows 3 _ (d .impl .rows) (λ _. holds3 d v) implRows
+  criterion (suc (suc (suc (suc zero)))) l u = of-rows 4 _ (d .impl .rows) (λ _. holds4 d v) implRows
   criterion (suc (suc (suc (suc (suc zero))))) l u = of-rows 5 _ (d .impl .rows) (holds5 d v) implRows
-  criterion (suc (suc (suc (suc (suc (suc zero)))))) l u = of-rows 6 _ (d .impl .rows) (holds6 d v) implRows
-  criterion (suc (suc (suc (suc (suc (suc (suc zero))))))) l u = of-rows 7 _ (d .spec .rows) (holds7 d v) specRows
-  criterion (suc (suc (suc (suc (suc (suc (suc (suc zero)))))))) l u = of-rows 8 _ (d .impl .rows) (holds8 d v) implRows
-  criterion (suc (suc (suc (suc (suc (suc (suc (suc (suc zero))))))))) l u = of-rows 9 _ (d .impl .rows) (holds9 d v) implRows
+  criterion (suc (suc (suc (suc (suc (suc zero)))))) l u = of-rows 6 _ (d .impl .rows) (λ _. holds6 d v) implRows
+  criterion (suc (suc (suc (suc (suc (suc (suc zero))))))) l u = of-rows 7 _ (d .spec .rows) (λ _. holds7 d v) specRows
+  criterion (suc (suc (suc (suc (suc (suc (suc (suc zero)))))))) l u = of-rows 8 _ (d .impl .rows) (λ _. holds8 d v) implRows
+  criterion (suc (suc (suc (suc (suc (suc (suc (suc (suc zero))))))))) l u = of-rows 9 _ (d .impl .rows) (λ _. holds9 d v) implRows
   criterion (suc (suc (suc (suc (suc (suc (suc (suc (suc (suc n)))))))))) l u = absurd (omega arith)
 
   later : inCriteria h d v ≡ firstIn (λ n. inCriterion (trial d v) n) 7 3

@@ -1,12 +1,13 @@
 -- What the tests of the code return is what the crate decision says of the design in the arrays; and the turns of the loops that look
--- for an enabled internal row.
+-- for a marked step.
 use mathlib.Core.Path.{_≡_, refl, sym, _∙_, ap}
 use mathlib.Core.Logic.{_⊎_, inl, inr, _≢_}
-use mathlib.Core.Bool.{Bool, true, false, not, _&&_, _||_, Bool·not-not}
+use mathlib.Core.Bool.{Bool, true, false, not, _&&_, _||_, true≢false, Bool·not-not}
 use mathlib.Core.List.{List}
 use Prim.Native.Nat.{ℕ, zero, suc, _+_, _-_, _≤_, _<_}
 use native.Mathlib.Omega.{arith}
-use borrow.Author.Tests.{not-true, not-false}
+use native.Mathlib.Decide.{decLe}
+use borrow.Author.Tests.{not-true, not-false, eqb-true}
 use lib.Dec.{eqb, ltb}
 use lib.ListN.{length, length-map}
 use Rattle.foundation.specs.First.{allIn}
@@ -16,16 +17,17 @@ use Rattle.foundation.proofs.All.{all-begin, all-turn, all-fail, all-end}
 use Rattle.foundation.proofs.Trial.{place-passes}
 use Rattle.criteria.specs.Design.{Design, Row, mapped}
 use Rattle.criteria.specs.Step.{nextState}
-use Rattle.criteria.specs.Rows.{noRow, rowAt, internalTest}
-use Rattle.terms.specs.Tree.{evalV}
-use Rattle.decision.specs.Tests.{enabledB, internalB, focusB, rowNumber, holds2, holds3, holds4, holds5, holds6, holds7, holds8, holds9}
+use Rattle.criteria.specs.Rows.{noRow, rowAt, markedTest}
+use Rattle.terms.specs.Tree.{evalV, evalF}
+use Rattle.decision.specs.Tests.{enabledB, internalB, markedB, focusB, rowNumber, holds2, holds3, holds4, holds5, holds6, holds7, holds8, holds9}
 use Rattle.decision.proofs.Find.{Found, Missing, find, found-partner}
 use Rattle.design.specs.Loaded.{designAt}
 use Rattle.design.specs.declared.Shape.{Shape}
-use Rattle.steps.specs.Arrays.{padded, stepOf, rowStep, rowSpan, rowWith, belowIn, sameIn, insideIn, mappedIn, measureIn}
+use Rattle.steps.specs.Arrays.{padded, stepOf, rowStep, rowSpan, rowWith, belowIn, sameIn, insideIn, mappedIn, measureIn, markedIn}
 use Rattle.steps.specs.declared.Step.{Step}
+use Rattle.steps.proofs.Arrays.{row-past}
 use Rattle.steps.proofs.States as states
-use Rattle.lowest_failure.specs.Search.{Known, quietIn, atImpl, atSpec}
+use Rattle.lowest_failure.specs.Search.{Known, quietIn, atImpl, atImplBy, atSpec}
 use Rattle.lowest_failure.specs.declared.Here.{Here}
 
 twice : (b x : Bool) → b || x ≡ not (not b) || x
@@ -35,6 +37,43 @@ twice b x = ap (λ z. z || x) (sym (Bool·not-not b))
 where-some : (j : ℕ) (a b : Bool) → (j ≢ 0 → a ≡ b) → (not (eqb j 0) ⇒ a) ≡ (not (eqb j 0) ⇒ b)
 where-some zero a b h = refl
 where-some (suc j) a b h = ap (λ (y : Bool). not (eqb (suc j) 0) ⇒ y) (h (omega arith))
+
+-- ---- marks: that of an enabled internal row is the design's
+
+module _ (f s : List ℕ) (h : Shape) (v : List ℕ) (k e : ℕ) where
+  abbrev row : Row
+  row = rowAt (designAt f s h .impl .rows) k
+
+  -- no row is enabled for no number
+  not-past : (j : ℕ) → rowAt (designAt f s h .impl .rows) j ≡ noRow → enabledB (rowAt (designAt f s h .impl .rows) j) v e ≡ true → ⊥
+  unfolding evalF
+  not-past j is on = true≢false (sym on ∙ ap (λ (r : Row). enabledB r v e) is)
+
+  mark-agrees : enabledB row v e ≡ true → internalB row ≡ true → markedIn f s h k v e ≡ markedB (designAt f s h) k v e
+  mark-agrees on int = go (decLe k (h .implementation .rows .count))
+    where
+      some : k ≡ 0 → ⊥
+      some z = not-past k (rw z) on
+
+      go : Dec (k ≤ h .implementation .rows .count) → markedIn f s h k v e ≡ markedB (designAt f s h) k v e
+      go (yes l) = states.marked-held f s h k v e some l (eqb-true (row .action) 0 int)
+      go (no l) = absurd (not-past k (row-past f s (h .implementation) k (omega arith)) on)
+
+  pub mark-tested : internalB row && (enabledB row v e && markedIn f s h k v e) ≡ markedTest (designAt f s h) v k row e
+  mark-tested = go (internalB row) refl (enabledB row v e) refl
+    where
+      go : (i : Bool) → internalB row ≡ i → (b : Bool) → enabledB row v e ≡ b → i && (b && markedIn f s h k v e) ≡ i && (b && markedB (designAt f s h) k v e)
+      go false z b y = refl
+      go true z false y = refl
+      go true z true y = mark-agrees y z
+
+  pub mark-asked : (x : Bool) → (enabledB row v e ⇒ internalB row ⇒ markedIn f s h k v e ⇒ x) ≡ (enabledB row v e ⇒ internalB row ⇒ markedB (designAt f s h) k v e ⇒ x)
+  mark-asked x = go (internalB row) refl (enabledB row v e) refl
+    where
+      go : (i : Bool) → internalB row ≡ i → (b : Bool) → enabledB row v e ≡ b → (b ⇒ i ⇒ markedIn f s h k v e ⇒ x) ≡ (b ⇒ i ⇒ markedB (designAt f s h) k v e ⇒ x)
+      go i z false y = refl
+      go false z true y = refl
+      go true z true y = ap (λ m. m ⇒ x) (mark-agrees y z)
 
 module _ (f s : List ℕ) (h : Shape) (here : Here) (known : Known h (designAt f s h) here) where
   abbrev d : Design
@@ -110,10 +149,10 @@ module _ (f s : List ℕ) (h : Shape) (here : Here) (known : Known h (designAt f
             states.same-held (mapped d v) (mapped d next) n (states.mapped-length f s h v) (states.mapped-length f s h next) few,
           )
 
-      pub holds5-is : (there measure : ℕ) → there ≡ measureIn f s h (r .next) → measure ≡ measureIn f s h v
-          → not (r .enabled) || (not (eqb (r .action) 0) || ltb there measure) ≡ atImpl holds5 d v k e
-      unfolding atImpl rowStep stepOf measureIn
-      holds5-is there measure et em = rw (et, em, er, states.measure-held f s h next next-short)
+      pub holds5-is : (there measure : ℕ) (marked : Bool) → there ≡ measureIn f s h (r .next) → measure ≡ measureIn f s h v → marked ≡ markedIn f s h k v e
+          → not (r .enabled) || (not (eqb (r .action) 0) || (not marked || ltb there measure)) ≡ atImplBy holds5 d v k e
+      unfolding atImplBy rowStep stepOf measureIn
+      holds5-is there measure marked et em ek = rw (ek, et, em, er, states.measure-held f s h next next-short) (mark-asked f s h v k e _)
 
       module _ (j : ℕ) (q : Step) (ej : j ≡ rowWith f s (h .specification) (r .action)) (eq : q ≡ rowStep f s (h .specification) j (here .mapped) e) where
         pub holds6-is : not (r .enabled) || (eqb (r .action) 0 || q .enabled) ≡ atImpl holds6 d v k e
@@ -157,7 +196,7 @@ module _ (f s : List ℕ) (h : Shape) (v : List ℕ) where
 
   module _ (k : ℕ) where
     abbrev quietAt : ℕ → Bool
-    quietAt e = not (internalTest v (rowAt (design .impl .rows) k) e)
+    quietAt e = not (markedTest design v k (rowAt (design .impl .rows) k) e)
 
     unfoldable pub quietLeft : ℕ → ℕ → Bool
     quietLeft m e = allIn quietAt (m - e) e
@@ -166,19 +205,18 @@ module _ (f s : List ℕ) (h : Shape) (v : List ℕ) where
     unfolding quietLeft quietIn rowSpan
     quiet-begin m em = all-begin quietAt m ∙ ap (λ m. allIn quietAt m 0) em
 
-    quiet-says : (e : ℕ) (r : Step) (b : Bool) → r ≡ rowStep f s (h .implementation) k v e → eqb (r .action) 0 && r .enabled ≡ b → quietAt e ≡ not b
-    unfolding rowStep stepOf
-    quiet-says e r b er y = ap not (sym (ap (λ (q : Step). eqb (q .action) 0 && q .enabled) er) ∙ y)
+    module _ (m e : ℕ) (r : Step) (marked : Bool) (l : e < m) (er : r ≡ rowStep f s (h .implementation) k v e) (ek : marked ≡ markedIn f s h k v e) (inv : quietLeft m e ≡ quietIn design v k) where
+      quiet-says : (b : Bool) → eqb (r .action) 0 && (r .enabled && marked) ≡ b → quietAt e ≡ not b
+      unfolding rowStep stepOf
+      quiet-says b y = ap not (sym (mark-tested f s h v k e) ∙ sym (rw (er, ek)) ∙ y)
 
-    pub quiet-turn : (m e : ℕ) (r : Step) → e < m → r ≡ rowStep f s (h .implementation) k v e → eqb (r .action) 0 && r .enabled ≡ false
-        → quietLeft m e ≡ quietIn design v k → quietLeft m (e + 1) ≡ quietIn design v k
-    unfolding quietLeft
-    quiet-turn m e r l er y inv = sym (all-turn quietAt m e l (quiet-says e r false er y)) ∙ inv
+      pub quiet-turn : eqb (r .action) 0 && (r .enabled && marked) ≡ false → quietLeft m (e + 1) ≡ quietIn design v k
+      unfolding quietLeft
+      quiet-turn y = sym (all-turn quietAt m e l (quiet-says false y)) ∙ inv
 
-    pub quiet-fail : (m e : ℕ) (r : Step) → e < m → r ≡ rowStep f s (h .implementation) k v e → eqb (r .action) 0 && r .enabled ≡ true
-        → quietLeft m e ≡ quietIn design v k → false ≡ quietIn design v k
-    unfolding quietLeft
-    quiet-fail m e r l er y inv = sym (all-fail quietAt m e l (quiet-says e r true er y)) ∙ inv
+      pub quiet-fail : eqb (r .action) 0 && (r .enabled && marked) ≡ true → false ≡ quietIn design v k
+      unfolding quietLeft
+      quiet-fail y = sym (all-fail quietAt m e l (quiet-says true y)) ∙ inv
 
     pub quiet-end : (m e : ℕ) → m ≤ e → quietLeft m e ≡ quietIn design v k → true ≡ quietIn design v k
     unfolding quietLeft
@@ -195,7 +233,7 @@ module _ (f s : List ℕ) (h : Shape) (v : List ℕ) where
   focus-begin =
       all-begin (λ x. quietIn design v x) (suc rows)
       ∙ ap (λ m. allIn (λ k. quietIn design v k) (suc m) 0) (sym (states.rows-count f s (h .implementation)))
-      ∙ sym (place-passes (suc (length (design .impl .rows))) (λ k. rowAt (design .impl .rows) k .span) (λ k e. internalTest v (rowAt (design .impl .rows) k) e) (λ k e. (k, e)))
+      ∙ sym (place-passes (suc (length (design .impl .rows))) (λ k. rowAt (design .impl .rows) k .span) (λ k e. markedTest design v k (rowAt (design .impl .rows) k) e) (λ k e. (k, e)))
 
   pub focus-turn : (k : ℕ) (b : Bool) → k ≤ rows → b ≡ quietIn design v k → not b ≡ false → focusLeft k ≡ focusB design v → focusLeft (k + 1) ≡ focusB design v
   unfolding focusLeft

@@ -8,7 +8,7 @@ use lib.Dec.{eqb}
 use Rattle.foundation.specs.First.{Outcome, pass, fail, failIf, firstIn, allIn}
 use Rattle.foundation.specs.Trial.{Place, place}
 use Rattle.criteria.specs.Design.{Design, Row, State, mapped}
-use Rattle.criteria.specs.Rows.{rowAt, internalTest}
+use Rattle.criteria.specs.Rows.{rowAt, markedTest}
 use Rattle.decision.specs.Tests.{focusB, holds3, holds4, holds5, holds6, holds7, holds8, holds9}
 use Rattle.design.specs.declared.Shape.{Shape}
 use Rattle.layout.specs.Sizes.{Fits}
@@ -28,13 +28,16 @@ pub record Known (h : Shape) (d : Design) (here : Here) : Type 0 where
   pub mapped-is : here .mapped ≡ padded (mapped d (here .state))
   pub focus-is : here .focus ≡ focusB d (here .state)
 
--- row k is no internal row that is enabled for some sum value
+-- row k has no marked step for any sum value
 unfoldable pub quietIn : Design → State → ℕ → Bool
-quietIn d v k = let r : Row = rowAt (d .impl .rows) k in allIn (λ e. not (internalTest v r e)) (r .span) 0
+quietIn d v k = let r : Row = rowAt (d .impl .rows) k in allIn (λ e. not (markedTest d v k r e)) (r .span) 0
 
--- a test at row k of the implementation, and of the specification
+-- a test at row k of the implementation, also one by the row's number, and of the specification
 unfoldable pub atImpl : (Design → State → Row → ℕ → Bool) → Design → State → ℕ → ℕ → Bool
 atImpl holds d v k e = holds d v (rowAt (d .impl .rows) k) e
+
+unfoldable pub atImplBy : (Design → State → ℕ → Row → ℕ → Bool) → Design → State → ℕ → ℕ → Bool
+atImplBy holds d v k e = holds d v k (rowAt (d .impl .rows) k) e
 
 unfoldable pub atSpec : (Design → State → Row → ℕ → Bool) → Design → State → ℕ → ℕ → Bool
 atSpec holds d v k e = holds d v (rowAt (d .spec .rows) k) e
@@ -45,7 +48,7 @@ unfoldable pub holdsFor : Design → State → ℕ → ℕ → ℕ → Bool
 holdsFor d v n k e =
     cond (eqb n 3) (atImpl holds3 d v k e)
     (cond (eqb n 4) (atImpl holds4 d v k e)
-    (cond (eqb n 5) (atImpl holds5 d v k e)
+    (cond (eqb n 5) (atImplBy holds5 d v k e)
     (cond (eqb n 6) (atImpl holds6 d v k e)
     (cond (eqb n 7) (atSpec holds7 d v k e)
     (cond (eqb n 8) (atImpl holds8 d v k e)

@@ -8,7 +8,7 @@ ghost use Rattle.decision.specs.Tests as tests;
 ghost use Rattle.decision.specs.Examine.{firstFailing};
 ghost use Rattle.design.specs.Loaded.{designAt};
 ghost use Rattle.layout.specs.Sizes.{Fits};
-ghost use Rattle.lowest_failure.specs.Search.{Known, toldPlace, atImpl, atSpec, quietIn, holdsFor, spanFor, rowsFor, inRow, inRows, inCriteria};
+ghost use Rattle.lowest_failure.specs.Search.{Known, toldPlace, atImpl, atImplBy, atSpec, quietIn, holdsFor, spanFor, rowsFor, inRow, inRows, inCriteria};
 
 pub enum Finding {
     Nothing,
@@ -24,7 +24,7 @@ pub struct Here {
 
 // ---- focus points
 
-// Whether row k of the implementation is no internal row that is enabled for some sum value.
+// Whether row k of the implementation has no marked step for any sum value.
 fn row_quiet<'a>(
     fields: &'a limits::Fields,
     starts: &'a limits::Starts,
@@ -38,7 +38,8 @@ fn row_quiet<'a>(
     let mut sum = 0;
     while sum < span {
         let step = steps::row_step(fields, starts, shape.implementation, k, v, sum);
-        if (step.action == 0) & step.enabled {
+        let marked = steps::marked(fields, starts, shape, k, v, sum);
+        if (step.action == 0) & (step.enabled & marked) {
             return false;
         }
         sum += 1;
@@ -46,7 +47,7 @@ fn row_quiet<'a>(
     true
 }
 
-// Whether the state is a focus point: no internal row is enabled.
+// Whether the state is a focus point: no row has a marked step.
 fn focus<'a>(
     fields: &'a limits::Fields,
     starts: &'a limits::Starts,
@@ -120,12 +121,13 @@ fn holds5<'a>(
     sum: u16,
 ) -> bool
     requires { ⌜ Known shape (designAt (now fields) (now starts) shape) here ⌝ }
-    ensures { λ r. ⌜ r ≡ atImpl tests.holds5 (designAt (now (fields .entry)) (now (starts .entry)) shape) (here .state) k sum ⌝ }
+    ensures { λ r. ⌜ r ≡ atImplBy tests.holds5 (designAt (now (fields .entry)) (now (starts .entry)) shape) (here .state) k sum ⌝ }
 {
     let step = steps::row_step(fields, starts, shape.implementation, k, &here.state, sum);
     let there = steps::measure(fields, starts, shape, &step.next);
     let measure = steps::measure(fields, starts, shape, &here.state);
-    !step.enabled | (!(step.action == 0) | (there < measure))
+    let marked = steps::marked(fields, starts, shape, k, &here.state, sum);
+    !step.enabled | (!(step.action == 0) | (!marked | (there < measure)))
 }
 
 fn holds6<'a>(

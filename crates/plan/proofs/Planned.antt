@@ -1,15 +1,18 @@
 -- What the functions that make the plan return, as specs/Plan says it, and the turns of their loops; and that the plan of a design
 -- has the plan of each row.
 use mathlib.Core.Path.{_≡_, refl, sym, _∙_, ap}
-use mathlib.Core.Bool.{Bool, true, false, not, _&&_, and-true}
+use mathlib.Core.Logic.{_⊎_, inl, inr}
+use mathlib.Core.Bool.{Bool, true, false, not, _&&_, and-true, cond}
 use mathlib.Core.List.{List, _++_, append-nil}
-use Prim.Native.Nat.{ℕ, zero, suc, _+_, _-_, _*_, _≤_, _<_}
+use Prim.Native.Nat.{ℕ, zero, suc, _+_, _-_, _*_, _%_, _/_, _≤_, _<_}
 use native.Mathlib.Numerals.{add-one}
 use native.Mathlib.Omega.{arith}
-use borrow.Author.Tests.{not-true, not-false, ne-eqb, le-leb, lt-leb, lt-ltb, le-ltb}
-use lib.Dec.{eqb}
-use lib.ListN.{length, getD, drop, set, replicate, length-replicate, drop-of-length-le}
+use borrow.Author.Tests.{not-true, not-false, eq-eqb, ne-eqb, le-leb, lt-leb, lt-ltb, le-ltb}
+use lib.Dec.{eqb, ltb, leb}
+use lib.ListN.{length, getD, drop, set, replicate, length-replicate, length-drop, drop-of-length-le}
 use lib.Seq.{sets, sets-eq}
+use mir.Syntax.{w16}
+use mir.Val.{Fits}
 use Rattle.foundation.specs.Nth.{eachB}
 use Rattle.terms.specs.Tree.{Value}
 use Rattle.terms.specs.Read.{readV, readF}
@@ -17,13 +20,22 @@ use Rattle.terms.proofs.Read.{place}
 use Rattle.sum_free.specs.SumFree.{sumFreeV, sumFreeF, foundV, foundF}
 use Rattle.sum_free.specs.declared.Found.{Found}
 use Rattle.criteria.specs.Design.{Row}
-use Rattle.design.specs.Line.{rowOf, valuesIn}
+use Rattle.criteria.proofs.Rows.{is-row-below}
+use Rattle.decision.specs.Tests.{internalB, rowNumber}
+use Rattle.decision.proofs.Find.{Missing, find, found-at}
+use Rattle.decision.proofs.Find as finds
+use Rattle.design.specs.Loaded.{processIn}
+use Rattle.design.specs.Line.{rowOf, valuesIn, formulasUsed}
+use Rattle.design.proofs.Marks.{formulas-within}
+use Rattle.layout.specs.Sizes.{Fits as ShapeFits, internalIn}
+use Rattle.steps.proofs.States.{rows-count}
 use Rattle.design.specs.declared.Process.{Process}
 use Rattle.design.specs.declared.Shape.{Shape}
-use Rattle.steps.specs.Arrays.{lineOf, rowWith}
+use Rattle.steps.specs.Arrays.{lineOf, rowWith, afterFormulas, markPlace}
 use Rattle.conjuncts.specs.Conjuncts.{frontOf}
-use Rattle.plan.specs.Plan.{rowBy, partnerBy, valuesFree, freeOf, partnerFree, looksOf, rowPlanOf, noRowPlan, rowPlanIn, rowPlanFor, flagOf, rowPlansFrom, planIn, rowPlanAt}
+use Rattle.plan.specs.Plan.{rowBy, partnerBy, valuesFree, freeOf, partnerFree, looksOf, noMark, markIn, markThere, rowPlanOf, noRowPlan, rowPlanIn, rowPlanFor, twoFlags, flagsOf, packOf, rowPlansFrom, planIn, rowPlanAt}
 use Rattle.plan.specs.declared.RowPlan.{RowPlan}
+use Rattle.plan.specs.declared.Mark.{Mark}
 
 -- ---- terms that do not read the sum value
 
@@ -92,14 +104,91 @@ module _ (free : Bool) (span : ℕ) where
   unfolding looksOf
   looks-one h p = rw (not-false free h) (omega arith)
 
-module _ (b : Bool) where
-  pub flag-on : b ≡ true → 1 ≡ flagOf b
-  unfolding flagOf
-  flag-on h = rw h
+module _ (a b : Bool) (r : ℕ) where
+  pub two-first : a ≡ true → r ≡ cond b 3 1 → r ≡ twoFlags a b
+  unfolding twoFlags
+  two-first h er = er ∙ rw h
 
-  pub flag-off : b ≡ false → 0 ≡ flagOf b
-  unfolding flagOf
-  flag-off h = rw h
+  pub two-second : a ≡ false → r ≡ cond b 2 0 → r ≡ twoFlags a b
+  unfolding twoFlags
+  two-second h er = er ∙ rw h
+
+  -- they are small
+  pub two-small : r ≡ twoFlags a b → Fits w16 (4 + r)
+  unfolding twoFlags
+  two-small er = go a b er
+    where
+      go : (x y : Bool) → r ≡ cond x (cond y 3 1) (cond y 2 0) → Fits w16 (4 + r)
+      go true true e = record { fits = omega arith }
+      go true false e = record { fits = omega arith }
+      go false true e = record { fits = omega arith }
+      go false false e = record { fits = omega arith }
+
+  module _ (c : Bool) (er : r ≡ twoFlags a b) where
+    pub flags-third : c ≡ true → 4 + r ≡ flagsOf a b c
+    unfolding flagsOf
+    flags-third h = rw (er, h)
+
+    pub flags-two : c ≡ false → r ≡ flagsOf a b c
+    unfolding flagsOf
+    flags-two h = er ∙ rw h
+
+pub flags-small : (a b c : Bool) (r : ℕ) → r ≡ flagsOf a b c → r < 8
+unfolding flagsOf twoFlags
+flags-small true true true r e = omega arith
+flags-small true true false r e = omega arith
+flags-small true false true r e = omega arith
+flags-small true false false r e = omega arith
+flags-small false true true r e = omega arith
+flags-small false true false r e = omega arith
+flags-small false false true r e = omega arith
+flags-small false false false r e = omega arith
+
+module _ (b : Bool) (x y : ℕ) where
+  pub one-first : b ≡ true → x ≡ cond b x y
+  one-first h = rw h
+
+  pub one-other : b ≡ false → y ≡ cond b x y
+  one-other h = rw h
+
+-- ---- marks
+
+module _ (f s : List ℕ) (h : Shape) (k : ℕ) where
+  pub mark-absent : (r : Mark) → h .marks .count ≡ 0 → r ≡ noMark → r ≡ markIn f s h k
+  unfolding markIn
+  mark-absent r z er = er ∙ rw (eq-eqb (h .marks .count) 0 z)
+
+  module _ (line a : ℕ) (some : h .marks .count ≡ 0 → ⊥) (el : line ≡ lineOf s (h .implementation) k) (ea : a ≡ getD (drop line f) 1 0) where
+    internal-is : internalB (rowBy f s (h .implementation) k) ≡ eqb a 0
+    unfolding rowBy
+    internal-is = rw (ea, el)
+
+    pub mark-visible : (r : Mark) → (a ≡ 0 → ⊥) → r ≡ noMark → r ≡ markIn f s h k
+    unfolding markIn
+    mark-visible r seen er = er ∙ rw (ne-eqb (h .marks .count) 0 some, internal-is, ne-eqb a 0 seen)
+
+    pub mark-internal : (r : Mark) → a ≡ 0 → r ≡ markThere f s h k → r ≡ markIn f s h k
+    unfolding markIn
+    mark-internal r z er = er ∙ rw (ne-eqb (h .marks .count) 0 some, internal-is, eq-eqb a 0 z)
+
+-- it stands after the line's kind, and within the fields
+module _ (f s : List ℕ) (h : Shape) (k marks place : ℕ) (em : marks ≡ getD s (h .marks .first) 0) (ep : place ≡ markPlace f s h k) where
+  place-is : place ≡ marks + 1 + formulasUsed (internalIn f s (h .implementation) (k - 1)) (drop (marks + 1) f)
+  unfolding markPlace afterFormulas
+  place-is = ep ∙ rw em
+
+  pub mark-there-is : (x : Found) → x ≡ foundF place (readF 32 (drop place f)) → record { at = place - marks; free = x .free } ≡ markThere f s h k
+  unfolding markThere
+  mark-there-is x ex = rw (ex, ep, em)
+
+  pub place-after : marks ≤ place
+  place-after = let e = place-is in omega arith
+
+  pub place-near : length f ≡ 4096 → Fits w16 (place - marks)
+  place-near l =
+      let e = place-is in
+      let n : ℕ = internalIn f s (h .implementation) (k - 1) in
+      record { fits = omega (arith, formulas-within n (drop (marks + 1) f), length-drop (marks + 1) f) }
 
 -- ---- the plan of a row
 
@@ -107,32 +196,32 @@ only-condition : (r : Row) → freeOf false r ≡ sumFreeF (r .condition)
 unfolding freeOf
 only-condition r = and-true (sumFreeF (r .condition))
 
-pub row-plan-is : (f s : List ℕ) (p o : Process) (whole : Bool) (k line a z j n l : ℕ) (b c free : Bool) → line ≡ lineOf s p k → a ≡ getD (drop line f) 1 0 → z ≡ getD (drop line f) 2 0
-    → j ≡ rowWith f s o a → b ≡ freeOf whole (rowOf (p .parameters .count) (drop line f)) → c ≡ partnerFree f s o j whole → n ≡ looksOf (b && c) z
-    → free ≡ freeOf false (rowOf (p .parameters .count) (drop line f)) → l ≡ frontOf f (line + 3) 32
-    → record { partner = j; looks = n; free = free; front = l } ≡ rowPlanOf f s p o whole k
+pub row-plan-is : (f s : List ℕ) (p o : Process) (whole : Bool) (m : Mark) (k line a z j n l : ℕ) (b c free : Bool) → line ≡ lineOf s p k → a ≡ getD (drop line f) 1 0
+    → z ≡ getD (drop line f) 2 0 → j ≡ rowWith f s o a → b ≡ freeOf whole (rowOf (p .parameters .count) (drop line f)) → c ≡ partnerFree f s o j whole
+    → n ≡ looksOf ((b && c) && m .free) z → free ≡ freeOf false (rowOf (p .parameters .count) (drop line f)) → l ≡ frontOf f (line + 3) 32
+    → record { partner = j; looks = n; internal = eqb a 0; free = free; front = l; mark = m } ≡ rowPlanOf f s p o whole m k
 unfolding rowPlanOf rowBy
-row-plan-is f s p o whole k line a z j n l b c free el ea ez ej eb ec en ef ew =
+row-plan-is f s p o whole m k line a z j n l b c free el ea ez ej eb ec en ef ew =
     let e = ef ∙ only-condition (rowOf (p .parameters .count) (drop line f)) in
     rw (e, en, eb, ec, ej, ea, ez, ew, el)
 
-module _ (f s : List ℕ) (p o : Process) (whole : Bool) (k : ℕ) where
-  pub row-plan-there : (r : RowPlan) → k ≤ p .rows .count → r ≡ rowPlanOf f s p o whole k → r ≡ rowPlanIn f s p o whole k
+module _ (f s : List ℕ) (p o : Process) (whole : Bool) (m : Mark) (k : ℕ) where
+  pub row-plan-there : (r : RowPlan) → k ≤ p .rows .count → r ≡ rowPlanOf f s p o whole m k → r ≡ rowPlanIn f s p o whole m k
   unfolding rowPlanIn
   row-plan-there r l er = er ∙ rw (le-leb k (p .rows .count) l)
 
-  pub row-plan-past : p .rows .count < k → noRowPlan ≡ rowPlanIn f s p o whole k
+  pub row-plan-past : (none : Mark) → p .rows .count < k → none ≡ noMark → record { partner = 0; looks = 0; internal = false; free = false; front = 0; mark = none } ≡ rowPlanIn f s p o whole m k
   unfolding rowPlanIn
-  row-plan-past l = rw (lt-leb k (p .rows .count) l)
+  row-plan-past none l en = rw (lt-leb k (p .rows .count) l, en)
 
 module _ (f s : List ℕ) (h : Shape) (i : ℕ) (r : RowPlan) where
-  pub of-implementation : i < 32 → r ≡ rowPlanIn f s (h .implementation) (h .specification) true (i + 1) → r ≡ rowPlanFor f s h i
+  pub of-implementation : (m : Mark) → i < 32 → m ≡ markIn f s h (i + 1) → r ≡ rowPlanIn f s (h .implementation) (h .specification) true m (i + 1) → r ≡ rowPlanFor f s h i
   unfolding rowPlanFor
-  of-implementation l er = er ∙ rw (lt-ltb i 32 l)
+  of-implementation m l em er = er ∙ rw (lt-ltb i 32 l, em)
 
-  pub of-specification : 32 ≤ i → r ≡ rowPlanIn f s (h .specification) (h .implementation) false (i - 32 + 1) → r ≡ rowPlanFor f s h i
+  pub of-specification : (m : Mark) → 32 ≤ i → m ≡ noMark → r ≡ rowPlanIn f s (h .specification) (h .implementation) false m (i - 32 + 1) → r ≡ rowPlanFor f s h i
   unfolding rowPlanFor
-  of-specification l er = er ∙ rw (le-ltb i 32 l)
+  of-specification m l em er = er ∙ rw (le-ltb i 32 l, em)
 
 -- ---- all of them, one after the other
 
@@ -156,19 +245,20 @@ module _ (f s : List ℕ) (h : Shape) where
           let u : length (replicate {A = ℕ} 256 0) ≤ 0 + length vs = omega (arith, length-replicate {A = ℕ} 256 0) in
           sets-eq vs (replicate 256 0) 0 l ∙ ap (λ r. vs ++ r) (drop-of-length-le (replicate 256 0) u) ∙ append-nil vs
 
-  pub plan-turn : (w : List ℕ) (i at x : ℕ) (e : RowPlan) → i < 64 → at ≡ 4 * i → e ≡ rowPlanFor f s h i → x ≡ flagOf (e .free) → planLeft w i ≡ planIn f s h
-      → planLeft (set (set (set (set w at (e .partner)) (at + 1) (e .looks)) (at + 2) x) (at + 3) (e .front)) (i + 1) ≡ planIn f s h
+  pub plan-turn : (w : List ℕ) (i at flags x : ℕ) (e : RowPlan) → i < 64 → at ≡ 4 * i → e ≡ rowPlanFor f s h i → flags ≡ flagsOf (e .free) (e .mark .free) (e .internal)
+      → x ≡ packOf (e .partner) flags → planLeft w i ≡ planIn f s h
+      → planLeft (set (set (set (set w at x) (at + 1) (e .looks)) (at + 2) (e .front)) (at + 3) (e .mark .at)) (i + 1) ≡ planIn f s h
   unfolding planLeft rowPlansFrom
-  plan-turn w i at x e l ea ee ex inv = go ∙ inv
+  plan-turn w i at flags x e l ea ee eg ex inv = go ∙ inv
     where
-      go : planLeft (set (set (set (set w at (e .partner)) (at + 1) (e .looks)) (at + 2) x) (at + 3) (e .front)) (i + 1) ≡ planLeft w i
+      go : planLeft (set (set (set (set w at x) (at + 1) (e .looks)) (at + 2) (e .front)) (at + 3) (e .mark .at)) (i + 1) ≡ planLeft w i
       go =
           let n : 64 - i ≡ suc (64 - (i + 1)) = omega arith in
           let k1 : 4 * i + 1 ≡ suc (4 * i) = omega arith in
           let k2 : 4 * i + 2 ≡ suc (suc (4 * i)) = omega arith in
           let k3 : 4 * i + 3 ≡ suc (suc (suc (4 * i))) = omega arith in
           let k4 : 4 * (i + 1) ≡ suc (suc (suc (suc (4 * i)))) = omega arith in
-          rw (n, ex, ee, ea, k1, k2, k3, k4, add-one i)
+          rw (n, ex, eg, ee, ea, k1, k2, k3, k4, add-one i)
 
   pub plan-end : (w : List ℕ) (i : ℕ) → 64 ≤ i → planLeft w i ≡ planIn f s h → w ≡ planIn f s h
   unfolding planLeft rowPlansFrom
@@ -179,18 +269,96 @@ module _ (f s : List ℕ) (h : Shape) where
 
 -- ---- read again
 
-flag-is : (b : Bool) → eqb (flagOf b) 1 ≡ b
-unfolding flagOf
-flag-is true = refl
-flag-is false = refl
+first-is : (a b c : Bool) → eqb (flagsOf a b c % 2) 1 ≡ a
+unfolding flagsOf twoFlags
+first-is true true true = refl
+first-is true true false = refl
+first-is true false true = refl
+first-is true false false = refl
+first-is false true true = refl
+first-is false true false = refl
+first-is false false true = refl
+first-is false false false = refl
 
-module _ (f s : List ℕ) (h : Shape) where
+second-is : (a b c : Bool) → eqb (flagsOf a b c / 2 % 2) 1 ≡ b
+unfolding flagsOf twoFlags
+second-is true true true = refl
+second-is true true false = refl
+second-is true false true = refl
+second-is true false false = refl
+second-is false true true = refl
+second-is false true false = refl
+second-is false false true = refl
+second-is false false false = refl
+
+third-is : (a b c : Bool) → leb 4 (flagsOf a b c) ≡ c
+unfolding flagsOf twoFlags
+third-is true true true = refl
+third-is true true false = refl
+third-is true false true = refl
+third-is true false false = refl
+third-is false true true = refl
+third-is false true false = refl
+third-is false false true = refl
+third-is false false false = refl
+
+-- partner and flags
+pack-flags : (j g : ℕ) → packOf j g / 64 ≡ g
+unfolding packOf
+pack-flags j g = omega arith
+
+pack-partner : (j g : ℕ) → j < 64 → packOf j g % 64 ≡ j
+unfolding packOf
+pack-partner j g l = omega arith
+
+-- there are fewer rows than that
+partner-below : (f s : List ℕ) (p : Process) (a : ℕ) → rowWith f s p a ≤ p .rows .count
+unfolding rowWith
+partner-below f s p a = go (find (processIn f s p .rows) a 1)
+  where
+    go : finds.Found (processIn f s p .rows) a 1 ⊎ Missing (processIn f s p .rows) a 1 → rowNumber (processIn f s p) a ≤ p .rows .count
+    go (inl g) =
+        let at = found-at (processIn f s p) a g in
+        let below = is-row-below (g .is-row) in
+        let n = rows-count f s p in
+        omega arith
+    go (inr m) = let z = m .number in omega arith
+
+partner-in : (f s : List ℕ) (p o : Process) (whole : Bool) (m : Mark) (k : ℕ) → o .rows .count ≤ 32 → rowPlanIn f s p o whole m k .partner < 64
+unfolding rowPlanIn rowPlanOf
+partner-in f s p o whole m k few = go (leb k (p .rows .count))
+  where
+    go : (b : Bool) → (cond b (rowPlanOf f s p o whole m k) noRowPlan) .partner < 64
+    go true = let l = partner-below f s o (rowBy f s p k .action) in omega arith
+    go false = omega arith
+
+module _ (f s : List ℕ) (h : Shape) (fits : ShapeFits h) where
+  partner-small : (i : ℕ) → rowPlanFor f s h i .partner < 64
+  unfolding rowPlanFor
+  partner-small i = go (ltb i 32)
+    where
+      go : (b : Bool) → (cond b (rowPlanIn f s (h .implementation) (h .specification) true (markIn f s h (i + 1)) (i + 1))
+          (rowPlanIn f s (h .specification) (h .implementation) false noMark (i - 32 + 1))) .partner < 64
+      go true = partner-in f s (h .implementation) (h .specification) true (markIn f s h (i + 1)) (i + 1) (fits .specification .rows)
+      go false = partner-in f s (h .specification) (h .implementation) false noMark (i - 32 + 1) (fits .implementation .rows)
+
   row-plan-read : (n i k : ℕ) → k < n → rowPlanAt (rowPlansFrom f s h n i) k ≡ rowPlanFor f s h (i + k)
   unfolding rowPlansFrom rowPlanAt
   row-plan-read zero i k l = absurd (omega arith)
   row-plan-read (suc n) i zero l =
       let e : i + 0 ≡ i = omega arith in
-      rw e (λ j. record { partner = rowPlanFor f s h i .partner; looks = rowPlanFor f s h i .looks; free = flag-is (rowPlanFor f s h i .free) j; front = rowPlanFor f s h i .front })
+      let r : RowPlan = rowPlanFor f s h i in
+      let g : ℕ = flagsOf (r .free) (r .mark .free) (r .internal) in
+      let few : packOf (r .partner) g / 64 ≡ g = pack-flags (r .partner) g in
+      rw e
+      (λ j. record {
+        partner = pack-partner (r .partner) g (partner-small i) j;
+        looks = r .looks;
+        internal = (ap (leb 4) few ∙ third-is (r .free) (r .mark .free) (r .internal)) j;
+        free = (ap (λ x. eqb (x % 2) 1) few ∙ first-is (r .free) (r .mark .free) (r .internal)) j;
+        front = r .front;
+        mark = record { at = r .mark .at; free = (ap (λ x. eqb (x / 2 % 2) 1) few ∙ second-is (r .free) (r .mark .free) (r .internal)) j };
+      })
   row-plan-read (suc n) i (suc k) l =
       let e : suc i + k ≡ i + suc k = omega arith in
       let k0 : 4 * suc k ≡ suc (suc (suc (suc (4 * k)))) = omega arith in
@@ -198,15 +366,22 @@ module _ (f s : List ℕ) (h : Shape) where
       let k2 : 4 * suc k + 2 ≡ suc (suc (suc (suc (4 * k + 2)))) = omega arith in
       let k3 : 4 * suc k + 3 ≡ suc (suc (suc (suc (4 * k + 3)))) = omega arith in
       let all : List ℕ = rowPlansFrom f s h (suc n) i in
-      (λ j. record { partner = getD all (k0 j) 0; looks = getD all (k1 j) 0; free = eqb (getD all (k2 j) 0) 1; front = getD all (k3 j) 0 })
+      (λ j. record {
+        partner = getD all (k0 j) 0 % 64;
+        looks = getD all (k1 j) 0;
+        internal = leb 4 (getD all (k0 j) 0 / 64);
+        free = eqb (getD all (k0 j) 0 / 64 % 2) 1;
+        front = getD all (k2 j) 0;
+        mark = record { at = getD all (k3 j) 0; free = eqb (getD all (k0 j) 0 / 64 / 2 % 2) 1 };
+      })
       ∙ row-plan-read n (suc i) k (omega arith) ∙ rw e
 
   -- of a row that is there
-  pub impl-row-plan : (i : ℕ) → i < 32 → i < h .implementation .rows .count → rowPlanAt (planIn f s h) i ≡ rowPlanOf f s (h .implementation) (h .specification) true (i + 1)
+  pub impl-row-plan : (i : ℕ) → i < 32 → i < h .implementation .rows .count → rowPlanAt (planIn f s h) i ≡ rowPlanOf f s (h .implementation) (h .specification) true (markIn f s h (i + 1)) (i + 1)
   unfolding planIn rowPlanFor rowPlanIn
   impl-row-plan i l u = let z : 0 + i ≡ i = omega arith in row-plan-read 64 0 i (omega arith) ∙ rw (z, lt-ltb i 32 l, le-leb (i + 1) (h .implementation .rows .count) (omega arith))
 
-  pub spec-row-plan : (i : ℕ) → i < 32 → i < h .specification .rows .count → rowPlanAt (planIn f s h) (32 + i) ≡ rowPlanOf f s (h .specification) (h .implementation) false (i + 1)
+  pub spec-row-plan : (i : ℕ) → i < 32 → i < h .specification .rows .count → rowPlanAt (planIn f s h) (32 + i) ≡ rowPlanOf f s (h .specification) (h .implementation) false noMark (i + 1)
   unfolding planIn rowPlanFor rowPlanIn
   spec-row-plan i l u =
       let z : 0 + (32 + i) ≡ 32 + i = omega arith in

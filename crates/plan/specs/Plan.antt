@@ -1,12 +1,13 @@
--- What is worked out once for all states: which rows do not read the sum value, and the plan of each row. f the fields, s the
--- starts of lines, p a process and o the other; rows count from 1.
+-- What is worked out once for all states: which rows do not read the sum value, where marks stand, and the plan of each row. f the
+-- fields, s the starts of lines, p a process and o the other, h the shape; rows count from 1.
 use mathlib.Core.Bool.{Bool, true, false, not, _&&_, _||_, cond}
 use mathlib.Core.List.{List, [], _∷_}
-use Prim.Native.Nat.{ℕ, zero, suc, _+_, _*_, _-_, min}
+use Prim.Native.Nat.{ℕ, zero, suc, _+_, _*_, _-_, _%_, _/_, min}
 use lib.Dec.{eqb, leb, ltb}
 use lib.ListN.{getD, drop}
 use Rattle.foundation.specs.Nth.{eachB}
 use Rattle.terms.specs.Tree.{Value}
+use Rattle.terms.specs.Read.{readF}
 use Rattle.sum_free.specs.SumFree.{sumFreeV, sumFreeF}
 use Rattle.criteria.specs.Design.{Row}
 use Rattle.criteria.specs.Rows.{noRow}
@@ -14,8 +15,10 @@ use Rattle.design.specs.Line.{rowOf, valuesIn}
 use Rattle.design.specs.declared.Process.{Process}
 use Rattle.design.specs.declared.Shape.{Shape}
 use Rattle.conjuncts.specs.Conjuncts.{frontOf}
-use Rattle.steps.specs.Arrays.{lineOf, rowWith}
+use Rattle.decision.specs.Tests.{internalB}
+use Rattle.steps.specs.Arrays.{lineOf, rowWith, markPlace}
 use Rattle.plan.specs.declared.RowPlan.{RowPlan}
+use Rattle.plan.specs.declared.Mark.{Mark}
 
 -- ---- rows
 
@@ -36,48 +39,73 @@ freeOf whole r = sumFreeF (r .condition) && (not whole || (sumFreeV (r .carries)
 unfoldable pub partnerFree : List ℕ → List ℕ → Process → ℕ → Bool → Bool
 partnerFree f s p k whole = freeOf whole (partnerBy f s p k)
 
+-- ---- marks
+
+abbrev pub noMark : Mark
+noMark = record { at = 0; free = true }
+
+-- of row k of the implementation: its place in the line of marks
+unfoldable pub markThere : List ℕ → List ℕ → Shape → ℕ → Mark
+markThere f s h k =
+    let at : ℕ = markPlace f s h k in
+    record { at = at - getD s (h .marks .first) 0; free = sumFreeF (readF 32 (drop at f) .tree) }
+
+-- where there is such a line, and the row is internal
+unfoldable pub markIn : List ℕ → List ℕ → Shape → ℕ → Mark
+markIn f s h k = cond (eqb (h .marks .count) 0) noMark (cond (internalB (rowBy f s (h .implementation) k)) (markThere f s h k) noMark)
+
 -- ---- the plan of a row
 
 -- one look does for all sum values where nothing reads them
 unfoldable pub looksOf : Bool → ℕ → ℕ
 looksOf free span = cond free (min span 1) span
 
--- of row k
-unfoldable pub rowPlanOf : List ℕ → List ℕ → Process → Process → Bool → ℕ → RowPlan
-rowPlanOf f s p o whole k =
+-- of row k, whose mark is m
+unfoldable pub rowPlanOf : List ℕ → List ℕ → Process → Process → Bool → Mark → ℕ → RowPlan
+rowPlanOf f s p o whole m k =
     let r : Row = rowBy f s p k in
     let j : ℕ = rowWith f s o (r .action) in
     record {
       partner = j;
-      looks = looksOf (freeOf whole r && partnerFree f s o j whole) (r .span);
+      looks = looksOf ((freeOf whole r && partnerFree f s o j whole) && m .free) (r .span);
+      internal = internalB r;
       free = sumFreeF (r .condition);
       front = frontOf f (lineOf s p k + 3) 32;
+      mark = m;
     }
 
 abbrev pub noRowPlan : RowPlan
-noRowPlan = record { partner = 0; looks = 0; free = false; front = 0 }
+noRowPlan = record { partner = 0; looks = 0; internal = false; free = false; front = 0; mark = noMark }
 
 -- where there is one
-unfoldable pub rowPlanIn : List ℕ → List ℕ → Process → Process → Bool → ℕ → RowPlan
-rowPlanIn f s p o whole k = cond (leb k (p .rows .count)) (rowPlanOf f s p o whole k) noRowPlan
+unfoldable pub rowPlanIn : List ℕ → List ℕ → Process → Process → Bool → Mark → ℕ → RowPlan
+rowPlanIn f s p o whole m k = cond (leb k (p .rows .count)) (rowPlanOf f s p o whole m k) noRowPlan
 
 -- number i of them: the rows of the implementation, whole, then those of the specification, of which only the conditions count
 unfoldable pub rowPlanFor : List ℕ → List ℕ → Shape → ℕ → RowPlan
 rowPlanFor f s h i =
-    cond (ltb i 32) (rowPlanIn f s (h .implementation) (h .specification) true (i + 1))
-    (rowPlanIn f s (h .specification) (h .implementation) false (i - 32 + 1))
+    cond (ltb i 32) (rowPlanIn f s (h .implementation) (h .specification) true (markIn f s h (i + 1)) (i + 1))
+    (rowPlanIn f s (h .specification) (h .implementation) false noMark (i - 32 + 1))
 
 -- ---- all of them: four numbers for each row
 
-unfoldable pub flagOf : Bool → ℕ
-flagOf b = cond b 1 0
+-- three flags: the last binary digits
+unfoldable pub twoFlags : Bool → Bool → ℕ
+twoFlags a b = cond a (cond b 3 1) (cond b 2 0)
+
+unfoldable pub flagsOf : Bool → Bool → Bool → ℕ
+flagsOf a b c = cond c (4 + twoFlags a b) (twoFlags a b)
+
+-- partner and flags, of which the first is below 64
+unfoldable pub packOf : ℕ → ℕ → ℕ
+packOf j flags = j % 64 + 64 * flags
 
 -- n of them from the i-th on
 unfoldable pub rowPlansFrom : List ℕ → List ℕ → Shape → ℕ → ℕ → List ℕ
 rowPlansFrom f s h zero i = []
 rowPlansFrom f s h (suc n) i =
     let e : RowPlan = rowPlanFor f s h i in
-    e .partner ∷ e .looks ∷ flagOf (e .free) ∷ e .front ∷ rowPlansFrom f s h n (suc i)
+    packOf (e .partner) (flagsOf (e .free) (e .mark .free) (e .internal)) ∷ e .looks ∷ e .front ∷ e .mark .at ∷ rowPlansFrom f s h n (suc i)
 
 unfoldable pub planIn : List ℕ → List ℕ → Shape → List ℕ
 planIn f s h = rowPlansFrom f s h 64 0
@@ -85,8 +113,10 @@ planIn f s h = rowPlansFrom f s h 64 0
 -- number i of any
 unfoldable pub rowPlanAt : List ℕ → ℕ → RowPlan
 rowPlanAt p i = record {
-  partner = getD p (4 * i) 0;
+  partner = getD p (4 * i) 0 % 64;
   looks = getD p (4 * i + 1) 0;
-  free = eqb (getD p (4 * i + 2) 0) 1;
-  front = getD p (4 * i + 3) 0;
+  internal = leb 4 (getD p (4 * i) 0 / 64);
+  free = eqb (getD p (4 * i) 0 / 64 % 2) 1;
+  front = getD p (4 * i + 2) 0;
+  mark = record { at = getD p (4 * i + 3) 0; free = eqb (getD p (4 * i) 0 / 64 / 2 % 2) 1 };
 }

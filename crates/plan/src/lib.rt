@@ -1,14 +1,16 @@
-// The plan of a walk: what does not change from state to state, worked out once for a design. Of each row its partner, the row of its action
-// in the other process; how many of its sum values need a look, one where nothing that is looked at reads the sum value; whether its
-// condition reads it; and how many conjuncts in front of its condition do not, so that a row that these rule out costs no more. What
-// each function computes is in specs/Plan. Every function answers any arrays.
+// The plan of a walk: what does not change from state to state, worked out once for a design. Of each row its partner, the row of its
+// action in the other process; whether it is internal; how many of its sum values need a look, one where nothing that is looked at reads
+// the sum value; whether its condition reads it; how many conjuncts in front of its condition do not, so that a row that these rule out
+// costs no more; and where its mark stands, and whether that reads the sum value. What each function computes is in specs/Plan. Every
+// function answers any arrays.
 use design::Process;
 use design::Shape;
 ghost use mathlib.Core.Path.{_≡_};
+ghost use mathlib.Core.Bool.{cond};
 ghost use Prim.Native.Nat.{_<_};
 ghost use lib.ListN.{drop};
 ghost use Rattle.design.specs.Line.{rowOf};
-ghost use Rattle.plan.specs.Plan.{valuesFree, freeOf, partnerFree, looksOf, flagOf, rowPlanOf, rowPlanIn, rowPlanFor, planIn, rowPlanAt};
+ghost use Rattle.plan.specs.Plan.{valuesFree, freeOf, partnerFree, looksOf, flagsOf, twoFlags, packOf, noMark, markIn, markThere, rowPlanOf, rowPlanIn, rowPlanFor, planIn, rowPlanAt};
 
 // What the plan has of a row.
 pub struct RowPlan {
@@ -16,14 +18,26 @@ pub struct RowPlan {
     pub partner: u16,
     // how many sum values need a look
     pub looks: u16,
+    pub internal: bool,
     // whether its condition does not read the sum value
     pub free: bool,
     // how many conjuncts in front of its condition do not
     pub front: u16,
+    pub mark: Mark,
 }
 
-// It is four numbers.
+// The mark of a row: its place in the line of marks, and whether it does not read the sum value. At place 0 stands the line's kind: it says
+// that there is no mark, and all steps of the row are marked.
+pub struct Mark {
+    pub at: u16,
+    pub free: bool,
+}
+
+// A row's plan is four numbers: partner and flags, looks, front, mark.
 const NUMBERS: usize = 4;
+
+// More than any row has for its number.
+const PARTNERS: u16 = 64;
 
 // A plan has them for each row of the implementation that there may be, and then for each of the specification.
 pub const ROWS: usize = limits::MAX_ROWS;
@@ -92,18 +106,61 @@ fn looks(free: bool, span: u16) -> u16
     1
 }
 
+// ---- marks
+
+fn no_mark() -> Mark
+    ensures { λ r. ⌜ r ≡ noMark ⌝ }
+{
+    Mark { at: 0, free: true }
+}
+
+// The mark of row k of the implementation, where there are marks and the row is internal.
+fn mark_of<'a>(fields: &'a limits::Fields, starts: &'a limits::Starts, shape: Shape, k: u16) -> Mark
+    ensures { λ r. ⌜ r ≡ markIn (now (fields .entry)) (now (starts .entry)) shape k ⌝ }
+{
+    if shape.marks.count == 0 {
+        return no_mark();
+    }
+    let line = steps::line_of(starts, shape.implementation, k);
+    let action = layout::field_of(fields, line, 1);
+    if action != 0 {
+        return no_mark();
+    }
+    mark_there(fields, starts, shape, k)
+}
+
+// The same of an internal row, where there are marks.
+fn mark_there<'a>(
+    fields: &'a limits::Fields,
+    starts: &'a limits::Starts,
+    shape: Shape,
+    k: u16,
+) -> Mark
+    ensures { λ r. ⌜ r ≡ markThere (now (fields .entry)) (now (starts .entry)) shape k ⌝ }
+{
+    let line = layout::line(starts, shape.marks.first as usize);
+    let place = steps::mark_place(fields, starts, shape, k);
+    let mark = sum_free::formula_sum_free(fields, place, limits::MAX_DEPTH);
+    let _all: &[u16] = fields; // for the proof: as a slice it has its length, which bounds the place
+    Mark {
+        at: (place - line as usize) as u16,
+        free: mark.free,
+    }
+}
+
 // ---- the plan of a row
 
-// The plan of row k of a process; whole rows are looked at with their partners, or only the conditions.
+// The plan of row k of a process, whose mark is given; whole rows are looked at with their partners, or only the conditions.
 fn row_plan_of<'a>(
     fields: &'a limits::Fields,
     starts: &'a limits::Starts,
     process: Process,
     other: Process,
     whole: bool,
+    mark: Mark,
     k: u16,
 ) -> RowPlan
-    ensures { λ r. ⌜ r ≡ rowPlanOf (now (fields .entry)) (now (starts .entry)) process other whole k ⌝ }
+    ensures { λ r. ⌜ r ≡ rowPlanOf (now (fields .entry)) (now (starts .entry)) process other whole mark k ⌝ }
 {
     let line = steps::line_of(starts, process, k);
     let action = layout::field_of(fields, line, 1);
@@ -113,9 +170,11 @@ fn row_plan_of<'a>(
         & partner_free(fields, starts, other, partner, whole);
     RowPlan {
         partner: partner,
-        looks: looks(free, span),
+        looks: looks(free & mark.free, span),
+        internal: action == 0,
         free: row_free(fields, line, process.parameters.count, false),
         front: conjuncts::front(fields, line as usize + 3),
+        mark: mark,
     }
 }
 
@@ -126,18 +185,21 @@ fn row_plan_in<'a>(
     process: Process,
     other: Process,
     whole: bool,
+    mark: Mark,
     k: u16,
 ) -> RowPlan
-    ensures { λ r. ⌜ r ≡ rowPlanIn (now (fields .entry)) (now (starts .entry)) process other whole k ⌝ }
+    ensures { λ r. ⌜ r ≡ rowPlanIn (now (fields .entry)) (now (starts .entry)) process other whole mark k ⌝ }
 {
     if k <= process.rows.count as u16 {
-        return row_plan_of(fields, starts, process, other, whole, k);
+        return row_plan_of(fields, starts, process, other, whole, mark, k);
     }
     RowPlan {
         partner: 0,
         looks: 0,
+        internal: false,
         free: false,
         front: 0,
+        mark: no_mark(),
     }
 }
 
@@ -161,6 +223,7 @@ fn row_plan_for<'a>(
             implementation,
             specification,
             true,
+            mark_of(fields, starts, shape, i as u16 + 1),
             i as u16 + 1,
         )
     } else {
@@ -170,15 +233,44 @@ fn row_plan_for<'a>(
             specification,
             implementation,
             false,
+            no_mark(),
             (i - ROWS) as u16 + 1,
         )
     }
 }
 
-fn flag(b: bool) -> u16
-    ensures { λ r. ⌜ r ≡ flagOf b ⌝ }
+// Three flags as a number: its last three binary digits.
+fn flags(first: bool, second: bool, third: bool) -> u16
+    ensures { λ r. ⌜ r ≡ flagsOf first second third ⌝ }
 {
-    if b { 1 } else { 0 }
+    if third {
+        return 4 + two_flags(first, second);
+    }
+    two_flags(first, second)
+}
+
+fn two_flags(first: bool, second: bool) -> u16
+    ensures { λ r. ⌜ r ≡ twoFlags first second ⌝ }
+{
+    if first {
+        return one_of(second, 3, 1);
+    }
+    one_of(second, 2, 0)
+}
+
+// The first number if so, else the other.
+fn one_of(so: bool, first: u16, other: u16) -> u16
+    ensures { λ r. ⌜ r ≡ cond so first other ⌝ }
+{
+    if so { first } else { other }
+}
+
+// A row's partner and its flags as one number.
+fn packed(partner: u16, flags: u16) -> u16
+    requires { ⌜ flags < 8 ⌝ }
+    ensures { λ r. ⌜ r ≡ packOf partner flags ⌝ }
+{
+    partner % PARTNERS + PARTNERS * flags
 }
 
 // All of them.
@@ -194,10 +286,11 @@ pub fn plan<'a>(
     while i < 2 * ROWS {
         let row = row_plan_for(fields, starts, shape, i);
         let at = NUMBERS * i;
-        out[at] = row.partner;
+        let flags = flags(row.free, row.mark.free, row.internal);
+        out[at] = packed(row.partner, flags);
         out[at + 1] = row.looks;
-        out[at + 2] = flag(row.free);
-        out[at + 3] = row.front;
+        out[at + 2] = row.front;
+        out[at + 3] = row.mark.at;
         i += 1;
     }
     out
@@ -209,10 +302,25 @@ pub fn row_plan_at(plan: &[u16; LENGTH], i: usize) -> RowPlan
     ensures { λ r. ⌜ r ≡ rowPlanAt (now (plan .entry)) i ⌝ }
 {
     let at = NUMBERS * i;
+    let flags = plan[at] / PARTNERS;
     RowPlan {
-        partner: plan[at],
+        partner: plan[at] % PARTNERS,
         looks: plan[at + 1],
-        free: plan[at + 2] == 1,
-        front: plan[at + 3],
+        internal: 4 <= flags,
+        free: flags % 2 == 1,
+        front: plan[at + 2],
+        mark: Mark {
+            at: plan[at + 3],
+            free: flags / 2 % 2 == 1,
+        },
     }
+}
+
+// How many conjuncts in front of the row's condition do not read the sum value, by number i of a plan: all that a row which they rule out
+// is asked for.
+pub fn front_at(plan: &[u16; LENGTH], i: usize) -> u16
+    requires { ⌜ i < 64 ⌝ }
+    ensures { λ r. ⌜ r ≡ rowPlanAt (now (plan .entry)) i .front ⌝ }
+{
+    plan[NUMBERS * i + 2]
 }

@@ -1,12 +1,14 @@
 -- By the right plan the quick test of specs/Passes is that of the crate decision for the design in the arrays, at an array v whose mapped
--- state t holds. Where nothing in a row and its partner reads the sum value, one look does for all.
+-- state t holds. Where nothing in a row, its mark and its partner reads the sum value, one look does for all.
 use mathlib.Core.Path.{_≡_, refl, sym, _∙_, ap}
 use mathlib.Core.Logic.{_⊎_, inl, inr}
-use mathlib.Core.Bool.{Bool, true, false, not, _&&_, _||_, true≢false, or-true, cond}
+use mathlib.Core.Bool.{Bool, true, false, not, _&&_, _||_, true≢false, or-true, and-true, cond}
 use mathlib.Core.List.{List, [], _∷_}
 use Prim.Native.Nat.{ℕ, zero, suc, _+_, _-_, _≤_, _<_, min}
 use native.Mathlib.Omega.{arith}
-use borrow.Author.Tests.{eqb-true}
+use native.Mathlib.Numerals.{add-one}
+use native.Mathlib.Decide.{decLt}
+use borrow.Author.Tests.{eqb-true, eq-eqb, ne-eqb}
 use lib.Dec.{eqb, ltb, eqb·suc-zero}
 use lib.ListN.{length, getD, drop, length-map}
 use Rattle.foundation.specs.First.{allIn}
@@ -15,9 +17,7 @@ use Rattle.foundation.specs.Radix.{sameB}
 use Rattle.foundation.specs.Reflects.{_⇒_}
 use Rattle.foundation.proofs.First.{all-alike, all-both, all-from}
 use Rattle.foundation.proofs.All.{all-in, all-yes}
-use Rattle.foundation.proofs.Nth.{each-alike}
-use Rattle.foundation.proofs.Trial.{place-passes}
-use Rattle.terms.specs.Tree.{Value, evalF}
+use Rattle.terms.specs.Tree.{Value, Formula, evalF}
 use Rattle.terms.specs.Read.{readF}
 use Rattle.terms.proofs.Read.{place}
 use Rattle.terms.proofs.And.{and-left, and-right}
@@ -25,29 +25,31 @@ use Rattle.sum_free.specs.SumFree.{sumFreeV, sumFreeF}
 use Rattle.sum_free.proofs.SumFree.{same-v, same-f}
 use Rattle.criteria.specs.Design.{Design, Row, State, values, mapped, measureAt}
 use Rattle.criteria.specs.Step.{nextState, dataNumber}
-use Rattle.criteria.specs.Rows.{noRow, rowAt, internalTest}
+use Rattle.criteria.specs.Rows.{rowAt, markedTest}
 use Rattle.criteria.proofs.Rows.{is-row-below}
-use Rattle.decision.specs.Tests.{enabledB, internalB, invariantStateB, focusB, rowNumber, partner, holds2, holds7}
+use Rattle.decision.specs.Tests.{enabledB, internalB, markedB, invariantStateB, focusB, rowNumber, partner, holds2, holds3, holds4, holds6, holds7, holds8, holds9}
 use Rattle.decision.specs.Quick.{allRows, rowHolds, stateHolds}
-use Rattle.decision.proofs.Quick.{by-numbers}
+use Rattle.decision.proofs.Quick.{rows-none}
 use Rattle.decision.proofs.Alike.{formula-alike}
 use Rattle.decision.proofs.Find.{Found, Missing, find, found-at, found-partner}
 use Rattle.design.specs.Line as line
-use Rattle.design.specs.Loaded.{lineFrom, eachLine, processIn, designAt}
+use Rattle.design.specs.Line.{formulasUsed}
+use Rattle.design.specs.Loaded.{lineFrom, processIn, designAt}
 use Rattle.design.specs.declared.Process.{Process}
 use Rattle.design.specs.declared.Shape.{Shape}
-use Rattle.layout.specs.Sizes.{Fits}
-use Rattle.steps.specs.Arrays.{padded, stepOf, valuesAt, lineOf, rowWith, sameIn, measureIn}
+use Rattle.layout.specs.Sizes.{Fits, internalIn}
+use Rattle.steps.specs.Arrays.{padded, stepOf, valuesAt, lineOf, rowWith, sameIn, measureIn, afterFormulas, markPlace}
 use Rattle.steps.specs.declared.Step.{Step}
 use Rattle.steps.proofs.Arrays.{row-there}
 use Rattle.steps.proofs.States as states
 use Rattle.conjuncts.specs.Conjuncts.{frontOf, guardIn}
 use Rattle.conjuncts.proofs.Conjuncts.{guards}
 use Rattle.conjuncts.specs.declared.Guarded.{Guarded}
-use Rattle.plan.specs.Plan.{rowBy, partnerBy, freeOf, partnerFree, looksOf, rowPlanOf, planIn, rowPlanAt}
+use Rattle.plan.specs.Plan.{rowBy, partnerBy, freeOf, partnerFree, looksOf, noMark, markThere, markIn, rowPlanOf, planIn, rowPlanAt}
 use Rattle.plan.specs.declared.RowPlan.{RowPlan}
+use Rattle.plan.specs.declared.Mark.{Mark}
 use Rattle.plan.proofs.Planned.{impl-row-plan, spec-row-plan}
-use Rattle.state_passes.specs.Passes.{rowFor, keptIn, answeredIn, stepIn, stepOfRow, seen, looksIn, rowIn, implIn, replyLooks, replyIn, specIn, passesIn}
+use Rattle.state_passes.specs.Passes.{rowFor, placeOf, markHolds, made, keptIn, answeredIn, stepIn, stepOfRow, seen, looksIn, rowIn, implIn, replyLooks, replyIn, specIn, passesIn}
 use Rattle.state_passes.specs.declared.Seen.{Seen}
 
 -- a row's condition for the sum value e, taken for 0 where it is said to be sum-free
@@ -70,27 +72,6 @@ all-looks : (g : ℕ → Bool) (free : Bool) (n : ℕ) → (free ≡ true → (j
 unfolding looksOf
 all-looks g true n h = all-once g n (h refl)
 all-looks g false n h = refl
-
--- each of the rows in n lines, by their numbers
-each-all : (G : Row → Bool) (says : List ℕ → Row) (l : ℕ → List ℕ) (n b : ℕ) → allIn (λ i. G (says (l (b + i)))) n 0 ≡ eachB G (eachLine says l n b)
-unfolding allIn eachLine
-each-all G says l zero b = refl
-each-all G says l (suc n) b =
-    let z : b + 0 ≡ b = omega arith in
-    rw z
-    (ap (λ r. G (says (l b)) && r)
-    (all-from (λ i. G (says (l (b + i)))) n 0
-    ∙ all-in (λ i. G (says (l (b + suc i)))) (λ i. G (says (l (suc b + i)))) n 0 (λ j p u. let e : b + suc j ≡ suc b + j = omega arith in rw e)
-    ∙ each-all G says l n (suc b)))
-
-each-yes : (rows : List Row) → eachB (λ (_ : Row). true) rows ≡ true
-each-yes [] = refl
-each-yes (r ∷ rows) = each-yes rows
-
--- the same from 1
-numbered : (G : Row → Bool) (rows : List Row) → G noRow ≡ true → allIn (λ k. G (rowAt rows k)) (suc (length rows)) 0 ≡ eachB G rows
-unfolding allIn
-numbered G rows none = rw none (all-from (λ k. G (rowAt rows k)) (length rows) 0 ∙ by-numbers G rows)
 
 seen-holds : (a b : Bool) → seen a b .holds ≡ a
 seen-holds true b = refl
@@ -147,13 +128,16 @@ condition-free : (r : Row) → freeOf false r ≡ true → sumFreeF (r .conditio
 unfolding freeOf
 condition-free r h = and-left (sumFreeF (r .condition)) true h
 
--- a condition taken for 0 where it does not read the sum value is the condition
-on-held : (r : Row) (x : State) (e : ℕ) → onIn r x (sumFreeF (r .condition)) e ≡ enabledB r x e
-on-held r x e = go (sumFreeF (r .condition)) refl
+-- a formula taken for 0 where it does not read the sum value is the formula
+taken-held : (t : Formula) (x : State) (e : ℕ) → evalF t x (cond (sumFreeF t) 0 e) ≡ evalF t x e
+taken-held t x e = go (sumFreeF t) refl
   where
-    go : (b : Bool) → sumFreeF (r .condition) ≡ b → evalF (r .condition) x (cond b 0 e) ≡ enabledB r x e
-    go true h = same-f (r .condition) x 0 e h
+    go : (b : Bool) → sumFreeF t ≡ b → evalF t x (cond b 0 e) ≡ evalF t x e
+    go true h = same-f t x 0 e h
     go false h = refl
+
+on-held : (r : Row) (x : State) (e : ℕ) → onIn r x (sumFreeF (r .condition)) e ≡ enabledB r x e
+on-held r x e = taken-held (r .condition) x e
 
 -- ---- the conjuncts in front of a condition
 
@@ -174,41 +158,49 @@ module _ (f s : List ℕ) (h : Shape) (v t : List ℕ) (l : ℕ) where
       row = line.rowOf (h .implementation .parameters .count) (drop l f)
 
       -- its step, by where the data stand
-      step-by-place : (g : Guarded) (e : ℕ) → stepIn f s h (rowFor g en (internalB row)) (l + 3 + readF 32 (drop (l + 3) f) .used) v t m e ≡ stepOfRow f s h row (en .partner) v t m e
+      step-by-place : en .internal ≡ internalB row → (g : Guarded) (p : ℕ) (marked : Bool) (e : ℕ)
+          → stepIn f s h (rowFor g en p) (made (l + 3 + readF 32 (drop (l + 3) f) .used) marked) v t m e ≡ stepOfRow f s h row marked (en .partner) v t m e
       unfolding stepIn stepOfRow valuesAt
-      step-by-place g e = rw (place f l 3 refl, place f (l + 3) _ refl, place f (l + 3 + _) _ refl)
+      step-by-place ei g p marked e = rw (ei, place f l 3 refl, place f (l + 3) _ refl, place f (l + 3 + _) _ refl)
 
-      guarded-row : cond (front v .holds) (looksIn f s h (rowFor (front v) en (internalB row)) v t m) (seen true true)
-          ≡ seen (allIn (λ e. onIn row v (en .free) e ⇒ stepOfRow f s h row (en .partner) v t m e) (en .looks) 0)
-          (not (internalB row) || allIn (λ e. not (onIn row v (en .free) e)) (en .looks) 0)
-      unfolding looksIn
-      guarded-row = go (front v .holds) refl
-        where
-          held : ℕ → Bool
-          held e = onIn row v (en .free) e ⇒ stepOfRow f s h row (en .partner) v t m e
+      module _ (p : ℕ) (ei : en .internal ≡ internalB row) where
+        -- its mark, which stands at p
+        abbrev marked : ℕ → Bool
+        marked e = markHolds f p v (cond (en .mark .free) 0 e)
 
-          off : ℕ → Bool
-          off e = not (onIn row v (en .free) e)
+        guarded-row : cond (front v .holds) (looksIn f s h (rowFor (front v) en p) v t m) (seen true true)
+            ≡ seen (allIn (λ e. onIn row v (en .free) e ⇒ stepOfRow f s h row (marked e) (en .partner) v t m e) (en .looks) 0)
+            (not (en .internal) || allIn (λ e. not (onIn row v (en .free) e && marked e)) (en .looks) 0)
+        unfolding looksIn
+        guarded-row = go (front v .holds) refl
+          where
+            held : ℕ → Bool
+            held e = onIn row v (en .free) e ⇒ stepOfRow f s h row (marked e) (en .partner) v t m e
 
-          go : (b : Bool) → front v .holds ≡ b → cond b (looksIn f s h (rowFor (front v) en (internalB row)) v t m) (seen true true)
-              ≡ seen (allIn held (en .looks) 0) (not (internalB row) || allIn off (en .looks) 0)
-          go true y =
-              let on : (e : ℕ) → rest v (cond (en .free) 0 e) ≡ onIn row v (en .free) e =
-              λ e. sym (on-guarded v (h .implementation .parameters .count) (cond (en .free) 0 e) ∙ ap (λ b. b && rest v (cond (en .free) 0 e)) y) in
-              let step : (e : ℕ) → stepIn f s h (rowFor (front v) en (internalB row)) (front v .at + readF (front v .depth) (drop (front v .at) f) .used) v t m e
-              ≡ stepOfRow f s h row (en .partner) v t m e =
-              λ e. ap (λ k. stepIn f s h (rowFor (front v) en (internalB row)) k v t m e) (sym (guards f v e 32 (l + 3) .ends y)) ∙ step-by-place (front v) e in
-              λ i. seen (all-alike _ held (en .looks) 0 (λ e k. on e k ⇒ step e k) i) (not (internalB row) || all-alike _ off (en .looks) 0 (λ e. ap not (on e)) i)
-          go false y =
-              let none : (e : ℕ) → onIn row v (en .free) e ≡ false =
-              λ e. on-guarded v (h .implementation .parameters .count) (cond (en .free) 0 e) ∙ ap (λ b. b && rest v (cond (en .free) 0 e)) y in
-              sym
-              (rw (
-                all-alike held (λ _. true) (en .looks) 0 (λ e. ap (λ b. b ⇒ stepOfRow f s h row (en .partner) v t m e) (none e)),
-                all-alike off (λ _. true) (en .looks) 0 (λ e. ap not (none e)),
-                all-yes (λ _. true) (λ _. refl) (en .looks) 0,
-                or-true (not (internalB row)),
-              ))
+            off : ℕ → Bool
+            off e = not (onIn row v (en .free) e && marked e)
+
+            go : (b : Bool) → front v .holds ≡ b → cond b (looksIn f s h (rowFor (front v) en p) v t m) (seen true true)
+                ≡ seen (allIn held (en .looks) 0) (not (en .internal) || allIn off (en .looks) 0)
+            go true y =
+                let on : (e : ℕ) → rest v (cond (en .free) 0 e) ≡ onIn row v (en .free) e =
+                λ e. sym (on-guarded v (h .implementation .parameters .count) (cond (en .free) 0 e) ∙ ap (λ b. b && rest v (cond (en .free) 0 e)) y) in
+                let step : (e : ℕ) → stepIn f s h (rowFor (front v) en p) (made (front v .at + readF (front v .depth) (drop (front v .at) f) .used) (marked e)) v t m e
+                ≡ stepOfRow f s h row (marked e) (en .partner) v t m e =
+                λ e. ap (λ k. stepIn f s h (rowFor (front v) en p) (made k (marked e)) v t m e) (sym (guards f v e 32 (l + 3) .ends y))
+                ∙ step-by-place ei (front v) p (marked e) e in
+                λ i. seen (all-alike _ held (en .looks) 0 (λ e k. on e k ⇒ step e k) i)
+                (not (en .internal) || all-alike _ off (en .looks) 0 (λ e. ap (λ b. not (b && marked e)) (on e)) i)
+            go false y =
+                let none : (e : ℕ) → onIn row v (en .free) e ≡ false =
+                λ e. on-guarded v (h .implementation .parameters .count) (cond (en .free) 0 e) ∙ ap (λ b. b && rest v (cond (en .free) 0 e)) y in
+                sym
+                (rw (
+                  all-alike held (λ _. true) (en .looks) 0 (λ e. ap (λ b. b ⇒ stepOfRow f s h row (marked e) (en .partner) v t m e) (none e)),
+                  all-alike off (λ _. true) (en .looks) 0 (λ e. ap (λ b. not (b && marked e)) (none e)),
+                  all-yes (λ _. true) (λ _. refl) (en .looks) 0,
+                  or-true (not (en .internal)),
+                ))
 
     abbrev back : Row
     back = line.rowOf (h .specification .parameters .count) (drop l f)
@@ -216,7 +208,7 @@ module _ (f s : List ℕ) (h : Shape) (v t : List ℕ) (l : ℕ) where
     abbrev enabledBack : ℕ → Bool
     enabledBack e = enabledB (partnerBy f s (h .implementation) (en .partner)) v e
 
-    guarded-reply : cond (front t .holds) (replyLooks f s (h .implementation) (rowFor (front t) en false) v t) true
+    guarded-reply : cond (front t .holds) (replyLooks f s (h .implementation) (rowFor (front t) en 0) v t) true
         ≡ allIn (λ e. onIn back t (en .free) e ⇒ enabledBack e) (en .looks) 0
     unfolding replyLooks
     guarded-reply = go (front t .holds) refl
@@ -227,7 +219,7 @@ module _ (f s : List ℕ) (h : Shape) (v t : List ℕ) (l : ℕ) where
         on : (e : ℕ) → onIn back t (en .free) e ≡ front t .holds && rest t (cond (en .free) 0 e)
         on e = on-guarded t (h .specification .parameters .count) (cond (en .free) 0 e)
 
-        go : (b : Bool) → front t .holds ≡ b → cond b (replyLooks f s (h .implementation) (rowFor (front t) en false) v t) true ≡ allIn held (en .looks) 0
+        go : (b : Bool) → front t .holds ≡ b → cond b (replyLooks f s (h .implementation) (rowFor (front t) en 0) v t) true ≡ allIn held (en .looks) 0
         go true y = all-alike _ held (en .looks) 0 (λ e. ap (λ b. b ⇒ enabledBack e) (sym (on e ∙ ap (λ b. b && rest t (cond (en .free) 0 e)) y)))
         go false y =
             sym (all-alike held (λ _. true) (en .looks) 0 (λ e. ap (λ b. b ⇒ enabledBack e) (on e ∙ ap (λ b. b && rest t (cond (en .free) 0 e)) y)) ∙ all-yes (λ _. true) (λ _. refl) (en .looks) 0)
@@ -262,6 +254,76 @@ module _ (f s : List ℕ) (p : Process) where
           let n = states.rows-count f s p in
           rw (eqb·suc-zero j) (sym (row-there f s p (suc j) (omega arith) (omega arith)))
       go (suc j) e (inr m) = absurd (let z = m .number in omega arith)
+
+  -- what is asked of each row, by its number
+  numbered : (G : ℕ → Row → Bool) → allIn (λ i. G (i + 1) (rowIs i)) (p .rows .count) 0
+      ≡ allIn (λ k. G k (rowAt (processIn f s p .rows) k)) (length (processIn f s p .rows)) 1
+  numbered G =
+      all-in (λ i. G (i + 1) (rowIs i)) (λ i. G (suc i) (rowAt (processIn f s p .rows) (suc i))) (p .rows .count) 0 same
+      ∙ ap (λ n. allIn (λ i. G (suc i) (rowAt (processIn f s p .rows) (suc i))) n 0) (sym (states.rows-count f s p))
+      ∙ sym (all-from (λ k. G k (rowAt (processIn f s p .rows) k)) (length (processIn f s p .rows)) 0)
+    where
+      same : (i : ℕ) → 0 ≤ i → i < 0 + p .rows .count → G (i + 1) (rowIs i) ≡ G (suc i) (rowAt (processIn f s p .rows) (suc i))
+      same i z l =
+          let e : p .rows .first + suc i - 1 ≡ p .rows .first + i = omega arith in
+          rw (add-one i, row-there f s p (suc i) (omega arith) (omega arith), e)
+
+-- ---- the mark of an internal row, by its plan
+
+module _ (f s : List ℕ) (h : Shape) (v : State) (i : ℕ) where
+  abbrev mark : Mark
+  mark = markIn f s h (i + 1)
+
+  abbrev start : ℕ
+  start = getD s (h .marks .first) 0
+
+  -- where it stands, by the plan and by the arrays
+  abbrev planned : ℕ
+  planned = cond (eqb (mark .at) 0) 0 (start + mark .at)
+
+  abbrev at : ℕ
+  at = markPlace f s h (i + 1)
+
+  after-start : start < at
+  unfolding markPlace afterFormulas
+  after-start = omega arith
+
+  module _ (below : i < h .implementation .rows .count) (int : internalB (rowIs f s (h .implementation) i) ≡ true) where
+    abbrev marks : ℕ → Bool
+    marks e = markHolds f planned v (cond (mark .free) 0 e)
+
+    -- without a line of marks
+    none-given : h .marks .count ≡ 0 → (e : ℕ) → marks e ≡ markedB (designAt f s h) (i + 1) v e
+    unfolding markIn markHolds evalF
+    none-given n e = rw (eq-eqb (h .marks .count) 0 n) (ap (λ (g : Formula). evalF g v e) (sym (states.mark-none f s h (i + 1) n)))
+
+    -- with one
+    row-internal : rowAt (designAt f s h .impl .rows) (i + 1) .action ≡ 0
+    row-internal =
+        let e : h .implementation .rows .first + (i + 1) - 1 ≡ h .implementation .rows .first + i = omega arith in
+        let is : rowAt (designAt f s h .impl .rows) (i + 1) ≡ rowIs f s (h .implementation) i =
+        row-there f s (h .implementation) (i + 1) (omega arith) (omega arith) ∙ rw e in
+        ap (λ (r : Row). r .action) is ∙ eqb-true (rowIs f s (h .implementation) i .action) 0 int
+
+    mark-is : (h .marks .count ≡ 0 → ⊥) → mark ≡ markThere f s h (i + 1)
+    unfolding markIn
+    mark-is some = rw (ne-eqb (h .marks .count) 0 some, row-by f s (h .implementation) i, int)
+
+    some-given : (h .marks .count ≡ 0 → ⊥) → (e : ℕ) → marks e ≡ markedB (designAt f s h) (i + 1) v e
+    unfolding markThere markHolds
+    some-given some e =
+        let l = after-start in
+        let p : start + (at - start) ≡ at = omega arith in
+        rw (mark-is some, ne-eqb (at - start) 0 (λ z. omega arith), p, ne-eqb at 0 (λ z. omega arith))
+        (taken-held (readF 32 (drop at f) .tree) v e
+        ∙ ap (λ (g : Formula). evalF g v e) (sym (states.mark-held f s h (i + 1) (omega arith) (omega arith) row-internal some)))
+
+    marks-are : (e : ℕ) → marks e ≡ markedB (designAt f s h) (i + 1) v e
+    marks-are e = go (decLt 0 (h .marks .count))
+      where
+        go : Dec (0 < h .marks .count) → marks e ≡ markedB (designAt f s h) (i + 1) v e
+        go (yes c) = some-given (λ z. omega arith) e
+        go (no c) = none-given (omega arith) e
 
 -- ---- the design
 
@@ -326,9 +388,10 @@ module _ (f s : List ℕ) (h : Shape) (fits : Fits h) (v : State) where
               ∙ states.rows-length f s (h .specification) (g .at) (g .row) (g .is-row) in
               rw (states.same-held (mapped d n) (nextState q y e) n2 (states.mapped-length f s h n) long-next (fits .specification .parameters))
 
-      step-held : stepOfRow f s h r j v t (measureAt d v) e ≡ invariantStateB d n && cond (internalB r) (sameB y (mapped d n) && ltb (measureAt d n) (measureAt d v)) answers
+      step-held : (marked : Bool) → stepOfRow f s h r marked j v t (measureAt d v) e
+          ≡ invariantStateB d n && cond (internalB r) (sameB y (mapped d n) && (marked ⇒ ltb (measureAt d n) (measureAt d v))) answers
       unfolding stepOfRow keptIn
-      step-held =
+      step-held marked =
           rw (
             states.inside-held f s h fits n n-length,
             states.mapped-held f s h n n-short,
@@ -337,48 +400,88 @@ module _ (f s : List ℕ) (h : Shape) (fits : Fits h) (v : State) where
             answered-held,
           )
 
-      row-held : (enabledB r v e ⇒ stepOfRow f s h r j v t (measureAt d v) e) ≡ rowHolds d v r e
-      row-held =
-          rw step-held
-          (at-once (enabledB r v e) (invariantStateB d n) (internalB r) (sameB y (mapped d n)) (ltb (measureAt d n) (measureAt d v)) (enabledB q y e) (eqb j 0)
+      -- of any mark
+      row-made : (marked : Bool) → (enabledB r v e ⇒ stepOfRow f s h r marked j v t (measureAt d v) e)
+          ≡ holds3 d v r e && (holds4 d v r e && ((enabledB r v e ⇒ internalB r ⇒ marked ⇒ ltb (measureAt d n) (measureAt d v)) && (holds6 d v r e && (holds8 d v r e && holds9 d v r e))))
+      row-made marked =
+          rw (step-held marked)
+          (at-once (enabledB r v e) (invariantStateB d n) (internalB r) (sameB y (mapped d n)) (marked ⇒ ltb (measureAt d n) (measureAt d v)) (enabledB q y e) (eqb j 0)
           (eqb (dataNumber r v e) (dataNumber q y e)) (sameB (mapped d n) (nextState q y e)) (λ z. no-row (r .action) e (eqb-true j 0 z)))
 
-    -- one look does for all
-    abbrev free : Bool
-    free = freeOf true r && freeOf true q
+    -- ---- row number k, whose mark says `marks`, and is sum-free or not
 
-    row-once : free ≡ true → (e : ℕ) → rowHolds d v r e ≡ rowHolds d v r 0
-    row-once z e =
-        let a : AsForZero r v e = as-for-zero r v e (and-left (freeOf true r) (freeOf true q) z) in
-        let b : AsForZero q y e = as-for-zero q y e (and-right (freeOf true r) (freeOf true q) z) in
-        rw (a .on, a .number, a .next, b .on, b .number, b .next)
+    module _ (k : ℕ) (marks : ℕ → Bool) (steady : Bool) (once : steady ≡ true → (e : ℕ) → marks e ≡ marks 0)
+        (says : internalB r ≡ true → (e : ℕ) → marks e ≡ markedB d k v e) where
+      -- the mark of a row that is not internal is not asked for
+      mark-behind : (e : ℕ) (x : Bool) → (internalB r ⇒ marks e ⇒ x) ≡ (internalB r ⇒ markedB d k v e ⇒ x)
+      mark-behind e x = go (internalB r) refl
+        where
+          go : (b : Bool) → internalB r ≡ b → (b ⇒ marks e ⇒ x) ≡ (b ⇒ markedB d k v e ⇒ x)
+          go true z = ap (λ m. m ⇒ x) (says z e)
+          go false z = refl
 
-    quiet-once : free ≡ true → (e : ℕ) → not (enabledB r v e) ≡ not (enabledB r v 0)
-    quiet-once z e = let a : AsForZero r v e = as-for-zero r v e (and-left (freeOf true r) (freeOf true q) z) in rw (a .on)
+      row-held : (e : ℕ) → (enabledB r v e ⇒ stepOfRow f s h r (marks e) j v t (measureAt d v) e) ≡ rowHolds d v k r e
+      row-held e =
+          row-made e (marks e)
+          ∙ ap (λ b. holds3 d v r e && (holds4 d v r e && ((enabledB r v e ⇒ b) && (holds6 d v r e && (holds8 d v r e && holds9 d v r e)))))
+          (mark-behind e (ltb (measureAt d (nextState r v e)) (measureAt d v)))
 
-    abbrev looks : ℕ
-    looks = looksOf free (r .span)
+      -- one look does for all
+      abbrev parts : Bool
+      parts = freeOf true r && freeOf true q
 
-    abbrev allHold : Bool
-    allHold = allIn (λ e. rowHolds d v r e) (r .span) 0
+      abbrev free : Bool
+      free = parts && steady
 
-    abbrev allQuiet : Bool
-    allQuiet = allIn (λ e. not (internalTest v r e)) (r .span) 0
+      row-zero : free ≡ true → (e : ℕ) → AsForZero r v e
+      row-zero z e = as-for-zero r v e (and-left (freeOf true r) (freeOf true q) (and-left parts steady z))
 
-    all-held : allIn (λ e. onIn r v (sumFreeF (r .condition)) e ⇒ stepOfRow f s h r j v t (measureAt d v) e) looks 0 ≡ allHold
-    all-held =
-        all-alike _ (λ e. rowHolds d v r e) looks 0 (λ e. ap (λ b. b ⇒ stepOfRow f s h r j v t (measureAt d v) e) (on-held r v e) ∙ row-held e)
-        ∙ all-looks (λ e. rowHolds d v r e) free (r .span) row-once
+      partner-zero : free ≡ true → (e : ℕ) → AsForZero q y e
+      partner-zero z e = as-for-zero q y e (and-right (freeOf true r) (freeOf true q) (and-left parts steady z))
 
-    quiet-held : not (internalB r) || allIn (λ e. not (onIn r v (sumFreeF (r .condition)) e)) looks 0 ≡ allQuiet
-    quiet-held =
-        ap (λ b. not (internalB r) || b)
-        (all-alike _ (λ e. not (enabledB r v e)) looks 0 (λ e. ap not (on-held r v e)) ∙ all-looks (λ e. not (enabledB r v e)) free (r .span) quiet-once)
-        ∙ go (internalB r) refl
-      where
-        go : (b : Bool) → internalB r ≡ b → not b || allIn (λ e. not (enabledB r v e)) (r .span) 0 ≡ allQuiet
-        go true z = all-alike (λ e. not (enabledB r v e)) (λ e. not (internalTest v r e)) (r .span) 0 (λ e. ap (λ b. not (b && enabledB r v e)) (sym z))
-        go false z = sym (all-alike (λ e. not (internalTest v r e)) (λ _. true) (r .span) 0 (λ e. ap (λ b. not (b && enabledB r v e)) z) ∙ all-yes (λ _. true) (λ _. refl) (r .span) 0)
+      looked : ℕ → Bool
+      looked e = enabledB r v e ⇒ stepOfRow f s h r (marks e) j v t (measureAt d v) e
+
+      row-once : free ≡ true → (e : ℕ) → looked e ≡ looked 0
+      unfolding looked
+      row-once z e =
+          let a = row-zero z e in
+          let b = partner-zero z e in
+          row-made e (marks e) ∙ rw (a .on, a .number, a .next, b .on, b .number, b .next, once (and-right parts steady z) e) (sym (row-made 0 (marks 0)))
+
+      quiet-once : free ≡ true → (e : ℕ) → not (enabledB r v e && marks e) ≡ not (enabledB r v 0 && marks 0)
+      quiet-once z e = let a = row-zero z e in rw (a .on, once (and-right parts steady z) e)
+
+      abbrev looks : ℕ
+      looks = looksOf free (r .span)
+
+      abbrev allHold : Bool
+      allHold = allIn (λ e. rowHolds d v k r e) (r .span) 0
+
+      abbrev allQuiet : Bool
+      allQuiet = allIn (λ e. not (markedTest d v k r e)) (r .span) 0
+
+      all-held : allIn (λ e. onIn r v (sumFreeF (r .condition)) e ⇒ stepOfRow f s h r (marks e) j v t (measureAt d v) e) looks 0 ≡ allHold
+      unfolding looked
+      all-held =
+          all-alike _ looked looks 0 (λ e. ap (λ b. b ⇒ stepOfRow f s h r (marks e) j v t (measureAt d v) e) (on-held r v e))
+          ∙ all-looks looked free (r .span) row-once
+          ∙ all-alike looked (λ e. rowHolds d v k r e) (r .span) 0 row-held
+
+      quiet-held : not (internalB r) || allIn (λ e. not (onIn r v (sumFreeF (r .condition)) e && marks e)) looks 0 ≡ allQuiet
+      quiet-held =
+          ap (λ b. not (internalB r) || b)
+          (all-alike _ (λ e. not (enabledB r v e && marks e)) looks 0 (λ e. ap (λ b. not (b && marks e)) (on-held r v e))
+          ∙ all-looks (λ e. not (enabledB r v e && marks e)) free (r .span) quiet-once)
+          ∙ go (internalB r) refl
+        where
+          go : (b : Bool) → internalB r ≡ b → not b || allIn (λ e. not (enabledB r v e && marks e)) (r .span) 0 ≡ allQuiet
+          go true z =
+              all-alike (λ e. not (enabledB r v e && marks e)) (λ e. not (markedTest d v k r e)) (r .span) 0
+              (λ e. ap (λ b. not (enabledB r v e && b)) (says z e) ∙ ap (λ b. not (b && (enabledB r v e && markedB d k v e))) (sym z))
+          go false z =
+              sym (all-alike (λ e. not (markedTest d v k r e)) (λ _. true) (r .span) 0 (λ e. ap (λ b. not (b && (enabledB r v e && markedB d k v e))) z)
+              ∙ all-yes (λ _. true) (λ _. refl) (r .span) 0)
 
   -- ---- the rows of the implementation by the plan
 
@@ -394,64 +497,78 @@ module _ (f s : List ℕ) (h : Shape) (fits : Fits h) (v : State) where
   impl-long : (i : ℕ) → length (implRow i .next) ≡ n1
   impl-long i = states.in-length n1 _
 
-  abbrev implPlan : ℕ → RowPlan
-  implPlan i = record {
-    partner = j (implRow i) (impl-long i);
-    looks = looks (implRow i) (impl-long i);
-    free = sumFreeF (implRow i .condition);
-    front = frontOf f (getD s (h .implementation .rows .first + i) 0 + 3) 32;
-  }
+  abbrev implMark : ℕ → Mark
+  implMark i = markIn f s h (i + 1)
 
-  impl-plan : (i : ℕ) → i < rows → rowPlanAt p i ≡ implPlan i
-  unfolding rowPlanOf partnerFree rowWith
-  impl-plan i l =
-      let few = fits .implementation .rows in
-      impl-row-plan f s h i (omega arith) l
-      ∙ rw (partner-by f s (h .specification) (rowBy f s (h .implementation) (i + 1) .action), row-by f s (h .implementation) i, row-line f s (h .implementation) i)
+  abbrev implMarks : ℕ → ℕ → Bool
+  implMarks i e = markHolds f (planned f s h v i) v (cond (implMark i .free) 0 e)
 
-  abbrev holdsAt : ℕ → Bool
-  holdsAt i = allHold (implRow i) (impl-long i)
+  marks-once : (i : ℕ) → implMark i .free ≡ true → (e : ℕ) → implMarks i e ≡ implMarks i 0
+  marks-once i z e = rw z
 
-  abbrev quietAt : ℕ → Bool
-  quietAt i = allQuiet (implRow i) (impl-long i)
+  module _ (i : ℕ) (l : i < rows) where
+    says : internalB (implRow i) ≡ true → (e : ℕ) → implMarks i e ≡ markedB d (i + 1) v e
+    says int = marks-are f s h v i l int
+
+    abbrev implPlan : RowPlan
+    implPlan = record {
+      partner = j (implRow i) (impl-long i);
+      looks = looks (implRow i) (impl-long i) (i + 1) (implMarks i) (implMark i .free) (marks-once i) says;
+      internal = internalB (implRow i);
+      free = sumFreeF (implRow i .condition);
+      front = frontOf f (getD s (h .implementation .rows .first + i) 0 + 3) 32;
+      mark = implMark i;
+    }
+
+    impl-plan : rowPlanAt p i ≡ implPlan
+    unfolding rowPlanOf partnerFree rowWith
+    impl-plan =
+        let few = fits .implementation .rows in
+        impl-row-plan f s h fits i (omega arith) l
+        ∙ rw (partner-by f s (h .specification) (rowBy f s (h .implementation) (i + 1) .action), row-by f s (h .implementation) i, row-line f s (h .implementation) i)
+
+  -- what is asked of row k
+  abbrev holdsAt : ℕ → Row → Bool
+  holdsAt k z = allIn (λ e. rowHolds d v k z e) (z .span) 0
+
+  abbrev quietAt : ℕ → Row → Bool
+  quietAt k z = allIn (λ e. not (markedTest d v k z e)) (z .span) 0
 
   abbrev seenAt : ℕ → Seen
   seenAt i = rowIn f s h (i + 1) (rowPlanAt p i) v t (measureIn f s h v)
 
-  row-seen : (i : ℕ) → i < rows → seenAt i ≡ seen (holdsAt i) (quietAt i)
+  row-seen : (i : ℕ) → i < rows → seenAt i ≡ seen (holdsAt (i + 1) (implRow i)) (quietAt (i + 1) (implRow i))
   unfolding rowIn measureIn
   row-seen i l =
-      rw (impl-plan i l, row-by f s (h .implementation) i, row-line f s (h .implementation) i)
-      (guarded-row f s h v t (getD s (h .implementation .rows .first + i) 0) (implPlan i) (measureAt d v)
-      ∙ rw (all-held (implRow i) (impl-long i), quiet-held (implRow i) (impl-long i)))
+      rw (impl-plan i l, row-line f s (h .implementation) i)
+      (guarded-row f s h v t (getD s (h .implementation .rows .first + i) 0) (implPlan i l) (measureAt d v) (planned f s h v i) refl
+      ∙ rw (
+        all-held (implRow i) (impl-long i) (i + 1) (implMarks i) (implMark i .free) (marks-once i) (says i l),
+        quiet-held (implRow i) (impl-long i) (i + 1) (implMarks i) (implMark i .free) (marks-once i) (says i l),
+      ))
 
   abbrev rowsHold : Bool
-  rowsHold = allIn holdsAt rows 0
+  rowsHold = allIn (λ i. holdsAt (i + 1) (implRow i)) rows 0
 
   abbrev rowsQuiet : Bool
-  rowsQuiet = allIn quietAt rows 0
+  rowsQuiet = allIn (λ i. quietAt (i + 1) (implRow i)) rows 0
 
   impl-held : implIn f s h p v t (measureIn f s h v) ≡ seen rowsHold (rowsHold && rowsQuiet)
   unfolding implIn
   impl-held =
+      let ho : ℕ → Bool = λ i. holdsAt (i + 1) (implRow i) in
+      let qu : ℕ → Bool = λ i. quietAt (i + 1) (implRow i) in
       rw (
-        all-in (λ i. seenAt i .holds) holdsAt rows 0 (λ i z u. ap (λ (g : Seen). g .holds) (row-seen i (omega arith)) ∙ seen-holds (holdsAt i) (quietAt i)),
-        all-in (λ i. seenAt i .quiet) (λ i. holdsAt i && quietAt i) rows 0 (λ i z u. ap (λ (g : Seen). g .quiet) (row-seen i (omega arith)) ∙ seen-quiet (holdsAt i) (quietAt i)),
-        all-both holdsAt quietAt rows 0,
+        all-in (λ i. seenAt i .holds) ho rows 0 (λ i z u. ap (λ (g : Seen). g .holds) (row-seen i (omega arith)) ∙ seen-holds (ho i) (qu i)),
+        all-in (λ i. seenAt i .quiet) (λ i. ho i && qu i) rows 0 (λ i z u. ap (λ (g : Seen). g .quiet) (row-seen i (omega arith)) ∙ seen-quiet (ho i) (qu i)),
+        all-both ho qu rows 0,
       )
 
   rows-held : rowsHold ≡ allRows (d .impl .rows) (rowHolds d v)
-  rows-held = each-all (λ z. allIn (λ e. rowHolds d v z e) (z .span) 0) (line.rowOf n1) (lineFrom f s) rows (h .implementation .rows .first)
+  rows-held = numbered f s (h .implementation) holdsAt
 
   focus-held : rowsQuiet ≡ focusB d v
-  unfolding allIn
-  focus-held =
-      each-all (λ z. allIn (λ e. not (internalTest v z e)) (z .span) 0) (line.rowOf n1) (lineFrom f s) rows (h .implementation .rows .first)
-      ∙ sym (place-passes (suc (length (d .impl .rows))) (λ k. rowAt (d .impl .rows) k .span) (λ k e. internalTest v (rowAt (d .impl .rows) k) e) (λ k e. (k, e))
-      ∙ numbered (λ z. allIn (λ e. not (internalTest v z e)) (z .span) 0) (d .impl .rows) none)
-    where
-      none : allIn (λ e. not (internalTest v noRow e)) 0 0 ≡ true
-      none = refl
+  focus-held = numbered f s (h .implementation) quietAt ∙ sym (rows-none (d .impl .rows) (markedTest d v) (λ k e. (k, e)))
 
   -- ---- the rows of the specification by the plan
 
@@ -488,16 +605,18 @@ module _ (f s : List ℕ) (h : Shape) (fits : Fits h) (v : State) where
   specPlan i = record {
     partner = rowNumber (d .impl) (specRow i .action);
     looks = looksOf (otherFree (specRow i)) (specRow i .span);
+    internal = internalB (specRow i);
     free = sumFreeF (specRow i .condition);
     front = frontOf f (getD s (h .specification .rows .first + i) 0 + 3) 32;
+    mark = noMark;
   }
 
   spec-plan : (i : ℕ) → i < h .specification .rows .count → rowPlanAt p (32 + i) ≡ specPlan i
   unfolding rowPlanOf partnerFree rowWith
   spec-plan i l =
       let few = fits .specification .rows in
-      spec-row-plan f s h i (omega arith) l
-      ∙ rw (partner-by f s (h .implementation) (rowBy f s (h .specification) (i + 1) .action), row-by f s (h .specification) i, row-line f s (h .specification) i)
+      spec-row-plan f s h fits i (omega arith) l
+      ∙ rw (partner-by f s (h .implementation) (rowBy f s (h .specification) (i + 1) .action), row-by f s (h .specification) i, row-line f s (h .specification) i, and-true (otherFree (specRow i)))
 
   row-replied : (i : ℕ) → i < h .specification .rows .count → replyIn f s h (i + 1) (rowPlanAt p (32 + i)) v t ≡ allIn (replies (specRow i)) (specRow i .span) 0
   unfolding replyIn
@@ -505,24 +624,27 @@ module _ (f s : List ℕ) (h : Shape) (fits : Fits h) (v : State) where
       rw (spec-plan i l, row-line f s (h .specification) i)
       (guarded-reply f s h v t (getD s (h .specification .rows .first + i) 0) (specPlan i) ∙ reply-held (specRow i))
 
+  -- what criterion 7 asks of row k
+  abbrev replied7 : ℕ → Row → ℕ → Bool
+  replied7 k z e = enabledB z y e ⇒ enabledB (partner (d .impl) (z .action)) v e
+
   abbrev sevens : Bool
-  sevens = allRows (d .spec .rows) (λ z e. enabledB z y e ⇒ enabledB (partner (d .impl) (z .action)) v e)
+  sevens = allRows (d .spec .rows) replied7
 
   spec-held : specIn f s h p v t ≡ sevens
   unfolding specIn
   spec-held =
       all-in (λ i. replyIn f s h (i + 1) (rowPlanAt p (32 + i)) v t) (λ i. allIn (replies (specRow i)) (specRow i .span) 0) (h .specification .rows .count) 0
       (λ i z u. row-replied i (omega arith))
-      ∙ each-all (λ z. allIn (λ e. enabledB z y e ⇒ enabledB (partner (d .impl) (z .action)) v e) (z .span) 0) (line.rowOf n2) (lineFrom f s) (h .specification .rows .count)
-      (h .specification .rows .first)
+      ∙ numbered f s (h .specification) (λ k z. allIn (λ e. replied7 k z e) (z .span) 0)
 
   -- criterion 7 at a focus point, and nothing elsewhere
-  sevens-held : (focusB d v ⇒ sevens) ≡ allRows (d .spec .rows) (holds7 d v)
+  sevens-held : (focusB d v ⇒ sevens) ≡ allRows (d .spec .rows) (λ _. holds7 d v)
   sevens-held = go (focusB d v)
     where
-      go : (b : Bool) → (b ⇒ sevens) ≡ allRows (d .spec .rows) (λ z e. b ⇒ enabledB z y e ⇒ enabledB (partner (d .impl) (z .action)) v e)
+      go : (b : Bool) → (b ⇒ sevens) ≡ allRows (d .spec .rows) (λ k z e. b ⇒ replied7 k z e)
       go true = refl
-      go false = sym (each-alike _ (λ _. true) (d .spec .rows) (λ z. all-yes (λ _. true) (λ _. refl) (z .span) 0) ∙ each-yes (d .spec .rows))
+      go false = sym (all-yes _ (λ k. all-yes (λ _. true) (λ _. refl) (rowAt (d .spec .rows) k .span) 0) (length (d .spec .rows)) 1)
 
   -- ---- the state
 

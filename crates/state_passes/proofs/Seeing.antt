@@ -28,9 +28,11 @@ use Rattle.conjuncts.specs.Conjuncts.{guardIn}
 use Rattle.conjuncts.specs.declared.Guarded.{Guarded}
 use Rattle.plan.specs.Plan.{rowBy, partnerBy, rowPlanAt}
 use Rattle.plan.specs.declared.RowPlan.{RowPlan}
-use Rattle.state_passes.specs.Passes.{rowFor, left, onAt, knownIn, keptIn, answeredIn, stepIn, seen, lookIn, looksIn, rowIn, implIn, repliedIn, replyLooks, replyIn, specIn, passesIn}
+use Rattle.state_passes.specs.Passes.{rowFor, placeOf, left, onAt, knownIn, markHolds, markAt, knownMark, made, keptIn, answeredIn, stepIn, seen, lookIn, looksIn, rowIn, implIn, repliedIn, replyLooks, replyIn, specIn, passesIn}
 use Rattle.state_passes.specs.declared.Seen.{Seen}
 use Rattle.state_passes.specs.declared.Row.{Row}
+use Rattle.state_passes.specs.declared.First.{First}
+use Rattle.state_passes.specs.declared.Made.{Made}
 
 -- ---- what is known of a condition
 
@@ -53,16 +55,58 @@ module _ (f : List ℕ) (row : Row) (v : List ℕ) (first : Held) (e : ℕ) wher
       go false zero = ef
       go false (suc x) = rw (eqb·suc-zero x)
 
+-- ---- and of a mark
+
+module _ (f : List ℕ) (p : ℕ) (v : List ℕ) (e : ℕ) where
+  pub mark-none : p ≡ 0 → true ≡ markHolds f p v e
+  unfolding markHolds
+  mark-none z = rw z
+
+  pub mark-some : (x : Held) → (p ≡ 0 → ⊥) → x ≡ answerF p v e (readF 32 (drop p f)) → x .holds ≡ markHolds f p v e
+  unfolding markHolds
+  mark-some x some ex = rw (ex, ne-eqb p 0 some)
+
+module _ (f : List ℕ) (row : Row) (v : List ℕ) (first : Bool) (e : ℕ) where
+  pub mark-kept : row .steady || eqb e 0 ≡ true → first ≡ knownMark f row v first e
+  unfolding knownMark
+  mark-kept y = rw y
+
+  pub mark-not-kept : (r : Bool) → row .steady || eqb e 0 ≡ false → r ≡ markHolds f (row .mark) v e → r ≡ knownMark f row v first e
+  unfolding knownMark
+  mark-not-kept r y er = er ∙ rw y
+
+  -- it is the mark, evaluated for 0 where nothing reads the sum value
+  mark-is : first ≡ markHolds f (row .mark) v 0 → knownMark f row v first e ≡ markAt f row v e
+  unfolding knownMark
+  mark-is ef = go (row .steady) e
+    where
+      go : (b : Bool) (x : ℕ) → cond (b || eqb x 0) first (markHolds f (row .mark) v x) ≡ markHolds f (row .mark) v (cond b 0 x)
+      go true x = ef
+      go false zero = ef
+      go false (suc x) = rw (eqb·suc-zero x)
+
+-- where it stands
+module _ (s : List ℕ) (h : Shape) (en : RowPlan) where
+  pub place-none : en .mark .at ≡ 0 → 0 ≡ placeOf s h en
+  place-none z = rw z
+
+  pub place-some : (line : ℕ) → (en .mark .at ≡ 0 → ⊥) → line ≡ getD s (h .marks .first) 0 → line + en .mark .at ≡ placeOf s h en
+  place-some line some el = rw (el, ne-eqb (en .mark .at) 0 some)
+
 -- ---- a step
 
-module _ (f s x t w : List ℕ) (h : Shape) (m : ℕ) (b : Bool) (ew : w ≡ mappedIn f s h x) (eb : b ≡ sameIn (h .specification .parameters .count) t w) where
-  pub kept-lowers : (n : ℕ) → b ≡ true → n ≡ measureIn f s h x → ltb n m ≡ keptIn f s h x t m
+module _ (f s x t w : List ℕ) (h : Shape) (m : ℕ) (marked b : Bool) (ew : w ≡ mappedIn f s h x) (eb : b ≡ sameIn (h .specification .parameters .count) t w) where
+  pub kept-not : not b ≡ true → false ≡ keptIn f s h x t m marked
   unfolding keptIn
-  kept-lowers n y en = rw (← ew, ← eb, y, en)
+  kept-not y = rw (← ew, ← eb, not-true b y)
 
-  pub kept-not : b ≡ false → false ≡ keptIn f s h x t m
+  pub kept-unmarked : not b ≡ false → not marked ≡ true → true ≡ keptIn f s h x t m marked
   unfolding keptIn
-  kept-not y = rw (← ew, ← eb, y)
+  kept-unmarked y n = rw (← ew, ← eb, not-false b y, not-true marked n)
+
+  pub kept-lowers : (n : ℕ) → not b ≡ false → not marked ≡ false → n ≡ measureIn f s h x → ltb n m ≡ keptIn f s h x t m marked
+  unfolding keptIn
+  kept-lowers n y k en = rw (← ew, ← eb, not-false b y, not-false marked k, en)
 
 module _ (f s y t : List ℕ) (p : Process) (j w e : ℕ) where
   abbrev n : ℕ
@@ -101,37 +145,38 @@ module _ (f s y t : List ℕ) (p : Process) (j w e : ℕ) where
     answer-same x z b yes-on ex eq ez eb =
         rw (row-is, on yes-on, carried x ex, eq-eqb w (x .value) eq, eb, ez, ex, eh, place f line 3 refl, place f (line + 3) _ refl, place f (line + 3 + _) _ refl)
 
-module _ (f s v t x : List ℕ) (h : Shape) (row : Row) (at m e : ℕ) (i : Bool) (d : Valued) (ed : d ≡ answerV at v e (readV 32 (drop at f)))
+module _ (f s v t x : List ℕ) (h : Shape) (row : Row) (step : Made) (m e : ℕ) (i : Bool) (d : Valued) (ed : d ≡ answerV (step .at) v e (readV 32 (drop (step .at) f)))
     (ex : x ≡ padded (valuesAt f (d .next) (h .implementation .parameters .count) v e)) (ei : i ≡ insideIn f s h x) where
   abbrev rest : Bool
-  rest = cond (row .internal) (keptIn f s h x t m) (answeredIn f s (h .specification) (row .partner) (d .value) (mappedIn f s h x) t e)
+  rest = cond (row .internal) (keptIn f s h x t m (step .marked)) (answeredIn f s (h .specification) (row .partner) (d .value) (mappedIn f s h x) t e)
 
-  step-so : insideIn f s h x && rest ≡ stepIn f s h row at v t m e
+  step-so : insideIn f s h x && rest ≡ stepIn f s h row step v t m e
   unfolding stepIn
   step-so = rw (ex, ed)
 
-  pub step-out : not i ≡ true → false ≡ stepIn f s h row at v t m e
+  pub step-out : not i ≡ true → false ≡ stepIn f s h row step v t m e
   step-out y = ap (λ a. a && rest) (sym (sym ei ∙ not-true i y)) ∙ step-so
 
-  step-within : (r : Bool) → not i ≡ false → r ≡ rest → r ≡ stepIn f s h row at v t m e
+  step-within : (r : Bool) → not i ≡ false → r ≡ rest → r ≡ stepIn f s h row step v t m e
   step-within r y er = er ∙ ap (λ a. a && rest) (sym (sym ei ∙ not-false i y)) ∙ step-so
 
-  pub step-internal : (r : Bool) → not i ≡ false → row .internal ≡ true → r ≡ keptIn f s h x t m → r ≡ stepIn f s h row at v t m e
+  pub step-internal : (r : Bool) → not i ≡ false → row .internal ≡ true → r ≡ keptIn f s h x t m (step .marked) → r ≡ stepIn f s h row step v t m e
   step-internal r y eb er = step-within r y (er ∙ rw eb)
 
   pub step-visible : (z : List ℕ) (r : Bool) → not i ≡ false → row .internal ≡ false → z ≡ mappedIn f s h x
-      → r ≡ answeredIn f s (h .specification) (row .partner) (d .value) z t e → r ≡ stepIn f s h row at v t m e
+      → r ≡ answeredIn f s (h .specification) (row .partner) (d .value) z t e → r ≡ stepIn f s h row step v t m e
   step-visible z r y eb ez er = step-within r y (er ∙ rw (eb, ez))
 
 -- one look
-module _ (f s v t : List ℕ) (h : Shape) (row : Row) (first o : Held) (m e : ℕ) (eo : o ≡ knownIn f row v first e) where
+module _ (f s v t : List ℕ) (h : Shape) (row : Row) (first : First) (o : Held) (m e : ℕ) (eo : o ≡ knownIn f row v (first .on) e) where
   pub look-off : not (o .holds) ≡ true → record { holds = true; quiet = true } ≡ lookIn f s h row first v t m e
   unfolding lookIn
   look-off y = rw (← eo, not-true (o .holds) y)
 
-  pub look-on : (b : Bool) → not (o .holds) ≡ false → b ≡ stepIn f s h row (o .next) v t m e → record { holds = b; quiet = false } ≡ lookIn f s h row first v t m e
+  pub look-on : (k b : Bool) → not (o .holds) ≡ false → k ≡ knownMark f row v (first .marked) e → b ≡ stepIn f s h row (record { at = o .next; marked = k }) v t m e
+      → record { holds = b; quiet = not k } ≡ lookIn f s h row first v t m e
   unfolding lookIn
-  look-on b y eb = rw (← eo, not-false (o .holds) y, eb)
+  look-on k b y ek eb = rw (← eo, ← ek, not-false (o .holds) y, eb)
 
 -- ---- all sum values of a row
 
@@ -172,10 +217,10 @@ module _ (f s v t : List ℕ) (h : Shape) (row : Row) (m : ℕ) where
   past = row .at + left f row .used
 
   abbrev held : ℕ → Bool
-  held e = onAt f row v e ⇒ stepIn f s h row past v t m e
+  held e = onAt f row v e ⇒ stepIn f s h row (made past (markAt f row v e)) v t m e
 
   abbrev off : ℕ → Bool
-  off e = not (onAt f row v e)
+  off e = not (onAt f row v e && markAt f row v e)
 
   abbrev told : Bool → Bool
   told b = not (row .internal) || b
@@ -183,32 +228,33 @@ module _ (f s v t : List ℕ) (h : Shape) (row : Row) (m : ℕ) where
   unfoldable pub rowLeft : Bool → ℕ → Seen
   rowLeft a e = seenLeft held off told (row .looks) a e
 
-  module _ (first : Held) (ef : first ≡ answerF (row .at) v 0 (left f row)) where
-    pub row-ruled-out : row .free && not (first .holds) ≡ true → record { holds = true; quiet = true } ≡ whole
+  pub row-begin : rowLeft true 0 ≡ whole
+  unfolding rowLeft looksIn
+  row-begin = seen-begin held off told (row .looks)
+
+  module _ (on : Held) (eo : on ≡ answerF (row .at) v 0 (left f row)) where
+    pub row-ruled-out : row .free && not (on .holds) ≡ true → record { holds = true; quiet = true } ≡ whole
     unfolding looksIn
     row-ruled-out y =
         rw (
-          all-yes held (λ e. ap (λ b. b ⇒ stepIn f s h row past v t m e) (never f v row first y ef e)) (row .looks) 0,
-          all-yes off (λ e. ap not (never f v row first y ef e)) (row .looks) 0,
+          all-yes held (λ e. ap (λ b. b ⇒ stepIn f s h row (made past (markAt f row v e)) v t m e) (never f v row on y eo e)) (row .looks) 0,
+          all-yes off (λ e. ap (λ b. not (b && markAt f row v e)) (never f v row on y eo e)) (row .looks) 0,
           or-true (not (row .internal)),
         )
 
-    pub row-begin : rowLeft true 0 ≡ whole
-    unfolding rowLeft looksIn
-    row-begin = seen-begin held off told (row .looks)
+    module _ (k : Bool) (ek : k ≡ markHolds f (row .mark) v 0) (e : ℕ) (q : Bool) (g : Seen) (l : e < row .looks)
+        (eg : g ≡ lookIn f s h row (record { on = on; marked = k }) v t m e) (inv : rowLeft q e ≡ whole) where
+      look-row : lookIn f s h row (record { on = on; marked = k }) v t m e ≡ record { holds = held e; quiet = off e }
+      unfolding lookIn
+      look-row = rw (on-is f row v on e eo, mark-is f row v k e ek)
 
-    look-row : (e : ℕ) → lookIn f s h row first v t m e ≡ record { holds = held e; quiet = off e }
-    unfolding lookIn
-    look-row e = rw (on-is f row v first e ef)
-
-    module _ (e : ℕ) (q : Bool) (g : Seen) (l : e < row .looks) (eg : g ≡ lookIn f s h row first v t m e) (inv : rowLeft q e ≡ whole) where
       held-row : g .holds ≡ held e
-      held-row = ap (λ x. x .holds) (eg ∙ look-row e)
+      held-row = ap (λ x. x .holds) (eg ∙ look-row)
 
       pub row-turn : not (g .holds) ≡ false → rowLeft (q && g .quiet) (e + 1) ≡ whole
       unfolding rowLeft
       row-turn ok =
-          ap (λ x. seenLeft held off told (row .looks) (q && x .quiet) (e + 1)) (eg ∙ look-row e)
+          ap (λ x. seenLeft held off told (row .looks) (q && x .quiet) (e + 1)) (eg ∙ look-row)
           ∙ sym (seen-turn held off told (row .looks) q e l (sym held-row ∙ not-false (g .holds) ok)) ∙ inv
 
       pub row-fail : not (g .holds) ≡ true → record { holds = false; quiet = false } ≡ whole
@@ -220,15 +266,19 @@ module _ (f s v t : List ℕ) (h : Shape) (row : Row) (m : ℕ) where
   row-end e q l inv = seen-end held off told (row .looks) q e l ∙ inv
 
 -- the conjuncts in front
-module _ (f s v t : List ℕ) (h : Shape) (k m line : ℕ) (en : RowPlan) (g : Guarded) (el : line ≡ lineOf s (h .implementation) k) (eg : g ≡ guardIn f v 0 (en .front) (line + 3) 32) where
-  pub row-off : not (g .holds) ≡ true → record { holds = true; quiet = true } ≡ rowIn f s h k en v t m
-  unfolding rowIn
-  row-off y = rw (← el, ← eg, not-true (g .holds) y)
+module _ (f s p v t : List ℕ) (h : Shape) (i k m line n : ℕ) (g : Guarded) (ek : k ≡ i + 1) (el : line ≡ lineOf s (h .implementation) k) (en : n ≡ rowPlanAt p i .front)
+    (eg : g ≡ guardIn f v 0 n (line + 3) 32) where
+  abbrev planned : RowPlan
+  planned = rowPlanAt p i
 
-  pub row-on : (a : ℕ) (row : Row) (r : Seen) → not (g .holds) ≡ false → a ≡ getD (drop line f) 1 0 → row ≡ rowFor g en (eqb a 0) → r ≡ looksIn f s h row v t m
-      → r ≡ rowIn f s h k en v t m
-  unfolding rowIn rowBy
-  row-on a row r y ea ew er = er ∙ rw (ew, ← el, ← eg, not-false (g .holds) y, ea)
+  pub row-off : not (g .holds) ≡ true → record { holds = true; quiet = true } ≡ rowIn f s h (i + 1) planned v t m
+  unfolding rowIn
+  row-off y = rw (← ek, ← el, ← en, ← eg, not-true (g .holds) y)
+
+  pub row-on : (e : RowPlan) (at : ℕ) (row : Row) (r : Seen) → not (g .holds) ≡ false → e ≡ rowPlanAt p i → at ≡ placeOf s h e → row ≡ rowFor g e at → r ≡ looksIn f s h row v t m
+      → r ≡ rowIn f s h (i + 1) planned v t m
+  unfolding rowIn
+  row-on e at row r y ee ea ew er = er ∙ rw (ew, ea, ee, ← ek, ← el, ← en, ← eg, not-false (g .holds) y)
 
 -- ---- all rows of the implementation
 
@@ -252,10 +302,7 @@ module _ (f s p v t : List ℕ) (h : Shape) (m : ℕ) where
   unfolding implLeft implIn
   impl-begin = seen-begin holdsAt quietAt (λ b. b) rows
 
-  module _ (a : Bool) (i : ℕ) (e : RowPlan) (r : Seen) (l : i < rows) (ee : e ≡ rowPlanAt p i) (er : r ≡ rowIn f s h (i + 1) e v t m) (inv : implLeft a i ≡ implIn f s h p v t m) where
-    is : r ≡ rowSeen i
-    is = er ∙ ap (λ x. rowIn f s h (i + 1) x v t m) ee
-
+  module _ (a : Bool) (i : ℕ) (r : Seen) (l : i < rows) (is : r ≡ rowIn f s h (i + 1) (rowPlanAt p i) v t m) (inv : implLeft a i ≡ implIn f s h p v t m) where
     pub impl-turn : not (r .holds) ≡ false → implLeft (a && r .quiet) (i + 1) ≡ implIn f s h p v t m
     unfolding implLeft
     impl-turn ok =
@@ -326,14 +373,16 @@ module _ (f s v t : List ℕ) (p : Process) (row : Row) where
   unfolding replyLeft
   reply-end e l inv = sym (all-end answers (row .looks) e l) ∙ inv
 
-module _ (f s v t : List ℕ) (h : Shape) (k line : ℕ) (en : RowPlan) (g : Guarded) (el : line ≡ lineOf s (h .specification) k) (eg : g ≡ guardIn f t 0 (en .front) (line + 3) 32) where
-  pub reply-guarded : not (g .holds) ≡ true → true ≡ replyIn f s h k en v t
+module _ (f s p v t : List ℕ) (h : Shape) (i k line n : ℕ) (g : Guarded) (ek : k ≡ i + 1) (el : line ≡ lineOf s (h .specification) k) (en : n ≡ rowPlanAt p (32 + i) .front)
+    (eg : g ≡ guardIn f t 0 n (line + 3) 32) where
+  pub reply-guarded : not (g .holds) ≡ true → true ≡ replyIn f s h (i + 1) (rowPlanAt p (32 + i)) v t
   unfolding replyIn
-  reply-guarded y = rw (← el, ← eg, not-true (g .holds) y)
+  reply-guarded y = rw (← ek, ← el, ← en, ← eg, not-true (g .holds) y)
 
-  pub reply-row : (row : Row) (r : Bool) → not (g .holds) ≡ false → row ≡ rowFor g en false → r ≡ replyLooks f s (h .implementation) row v t → r ≡ replyIn f s h k en v t
+  pub reply-row : (e : RowPlan) (row : Row) (r : Bool) → not (g .holds) ≡ false → e ≡ rowPlanAt p (32 + i) → row ≡ rowFor g e 0 → r ≡ replyLooks f s (h .implementation) row v t
+      → r ≡ replyIn f s h (i + 1) (rowPlanAt p (32 + i)) v t
   unfolding replyIn
-  reply-row row r y ew er = er ∙ rw (ew, ← el, ← eg, not-false (g .holds) y)
+  reply-row e row r y ee ew er = er ∙ rw (ew, ee, ← ek, ← el, ← en, ← eg, not-false (g .holds) y)
 
 module _ (f s p v t : List ℕ) (h : Shape) where
   abbrev replied : ℕ → Bool
@@ -346,10 +395,9 @@ module _ (f s p v t : List ℕ) (h : Shape) where
   unfolding specLeft specIn
   spec-begin = all-begin replied (h .specification .rows .count)
 
-  module _ (i : ℕ) (e : RowPlan) (b : Bool) (l : i < h .specification .rows .count) (ee : e ≡ rowPlanAt p (32 + i)) (eb : b ≡ replyIn f s h (i + 1) e v t)
-      (inv : specLeft i ≡ specIn f s h p v t) where
+  module _ (i : ℕ) (b : Bool) (l : i < h .specification .rows .count) (eb : b ≡ replyIn f s h (i + 1) (rowPlanAt p (32 + i)) v t) (inv : specLeft i ≡ specIn f s h p v t) where
     answered : replied i ≡ b
-    answered = sym (eb ∙ ap (λ x. replyIn f s h (i + 1) x v t) ee)
+    answered = sym eb
 
     pub spec-turn : not b ≡ false → specLeft (i + 1) ≡ specIn f s h p v t
     unfolding specLeft

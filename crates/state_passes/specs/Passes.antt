@@ -4,7 +4,7 @@ use mathlib.Core.Bool.{Bool, true, false, not, _&&_, _||_, cond}
 use mathlib.Core.List.{List}
 use Prim.Native.Nat.{ℕ, _+_}
 use lib.Dec.{eqb, ltb}
-use lib.ListN.{drop}
+use lib.ListN.{getD, drop}
 use Rattle.foundation.specs.First.{allIn}
 use Rattle.foundation.specs.Reflects.{_⇒_}
 use Rattle.terms.specs.Tree.{Formula, evalV, evalF}
@@ -19,15 +19,30 @@ use Rattle.design.specs.declared.Shape.{Shape}
 use Rattle.steps.specs.Arrays.{padded, valuesAt, lineOf, belowIn, sameIn, insideIn, mappedIn, measureIn}
 use Rattle.conjuncts.specs.Conjuncts.{guardIn}
 use Rattle.conjuncts.specs.declared.Guarded.{Guarded}
-use Rattle.plan.specs.Plan.{rowBy, partnerBy, rowPlanAt}
+use Rattle.plan.specs.Plan.{partnerBy, rowPlanAt}
 use Rattle.plan.specs.declared.RowPlan.{RowPlan}
 use Rattle.state_passes.specs.declared.Seen.{Seen}
 use Rattle.state_passes.specs.declared.Row.{Row}
+use Rattle.state_passes.specs.declared.First.{First}
+use Rattle.state_passes.specs.declared.Made.{Made}
 
 -- ---- a row that is looked at
 
-abbrev pub rowFor : Guarded → RowPlan → Bool → Row
-rowFor g e b = record { at = g .at; depth = g .depth; free = e .free; looks = e .looks; internal = b; partner = e .partner }
+abbrev pub rowFor : Guarded → RowPlan → ℕ → Row
+rowFor g e place = record {
+  at = g .at;
+  depth = g .depth;
+  free = e .free;
+  looks = e .looks;
+  internal = e .internal;
+  partner = e .partner;
+  mark = place;
+  steady = e .mark .free;
+}
+
+-- where the mark of a planned row stands, 0 if it has none
+abbrev pub placeOf : List ℕ → Shape → RowPlan → ℕ
+placeOf s h e = cond (eqb (e .mark .at) 0) 0 (getD s (h .marks .first) 0 + e .mark .at)
 
 -- what is left of its condition; whether that holds for the sum value e, taken for 0 where it is said to be sum-free
 abbrev pub left : List ℕ → Row → Read Formula
@@ -40,11 +55,23 @@ onAt f row v e = evalF (left f row .tree) v (cond (row .free) 0 e)
 unfoldable pub knownIn : List ℕ → Row → List ℕ → Held → ℕ → Held
 knownIn f row v first e = cond (row .free || eqb e 0) first (answerF (row .at) v e (left f row))
 
+-- the mark at a place; at 0 there is none, and every step is marked
+unfoldable pub markHolds : List ℕ → ℕ → List ℕ → ℕ → Bool
+markHolds f place v e = eqb place 0 || evalF (readF 32 (drop place f) .tree) v e
+
+-- that of a row for the sum value e, taken for 0 where it is said to be sum-free
+abbrev pub markAt : List ℕ → Row → List ℕ → ℕ → Bool
+markAt f row v e = markHolds f (row .mark) v (cond (row .steady) 0 e)
+
+-- the same where `first` is known for the sum value 0
+unfoldable pub knownMark : List ℕ → Row → List ℕ → Bool → ℕ → Bool
+knownMark f row v first e = cond (row .steady || eqb e 0) first (markHolds f (row .mark) v e)
+
 -- ---- a step
 
--- an internal step to x keeps the mapping and lowers the measure
-unfoldable pub keptIn : List ℕ → List ℕ → Shape → List ℕ → List ℕ → ℕ → Bool
-keptIn f s h x t m = sameIn (h .specification .parameters .count) t (mappedIn f s h x) && ltb (measureIn f s h x) m
+-- an internal step to x keeps the mapping, and lowers the measure if it is marked
+unfoldable pub keptIn : List ℕ → List ℕ → Shape → List ℕ → List ℕ → ℕ → Bool → Bool
+keptIn f s h x t m marked = sameIn (h .specification .parameters .count) t (mappedIn f s h x) && (marked ⇒ ltb (measureIn f s h x) m)
 
 -- row j of the specification makes the same step: enabled, the data number w, to y
 unfoldable pub answeredIn : List ℕ → List ℕ → Process → ℕ → ℕ → List ℕ → List ℕ → ℕ → Bool
@@ -52,19 +79,20 @@ answeredIn f s p j w y t e =
     let q = partnerBy f s p j in
     enabledB q t e && (eqb w (dataNumber q t e) && sameIn (p .parameters .count) y (padded (nextState q t e)))
 
--- a step to x with the data number w, of an internal row or of one whose partner is j
-abbrev pub stepTo : List ℕ → List ℕ → Shape → Bool → ℕ → List ℕ → ℕ → ℕ → List ℕ → ℕ → Bool
-stepTo f s h b j t m w x e = insideIn f s h x && cond b (keptIn f s h x t m) (answeredIn f s (h .specification) j w (mappedIn f s h x) t e)
+-- a step to x with the data number w, marked or not, of an internal row or of one whose partner is j
+abbrev pub stepTo : List ℕ → List ℕ → Shape → Bool → Bool → ℕ → List ℕ → ℕ → ℕ → List ℕ → ℕ → Bool
+stepTo f s h marked internal j t m w x e = insideIn f s h x && cond internal (keptIn f s h x t m marked) (answeredIn f s (h .specification) j w (mappedIn f s h x) t e)
 
--- of a row whose data stand at a place
-unfoldable pub stepIn : List ℕ → List ℕ → Shape → Row → ℕ → List ℕ → List ℕ → ℕ → ℕ → Bool
-stepIn f s h row at v t m e =
-    let r = readV 32 (drop at f) in
-    stepTo f s h (row .internal) (row .partner) t m (evalV (r .tree) v e) (padded (valuesAt f (at + r .used) (h .implementation .parameters .count) v e)) e
+-- of a row that makes it
+unfoldable pub stepIn : List ℕ → List ℕ → Shape → Row → Made → List ℕ → List ℕ → ℕ → ℕ → Bool
+stepIn f s h row step v t m e =
+    let r = readV 32 (drop (step .at) f) in
+    stepTo f s h (step .marked) (row .internal) (row .partner) t m (evalV (r .tree) v e)
+    (padded (valuesAt f (step .at + r .used) (h .implementation .parameters .count) v e)) e
 
 -- of a row of the design
-unfoldable pub stepOfRow : List ℕ → List ℕ → Shape → design.Row → ℕ → List ℕ → List ℕ → ℕ → ℕ → Bool
-stepOfRow f s h r j v t m e = stepTo f s h (internalB r) j t m (dataNumber r v e) (padded (nextState r v e)) e
+unfoldable pub stepOfRow : List ℕ → List ℕ → Shape → design.Row → Bool → ℕ → List ℕ → List ℕ → ℕ → ℕ → Bool
+stepOfRow f s h r marked j v t m e = stepTo f s h marked (internalB r) j t m (dataNumber r v e) (padded (nextState r v e)) e
 
 -- ---- the rows of the implementation
 
@@ -72,22 +100,28 @@ stepOfRow f s h r j v t m e = stepTo f s h (internalB r) j t m (dataNumber r v e
 abbrev pub seen : Bool → Bool → Seen
 seen h q = cond h (record { holds = true; quiet = q }) (record { holds = false; quiet = false })
 
+-- a step whose row's data stand at a place, marked or not
+abbrev pub made : ℕ → Bool → Made
+made at marked = record { at = at; marked = marked }
+
 -- one look, and all
-unfoldable pub lookIn : List ℕ → List ℕ → Shape → Row → Held → List ℕ → List ℕ → ℕ → ℕ → Seen
+unfoldable pub lookIn : List ℕ → List ℕ → Shape → Row → First → List ℕ → List ℕ → ℕ → ℕ → Seen
 lookIn f s h row first v t m e =
-    let o = knownIn f row v first e in
-    record { holds = o .holds ⇒ stepIn f s h row (o .next) v t m e; quiet = not (o .holds) }
+    let o = knownIn f row v (first .on) e in
+    let marked = knownMark f row v (first .marked) e in
+    record { holds = o .holds ⇒ stepIn f s h row (made (o .next) marked) v t m e; quiet = not (o .holds && marked) }
 
 unfoldable pub looksIn : List ℕ → List ℕ → Shape → Row → List ℕ → List ℕ → ℕ → Seen
 looksIn f s h row v t m =
     let past = row .at + left f row .used in
-    seen (allIn (λ e. onAt f row v e ⇒ stepIn f s h row past v t m e) (row .looks) 0) (not (row .internal) || allIn (λ e. not (onAt f row v e)) (row .looks) 0)
+    seen (allIn (λ e. onAt f row v e ⇒ stepIn f s h row (made past (markAt f row v e)) v t m e) (row .looks) 0)
+    (not (row .internal) || allIn (λ e. not (onAt f row v e && markAt f row v e)) (row .looks) 0)
 
 -- row k, by its plan
 unfoldable pub rowIn : List ℕ → List ℕ → Shape → ℕ → RowPlan → List ℕ → List ℕ → ℕ → Seen
 rowIn f s h k e v t m =
     let front = guardIn f v 0 (e .front) (lineOf s (h .implementation) k + 3) 32 in
-    cond (front .holds) (looksIn f s h (rowFor front e (internalB (rowBy f s (h .implementation) k))) v t m) (seen true true)
+    cond (front .holds) (looksIn f s h (rowFor front e (placeOf s h e)) v t m) (seen true true)
 
 unfoldable pub implIn : List ℕ → List ℕ → Shape → List ℕ → List ℕ → List ℕ → ℕ → Seen
 implIn f s h p v t m =
@@ -105,7 +139,7 @@ replyLooks f s p row v t = allIn (λ e. onAt f row t e ⇒ enabledB (partnerBy f
 unfoldable pub replyIn : List ℕ → List ℕ → Shape → ℕ → RowPlan → List ℕ → List ℕ → Bool
 replyIn f s h k e v t =
     let front = guardIn f t 0 (e .front) (lineOf s (h .specification) k + 3) 32 in
-    cond (front .holds) (replyLooks f s (h .implementation) (rowFor front e false) v t) true
+    cond (front .holds) (replyLooks f s (h .implementation) (rowFor front e 0) v t) true
 
 unfoldable pub specIn : List ℕ → List ℕ → Shape → List ℕ → List ℕ → List ℕ → Bool
 specIn f s h p v t = allIn (λ i. replyIn f s h (i + 1) (rowPlanAt p (32 + i)) v t) (h .specification .rows .count) 0

@@ -9,10 +9,12 @@ use design::Shape;
 use eval::Held;
 use plan::RowPlan;
 ghost use mathlib.Core.Path.{_≡_};
+ghost use Prim.Native.Nat.{_+_, _<_};
 ghost use Rattle.layout.specs.Sizes.{Fits};
-ghost use Rattle.state_passes.specs.Passes.{knownIn, keptIn, answeredIn, stepIn, lookIn, looksIn, rowFor, rowIn, implIn, repliedIn, replyLooks, replyIn, specIn, passesIn};
+ghost use Rattle.plan.specs.Plan.{rowPlanAt};
+ghost use Rattle.state_passes.specs.Passes.{knownIn, markHolds, knownMark, keptIn, answeredIn, stepIn, lookIn, looksIn, rowFor, placeOf, rowIn, implIn, repliedIn, replyLooks, replyIn, specIn, passesIn};
 
-// What was seen of rows: whether each holds, and, if so, whether no internal one is enabled.
+// What was seen of rows: whether each holds, and, if so, whether none has a marked step.
 pub struct Seen {
     pub holds: bool,
     pub quiet: bool,
@@ -30,19 +32,36 @@ pub struct Row {
     pub internal: bool,
     // the number of its partner, 0 if there is none
     pub partner: u16,
+    // where its mark stands, 0 if all its steps are marked, and whether that does not read the sum value
+    pub mark: usize,
+    pub steady: bool,
 }
 
-// The row of a plan, of whose condition the conjuncts in front were evaluated.
-fn row_for(front: Guarded, planned: RowPlan, internal: bool) -> Row
-    ensures { λ r. ⌜ r ≡ rowFor front planned internal ⌝ }
+// What is known of a row for the sum value 0: whether its condition holds, and whether its mark does.
+pub struct First {
+    pub on: Held,
+    pub marked: bool,
+}
+
+// A step that a row makes: where its data stand, and whether it is marked.
+pub struct Made {
+    pub at: usize,
+    pub marked: bool,
+}
+
+// The row of a plan, of whose condition the conjuncts in front were evaluated, and whose mark stands at a place.
+fn row_for(front: Guarded, planned: RowPlan, mark: usize) -> Row
+    ensures { λ r. ⌜ r ≡ rowFor front planned mark ⌝ }
 {
     Row {
         at: front.at,
         depth: front.depth,
         free: planned.free,
         looks: planned.looks,
-        internal: internal,
+        internal: planned.internal,
         partner: planned.partner,
+        mark: mark,
+        steady: planned.mark.free,
     }
 }
 
@@ -56,9 +75,30 @@ fn on_at(fields: &limits::Fields, row: Row, v: &limits::Values, first: Held, sum
     eval::formula(fields, row.at, v, sum, row.depth)
 }
 
+// Whether a row's mark holds for a sum value; without one every step is marked.
+fn mark_at(fields: &limits::Fields, mark: usize, v: &limits::Values, sum: u16) -> bool
+    ensures { λ r. ⌜ r ≡ markHolds (now (fields .entry)) mark (now (v .entry)) sum ⌝ }
+{
+    if mark == 0 {
+        return true;
+    }
+    let holds = eval::formula(fields, mark, v, sum, limits::MAX_DEPTH);
+    holds.holds
+}
+
+// The same, where it is known for sum value 0.
+fn marked_at(fields: &limits::Fields, row: Row, v: &limits::Values, first: bool, sum: u16) -> bool
+    ensures { λ r. ⌜ r ≡ knownMark (now (fields .entry)) row (now (v .entry)) first sum ⌝ }
+{
+    if row.steady | (sum == 0) {
+        return first;
+    }
+    mark_at(fields, row.mark, v, sum)
+}
+
 // ---- a step of a row
 
-// Whether an internal step to x keeps the mapping t and lowers the measure m.
+// Whether an internal step to x keeps the mapping t, and, if it is marked, lowers the measure m.
 fn kept<'a>(
     fields: &'a limits::Fields,
     starts: &'a limits::Starts,
@@ -66,15 +106,18 @@ fn kept<'a>(
     x: &limits::Values,
     t: &limits::Values,
     m: u16,
+    marked: bool,
 ) -> bool
-    ensures { λ r. ⌜ r ≡ keptIn (now (fields .entry)) (now (starts .entry)) shape (now (x .entry)) (now (t .entry)) m ⌝ }
+    ensures { λ r. ⌜ r ≡ keptIn (now (fields .entry)) (now (starts .entry)) shape (now (x .entry)) (now (t .entry)) m marked ⌝ }
 {
     let there = steps::mapped(fields, starts, shape, x);
-    if steps::same(shape.specification.parameters.count, t, &there) {
-        steps::measure(fields, starts, shape, x) < m
-    } else {
-        false
+    if !steps::same(shape.specification.parameters.count, t, &there) {
+        return false;
     }
+    if !marked {
+        return true;
+    }
+    steps::measure(fields, starts, shape, x) < m
 }
 
 // Whether row j of the specification makes the same step at t: it is enabled, carries the same data and leads to `there`.
@@ -107,28 +150,28 @@ fn answered<'a>(
     steps::same(n, there, &next)
 }
 
-// Whether criteria 3 to 6, 8 and 9 hold of the step of a row that is enabled; its data stand at a place.
+// Whether criteria 3 to 6, 8 and 9 hold of the step of a row that is enabled.
 fn step_holds<'a>(
     fields: &'a limits::Fields,
     starts: &'a limits::Starts,
     shape: Shape,
     row: Row,
-    at: usize,
+    step: Made,
     v: &limits::Values,
     t: &limits::Values,
     m: u16,
     sum: u16,
 ) -> bool
-    ensures { λ r. ⌜ r ≡ stepIn (now (fields .entry)) (now (starts .entry)) shape row at (now (v .entry)) (now (t .entry)) m sum ⌝ }
+    ensures { λ r. ⌜ r ≡ stepIn (now (fields .entry)) (now (starts .entry)) shape row step (now (v .entry)) (now (t .entry)) m sum ⌝ }
 {
-    let data = eval::value(fields, at, v, sum, limits::MAX_DEPTH);
+    let data = eval::value(fields, step.at, v, sum, limits::MAX_DEPTH);
     let n = shape.implementation.parameters.count;
     let x = steps::values(fields, data.next, n, v, sum);
     if !steps::inside(fields, starts, shape, &x) {
         return false;
     }
     if row.internal {
-        return kept(fields, starts, shape, &x, t, m);
+        return kept(fields, starts, shape, &x, t, m, step.marked);
     }
     let there = steps::mapped(fields, starts, shape, &x);
     answered(
@@ -145,13 +188,13 @@ fn step_holds<'a>(
 
 // ---- the rows of the implementation
 
-// One look at a row: whether it holds, and whether it is not enabled.
+// One look at a row: whether it holds, and whether it makes no marked step.
 fn look<'a>(
     fields: &'a limits::Fields,
     starts: &'a limits::Starts,
     shape: Shape,
     row: Row,
-    first: Held,
+    first: First,
     v: &limits::Values,
     t: &limits::Values,
     m: u16,
@@ -159,20 +202,24 @@ fn look<'a>(
 ) -> Seen
     ensures { λ r. ⌜ r ≡ lookIn (now (fields .entry)) (now (starts .entry)) shape row first (now (v .entry)) (now (t .entry)) m sum ⌝ }
 {
-    let on = on_at(fields, row, v, first, sum);
+    let on = on_at(fields, row, v, first.on, sum);
     if !on.holds {
         return Seen {
             holds: true,
             quiet: true,
         };
     }
+    let step = Made {
+        at: on.next,
+        marked: marked_at(fields, row, v, first.marked, sum),
+    };
     Seen {
-        holds: step_holds(fields, starts, shape, row, on.next, v, t, m, sum),
-        quiet: false,
+        holds: step_holds(fields, starts, shape, row, step, v, t, m, sum),
+        quiet: !step.marked,
     }
 }
 
-// What its looks see. A condition that does not read the sum value is evaluated once.
+// What its looks see. A condition or a mark that does not read the sum value is evaluated once.
 fn row_looks<'a>(
     fields: &'a limits::Fields,
     starts: &'a limits::Starts,
@@ -184,13 +231,17 @@ fn row_looks<'a>(
 ) -> Seen
     ensures { λ r. ⌜ r ≡ looksIn (now (fields .entry)) (now (starts .entry)) shape row (now (v .entry)) (now (t .entry)) m ⌝ }
 {
-    let first = eval::formula(fields, row.at, v, 0, row.depth);
-    if row.free & !first.holds {
+    let on = eval::formula(fields, row.at, v, 0, row.depth);
+    if row.free & !on.holds {
         return Seen {
             holds: true,
             quiet: true,
         };
     }
+    let first = First {
+        on: on,
+        marked: mark_at(fields, row.mark, v, 0),
+    };
     let mut quiet = true;
     let mut sum = 0;
     while sum < row.looks {
@@ -210,29 +261,43 @@ fn row_looks<'a>(
     }
 }
 
-// What is seen of row k: the conjuncts in front of its condition, and if they hold its looks at what is left.
+// Where the mark of a planned row stands, 0 if it has none.
+fn place_of(starts: &limits::Starts, shape: Shape, planned: RowPlan) -> usize
+    ensures { λ r. ⌜ r ≡ placeOf (now (starts .entry)) shape planned ⌝ }
+{
+    if planned.mark.at == 0 {
+        return 0;
+    }
+    let line = layout::line(starts, shape.marks.first as usize);
+    line as usize + planned.mark.at as usize
+}
+
+// What is seen of the row after i others: the conjuncts in front of its condition, and if they hold its looks at what is left.
 fn row_seen<'a>(
     fields: &'a limits::Fields,
     starts: &'a limits::Starts,
     shape: Shape,
-    k: u16,
-    planned: RowPlan,
+    plan: &[u16; plan::LENGTH],
+    i: u8,
     v: &limits::Values,
     t: &limits::Values,
     m: u16,
 ) -> Seen
-    ensures { λ r. ⌜ r ≡ rowIn (now (fields .entry)) (now (starts .entry)) shape k planned (now (v .entry)) (now (t .entry)) m ⌝ }
+    requires { ⌜ i < 64 ⌝ }
+    ensures { λ r. ⌜ r ≡ rowIn (now (fields .entry)) (now (starts .entry)) shape (i + 1) (rowPlanAt (now (plan .entry)) i) (now (v .entry)) (now (t .entry)) m ⌝ }
 {
-    let line = steps::line_of(starts, shape.implementation, k);
-    let front = conjuncts::guard(fields, line as usize + 3, v, 0, planned.front);
+    let line = steps::line_of(starts, shape.implementation, i as u16 + 1);
+    let conjuncts = plan::front_at(plan, i as usize);
+    let front = conjuncts::guard(fields, line as usize + 3, v, 0, conjuncts);
     if !front.holds {
         return Seen {
             holds: true,
             quiet: true,
         };
     }
-    let internal = layout::field_of(fields, line, 1) == 0;
-    let row = row_for(front, planned, internal);
+    let planned = plan::row_plan_at(plan, i as usize);
+    let mark = place_of(starts, shape, planned);
+    let row = row_for(front, planned, mark);
     row_looks(fields, starts, shape, row, v, t, m)
 }
 
@@ -252,8 +317,7 @@ fn rows_seen<'a>(
     let mut quiet = true;
     let mut i = 0;
     while i < shape.implementation.rows.count {
-        let planned = plan::row_plan_at(plan, i as usize);
-        let seen = row_seen(fields, starts, shape, i as u16 + 1, planned, v, t, m);
+        let seen = row_seen(fields, starts, shape, plan, i, v, t, m);
         if !seen.holds {
             return Seen {
                 holds: false,
@@ -320,24 +384,27 @@ fn reply_looks<'a>(
     true
 }
 
-// Whether it holds of row k.
+// Whether it holds of the row after i others.
 fn row_replied<'a>(
     fields: &'a limits::Fields,
     starts: &'a limits::Starts,
     shape: Shape,
-    k: u16,
-    planned: RowPlan,
+    plan: &[u16; plan::LENGTH],
+    i: u8,
     v: &limits::Values,
     t: &limits::Values,
 ) -> bool
-    ensures { λ r. ⌜ r ≡ replyIn (now (fields .entry)) (now (starts .entry)) shape k planned (now (v .entry)) (now (t .entry)) ⌝ }
+    requires { ⌜ 32 + i < 64 ⌝ }
+    ensures { λ r. ⌜ r ≡ replyIn (now (fields .entry)) (now (starts .entry)) shape (i + 1) (rowPlanAt (now (plan .entry)) (32 + i)) (now (v .entry)) (now (t .entry)) ⌝ }
 {
-    let line = steps::line_of(starts, shape.specification, k);
-    let front = conjuncts::guard(fields, line as usize + 3, t, 0, planned.front);
+    let line = steps::line_of(starts, shape.specification, i as u16 + 1);
+    let conjuncts = plan::front_at(plan, plan::ROWS + i as usize);
+    let front = conjuncts::guard(fields, line as usize + 3, t, 0, conjuncts);
     if !front.holds {
         return true;
     }
-    let row = row_for(front, planned, false);
+    let planned = plan::row_plan_at(plan, plan::ROWS + i as usize);
+    let row = row_for(front, planned, 0);
     reply_looks(fields, starts, shape.implementation, row, v, t)
 }
 
@@ -355,8 +422,7 @@ fn rows_replied<'a>(
 {
     let mut i = 0;
     while i < shape.specification.rows.count {
-        let planned = plan::row_plan_at(plan, plan::ROWS + i as usize);
-        if !row_replied(fields, starts, shape, i as u16 + 1, planned, v, t) {
+        if !row_replied(fields, starts, shape, plan, i, v, t) {
             return false;
         }
         i += 1;

@@ -23,6 +23,7 @@ row-quiet-spec =
     (λ c κs. search needs)
     (λ c. search laws.quiet-begin)
     (λ c κs. search needs)
+    (λ c κs. search needs)
     (λ c. search laws.quiet-fail)
     (λ c. search needs)
     (λ c. search needs)

@@ -1,4 +1,4 @@
--- The mapping, then the measure.
+-- The mapping, then the measure of a marked step.
 use borrow.Author.Needs.{needs}
 use Rattle.state_passes.proofs.Seeing as laws
 use Rattle.state_passes.proofs.kept.Statement.{statement}
@@ -10,6 +10,7 @@ kept-spec =
     (tie.spec
     (λ c κs. search needs)
     (λ c κs. search needs)
+    (λ c. search laws.kept-not)
+    (λ c. search laws.kept-unmarked)
     (λ c κs. search needs)
-    (λ c. search laws.kept-lowers)
-    (λ c. search laws.kept-not))
+    (λ c. search laws.kept-lowers))

@@ -21,6 +21,7 @@ row-looks-spec =
     μ-loop
     (λ c κs. search needs)
     (λ c. search laws.row-ruled-out)
+    (λ c κs. search needs)
     (λ c. search laws.row-begin)
     (λ c κs. search needs)
     (λ c. search laws.row-fail)

@@ -20,12 +20,7 @@ rows-replied-spec =
     Inv-loop
     μ-loop
     (λ c. search laws.spec-begin)
-    (λ c. search needs)
-    (λ c. search needs)
     (λ c κs. search laws.spec-few)
-    (λ c. search needs)
-    (λ c. search needs)
-    (λ c κs. search needs)
     (λ c. search laws.spec-fail)
     (λ c. search needs)
     (λ c. search needs)

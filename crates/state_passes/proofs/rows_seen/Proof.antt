@@ -20,11 +20,7 @@ rows-seen-spec =
     Inv-loop
     μ-loop
     (λ c. search laws.impl-begin)
-    (λ c. search needs)
     (λ c κs. search laws.impl-few)
-    (λ c. search needs)
-    (λ c. search needs)
-    (λ c κs. search needs)
     (λ c. search laws.impl-fail)
     (λ c. search needs)
     (λ c. search needs)

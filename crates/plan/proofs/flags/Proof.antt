@@ -1,0 +1,15 @@
+-- The third is 4 more.
+use borrow.Author.Needs.{needs}
+use Rattle.plan.proofs.Planned as laws
+use Rattle.plan.proofs.flags.Statement.{statement}
+use Rattle.plan.proofs.flags.Tie as tie
+
+pub flags-spec : {M : Type 1} → statement M
+flags-spec =
+    tie.close
+    (tie.spec
+    (λ c κs. search needs)
+    (λ c. search laws.two-small)
+    (λ c. search laws.flags-third)
+    (λ c κs. search needs)
+    (λ c. search laws.flags-two))
