@@ -1,9 +1,17 @@
 -- Demand 3 holds of every list of desk calls and every one-call check.
-use mathlib.Core.List.{List}
+use mathlib.Core.Path.{_≡_, refl}
+use mathlib.Core.List.{List, [], _∷_}
 use Prim.Native.Nat.{ℕ}
+use native.Mathlib.Omega.{arith}
+use lib.ListN.{length}
+use Rattle.reader.specs.Text.{fieldsByLine}
+use Rattle.criteria.specs.Bisimilar.{Demand3}
+use Rattle.criteria.specs.Unmarked.{Unmarked}
 use Rattle.criteria.proofs.Demand3.{demand3}
+use Rattle.criteria.proofs.Unmarked.{meets-same, lowest-same, demand3-plain}
 use Rattle.decision.proofs.Demand2.{demand2}
-use Rattle.design.specs.Lines.{designText}
+use Rattle.design.specs.Lines.{ofKind, countOf, designOf, designText}
+use Rattle.design.specs.Faults.{DesignText}
 use Rattle.loader.proofs.Passed.{is-design-text, admitted}
 use Rattle.claims.specs.Outcomes.{Accepted, by-desk, by-one-call}
 use Rattle.claims.specs.Demand3.{Claim3}
@@ -15,12 +23,27 @@ verdicts : {text : List ℕ} → Accepted text → Accepts text
 verdicts (by-desk c a) = accepted-verdict c a
 verdicts (by-one-call c) = check-accepts c
 
+keeps : (text : List ℕ) → Accepted text → DesignText text × Demand3 (designText text)
+keeps text a =
+    let v = verdicts a in
+    let d = designText text in
+    let adm = admitted text (v .free) in
+    (is-design-text text (v .free), demand3 d adm (demand2 d adm .accepts .0 (v .verdict-is)))
+
+-- a text without a kind 8 line has a design without marks
+unmarked : (text : List ℕ) → countOf 8 (fieldsByLine text) ≡ 0 → Unmarked (designText text)
+unfolding designOf
+unmarked text none = rw (no-lines (ofKind 8 (fieldsByLine text)) none)
+  where
+    no-lines : (lines : List (List ℕ)) → length lines ≡ 0 → lines ≡ []
+    no-lines [] h = refl
+    no-lines (line ∷ lines) h = absurd (omega arith)
+
 pub claim3 : Claim3
 claim3 = record {
-  keeps = λ text a.
-      let v = verdicts a in
-      let d = designText text in
-      let adm = admitted text (v .free) in
-      (is-design-text text (v .free), demand3 d adm (demand2 d adm .accepts .0 (v .verdict-is)));
+  keeps = keeps;
   all-good = among;
+  without-marks = λ text none.
+      let u = unmarked text none in
+      record { criteria = meets-same (designText text) u; failure = lowest-same (designText text) u; keeps = λ a. demand3-plain (designText text) u (keeps text a .1) };
 }

@@ -1,6 +1,6 @@
 -- The pump table of 01 and its nine variants as texts: each is a design text, and the desk and the one-call check come to what 01 says
--- (`pump-reports`), from the criteria (the crate pump has the designs); and 01's own lines (`given-lines`). The two that are advanced by 5
--- are in PumpByFive.
+-- (`pump-reports`), from the criteria (the crate pump has the designs); the same of the tables with marks (`retry-reports`); and 01's own
+-- lines (`given-lines`) and those of examples/retry.txt (`retry-lines`). The two that are advanced by 5 are in PumpByFive.
 use Prim.Native.Nat.{suc}
 use mathlib.Core.Path.{_≡_, refl, sym, ap, _∙_, subst}
 use mathlib.Core.List.{List, [], _∷_, _++_}
@@ -17,12 +17,15 @@ use Rattle.terms.specs.Depth.{depthV}
 use Rattle.terms.specs.Mark.{valueMark, formulaMark}
 use Rattle.terms.specs.Read.{readV}
 use Rattle.terms.specs.Print.{printV, printF}
+use Rattle.criteria.specs.Step.{internalRows}
 use Rattle.criteria.specs.Verdict.{Demand2}
 use Rattle.decision.specs.Verdict.{verdictOf}
 use Rattle.decision.proofs.Demand2.{demand2, one-verdict}
 use Rattle.pump.specs.Table.{given, Case, cases, Right}
+use Rattle.pump.specs.Retry.{marked, sumIs, retry, marked-cases}
 use Rattle.pump.proofs.Reports.{ten-reports}
-use Rattle.design.specs.Line.{valuesIn}
+use Rattle.pump.proofs.Retry.{marked-reports}
+use Rattle.design.specs.Line.{valuesIn, formulasIn, formulasUsed}
 use Rattle.design.specs.Lines.{ofKind, designOf, designText}
 use Rattle.kinds.specs.Kinds.{entryIn, lastIn}
 use Rattle.design.specs.Tests.{climbs, eachLineIs, layoutFits, boundsFit}
@@ -43,9 +46,9 @@ abbrev Loaded : List Case → Type 0
 Loaded [] = Unit {0}
 Loaded (c ∷ cs) = ((faultOf (textFor c) ≡ 0) × (designOf (fieldsByLine (textFor c)) ≡ c .table)) × Loaded cs
 
-loaded : Loaded cases
-unfolding cases columnOf columnsOf digitOf shownAfter sameBytes fieldOf written fieldsFrom fieldsOf linesOf lastOf countAll textOf isLine anyLine fault2 fault3 linesFault columnsFault printV printF evalV valueMark formulaMark valuesIn ofKind designOf entryIn lastIn ofRank climbs eachLineIs layoutFits boundsFit termsFit lineFits actionsFit tableFault faultOf readV okV depthV allIn
-loaded = ((refl, refl), ((refl, refl), ((refl, refl), ((refl, refl), ((refl, refl), ((refl, refl), ((refl, refl), ((refl, refl), ((refl, refl), ((refl, refl), tt))))))))))
+loaded : Loaded cases × Loaded marked-cases
+unfolding cases marked-cases internalRows formulasIn formulasUsed columnOf columnsOf digitOf shownAfter sameBytes fieldOf written fieldsFrom fieldsOf linesOf lastOf countAll textOf isLine anyLine fault2 fault3 linesFault columnsFault printV printF evalV valueMark formulaMark valuesIn ofKind designOf entryIn lastIn ofRank climbs eachLineIs layoutFits boundsFit termsFit lineFits actionsFit tableFault faultOf readV okV depthV allIn
+loaded = (((refl, refl), ((refl, refl), ((refl, refl), ((refl, refl), ((refl, refl), ((refl, refl), ((refl, refl), ((refl, refl), ((refl, refl), ((refl, refl), tt)))))))))), ((refl, refl), ((refl, refl), ((refl, refl), ((refl, refl), ((refl, refl), ((refl, refl), ((refl, refl), ((refl, refl), ((refl, refl), ((refl, refl), ((refl, refl), ((refl, refl), tt)))))))))))))
 
 -- ---- what is reported
 
@@ -81,7 +84,10 @@ each-reports [] l r = λ k x at. absurd (nth-nil at)
 each-reports (c ∷ cs) l r = nth-cons Reports (reports-so c (l .0 .0) (l .0 .1) (r 1 c first)) (each-reports cs (l .1) (λ k x at. r (suc k) x (later at)))
 
 pub pump-reports : EachIs cases Reports
-pump-reports = each-reports cases loaded ten-reports
+pump-reports = each-reports cases (loaded .0) ten-reports
+
+pub retry-reports : EachIs marked-cases Reports
+retry-reports = each-reports marked-cases (loaded .1) marked-reports
 
 -- "exactly `     1     8     9     3     0` and byte 10"
 pub wrong-data-bytes : bytes.reportBytes (record { verdict = 1; number = 8; state = 9; row = 3; sum = 0 })
@@ -106,3 +112,22 @@ pub given-lines : printLines given
     ∷ []
 unfolding printV printF
 given-lines = refl
+
+-- those of examples/retry.txt: row 2 is another, and the last line is of kind 8
+pub retry-lines : printLines (marked (sumIs 1 ∷ []) retry)
+    ≡ (1 ∷ 3 ∷ 0 ∷ [])
+    ∷ (1 ∷ 4 ∷ 0 ∷ [])
+    ∷ (2 ∷ 2 ∷ 0 ∷ [])
+    ∷ (2 ∷ 4 ∷ 0 ∷ [])
+    ∷ (3 ∷ 1 ∷ 4 ∷ 12 ∷ 1 ∷ 0 ∷ 0 ∷ 0 ∷ 2 ∷ 0 ∷ 1 ∷ 2 ∷ [])
+    ∷ (3 ∷ 0 ∷ 2 ∷ 12 ∷ 1 ∷ 0 ∷ 0 ∷ 1 ∷ 0 ∷ 0 ∷ 3 ∷ 0 ∷ 1 ∷ 2 ∷ 1 ∷ 1 ∷ [])
+    ∷ (3 ∷ 2 ∷ 1 ∷ 12 ∷ 1 ∷ 0 ∷ 0 ∷ 2 ∷ 1 ∷ 1 ∷ 0 ∷ 0 ∷ 1 ∷ 1 ∷ [])
+    ∷ (4 ∷ 1 ∷ 4 ∷ 12 ∷ 1 ∷ 0 ∷ 0 ∷ 0 ∷ 2 ∷ 0 ∷ 1 ∷ 2 ∷ [])
+    ∷ (4 ∷ 2 ∷ 1 ∷ 12 ∷ 1 ∷ 0 ∷ 0 ∷ 1 ∷ 1 ∷ 1 ∷ 0 ∷ 0 ∷ 1 ∷ 1 ∷ [])
+    ∷ (5 ∷ 10 ∷ [])
+    ∷ (6 ∷ 6 ∷ 12 ∷ 1 ∷ 0 ∷ 0 ∷ 0 ∷ 0 ∷ 0 ∷ 0 ∷ 1 ∷ 1 ∷ 1 ∷ [])
+    ∷ (7 ∷ 6 ∷ 12 ∷ 1 ∷ 0 ∷ 0 ∷ 1 ∷ 0 ∷ 1 ∷ 0 ∷ 0 ∷ [])
+    ∷ (8 ∷ 12 ∷ 2 ∷ 0 ∷ 1 ∷ [])
+    ∷ []
+unfolding printV printF
+retry-lines = refl

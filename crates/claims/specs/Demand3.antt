@@ -1,15 +1,20 @@
--- Demand 3 (00; 01, "What demand 3 speaks of"): "a single claim about every such list and every such check". What is promised of a design
--- is `Demand3` in criteria/specs/Bisimilar; here, that it is so of every design text that is accepted anywhere, by the functions'
--- contracts (specs/Contracts), and that every good text is accepted. It holds: `claim3` in proofs/Demand3.
+-- Demand 3 (00; 01, "What demand 3 speaks of"; 02, order 1): "a single claim about every such list and every such check". What is
+-- promised of a design is `Demand3` in criteria/specs/Bisimilar; here, that it is so of every design text that is accepted anywhere, by
+-- the functions' contracts (specs/Contracts), that every good text is accepted, and that a text without marks means what it did before
+-- there were any. It holds: `claim3` in proofs/Demand3.
 use Prim.Native.Nat.{ℕ, _≤_}
 use mathlib.Core.Path.{_≡_}
+use mathlib.Core.Logic.{_↔_}
 use mathlib.Core.List.{List}
 use lib.ListN.{length}
 use Rattle.foundation.specs.Walk.{total}
 use Rattle.criteria.specs.Design.{states}
 use Rattle.criteria.specs.Criteria.{Meets}
+use Rattle.criteria.specs.Failure.{Failure, LowestFailure}
 use Rattle.criteria.specs.Bisimilar.{Demand3}
-use Rattle.design.specs.Lines.{designText}
+use Rattle.criteria.specs.Unmarked as plain
+use Rattle.reader.specs.Text.{fieldsByLine}
+use Rattle.design.specs.Lines.{countOf, designText}
 use Rattle.design.specs.Faults.{DesignText}
 use Rattle.desk.specs.declared.Desk.{Desk}
 use Rattle.claims.specs.Calls.{Called, AcceptedIn, Walked, LoadThen}
@@ -34,6 +39,15 @@ pub record Among (text : List ℕ) : Type 0 where
   pub every-list : {calls : List Called} {desk : Desk} {m k : ℕ} → Calls calls desk → Walked calls text m k → states (designText text) ≤ m
       → AcceptedIn calls text
 
+-- "Without the line all steps are marked": the criteria and the lowest failure are those of 01, and what is accepted keeps demand 3 as 00
+-- words it, of every run of internal steps (criteria/specs/Unmarked)
+pub record AsUnmarked (text : List ℕ) : Type 1 where
+  pub criteria : Meets (designText text) ↔ plain.Meets (designText text)
+  pub failure : (x : Failure) → LowestFailure (designText text) x ↔ plain.LowestFailure (designText text) x
+  pub keeps : Accepted text → plain.Demand3 (designText text)
+
 pub record Claim3 : Type 1 where
   pub keeps : (text : List ℕ) → Accepted text → DesignText text × Demand3 (designText text)
   pub all-good : (text : List ℕ) → DesignText text → Meets (designText text) → Among text
+  -- of a text without a kind 8 line
+  pub without-marks : (text : List ℕ) → countOf 8 (fieldsByLine text) ≡ 0 → AsUnmarked text

@@ -1,5 +1,5 @@
--- The pump table of 01 and its nine variants as texts, and what it means that the functions report what 01 says. It is so of each:
--- `pump-reports` in proofs/Pump.
+-- The cases of the crate pump as texts: the pump table of 01, its nine variants and the tables with marks; and what it means that the
+-- functions report what the case says. It is so of each: `pump-reports` and `retry-reports` in proofs/Pump.
 use Prim.Native.Nat.{ℕ, _≤_}
 use mathlib.Core.Path.{_≡_}
 use mathlib.Core.List.{List, _++_}
@@ -23,7 +23,7 @@ pub record Reports (c : Case) : Type 0 where
   -- the desk, by the verdict on the table
   pub says-table : designText (textFor c) ≡ c .table
   pub comes : Comes (textFor c) (verdictOf (c .table))
-  -- the one-call check, by the report of 01
+  -- the one-call check, by the case's report
   pub answers : {report after : List ℕ} {r : ℕ} → Checks (textFor c) report r after → 31 ≤ length report → r ≡ c .says .verdict
   pub reports : {report after : List ℕ} {r : ℕ} → Checks (textFor c) report r after → 31 ≤ length report
       → after ≡ bytes.reportBytes (c .says) ++ drop 31 report
