@@ -21,8 +21,6 @@ const char *fault_word(unsigned number) {
 
 /* ---- the place ---- */
 
-enum { START = 1, MAPPED_VALUES, KEEPS_INVARIANT, KEEPS_MAPPING, SMALLER_MEASURE, ALLOWED, OFFERED, DATA, NEXT };
-
 bool row_is_ours(const struct verdict *v) {
     return v->criterion == OFFERED;
 }
@@ -99,7 +97,8 @@ static void print_mapping(struct output *out, const struct here *h) {
 }
 
 static void print_measure(struct output *out, const struct here *h) {
-    print(out, "the measure is %u, and %u after the step to ", measure(h->t, &h->state), measure(h->t, &h->next));
+    print(out, "the measure is %u, and %u after the %sstep to ", measure(h->t, &h->state), measure(h->t, &h->next),
+          h->t->has_marks ? "marked " : "");
     print_numbered(out, &h->t->impl, &h->next);
 }
 
@@ -113,12 +112,17 @@ static void print_allowed(struct output *out, const struct here *h) {
     print_state(out, &h->t->spec, &h->mapped);
 }
 
+/* The state is a focus point: no internal row is enabled there, or what is enabled isn't marked. */
 static void print_offered(struct output *out, const struct here *h) {
-    const struct row *boards = row_of(&h->t->impl, h->row->action);
+    const struct process *p = &h->t->impl;
+    const struct row *boards = row_of(p, h->row->action);
+    const struct step unmarked = unmarked_step(p, &h->state);
+    const char *missing = unmarked.row ? "marked step" : "internal row";
     put(out, "ours can do it at the mapped state ");
     print_state(out, &h->t->spec, &h->mapped);
-    if (boards) print(out, ", the board's row %td is not enabled, nor any internal row", boards - h->t->impl.row + 1);
-    else print(out, ", the board has no row of action %u, and no internal row is enabled", h->row->action);
+    if (boards) print(out, ", the board's row %td is not enabled, nor any %s", boards - p->row + 1, missing);
+    else print(out, ", the board has no row of action %u, and no %s is enabled", h->row->action, missing);
+    if (unmarked.row) print(out, ": internal row %td is enabled for sum value %u but not marked", unmarked.row - p->row + 1, unmarked.sum);
 }
 
 static void print_data(struct output *out, const struct here *h) {

@@ -5,6 +5,9 @@
 #include "output.h"
 #include "verdict.h"
 
+/* The criteria by what they ask for. */
+enum { START = 1, MAPPED_VALUES, KEEPS_INVARIANT, KEEPS_MAPPING, SMALLER_MEASURE, ALLOWED, OFFERED, DATA, NEXT };
+
 /* What a criterion, 1 to 9, or a turned-down number, 1 to 7, is about. */
 const char *criterion_word(unsigned criterion);
 const char *fault_word(unsigned number);

@@ -1,5 +1,5 @@
 /* The transition system of one side: the states that its initial state reaches, numbered as they are found, and their steps. Two steps
- * with the same label and the same end are one transition. */
+ * with the same label and the same end are one transition, which is marked if one of them is. */
 #define _POSIX_C_SOURCE 200809L
 #include "show.h"
 #include "state.h"
@@ -12,6 +12,7 @@ enum { MOST_STATES = MAX_STATES, SLOTS = 2 * MOST_STATES, MOST_DRAWN = 1000 };
 struct edge {
     unsigned action, data;
     uint32_t to;
+    bool marked;
 };
 
 struct graph {
@@ -66,6 +67,7 @@ static size_t distinct(struct edge *edge, size_t count) {
     size_t kept = 0;
     for (size_t i = 0; i < count; i++)
         if (kept == 0 || by_label(&edge[kept - 1], &edge[i]) != 0) edge[kept++] = edge[i];
+        else edge[kept - 1].marked |= edge[i].marked;
     return kept;
 }
 
@@ -78,7 +80,8 @@ static void leave(struct graph *g, uint32_t from) {
         for (unsigned sum = 0; sum < row->span; sum++) {
             if (!enabled(row, &s, sum)) continue;
             const struct state next = next_state(g->p, row, &s, sum);
-            if (within(g, &next)) g->edge[g->edges++] = (struct edge){row->action, data_number(row, &s, sum), found(g, &next)};
+            if (within(g, &next))
+                g->edge[g->edges++] = (struct edge){row->action, data_number(row, &s, sum), found(g, &next), marked(row, &s, sum)};
         }
     }
     qsort(g->edge, g->edges, sizeof *g->edge, by_label);
@@ -138,9 +141,16 @@ static void print_node(struct output *out, const struct graph *g, uint32_t n) {
     print(out, "\"%s];\n", focus_point(g->p, &g->state[n]) ? ", peripheries=2" : "");
 }
 
+static const char *style(const struct edge *e) {
+    if (e->action != INTERNAL) return "";
+    return e->marked ? ", color=gray" : ", color=gray, style=dashed";
+}
+
 static void print_dot(struct output *out, struct graph *g) {
-    print(out, "// States by their values; those with a double line are focus points.\ndigraph %s {\n",
-          g->side == IMPLEMENTATION ? "implementation" : "specification");
+    const bool impl = g->side == IMPLEMENTATION;
+    put(out, "// States by their values; those with a double line are focus points.\n");
+    if (impl) put(out, g->t->has_marks ? "// Internal steps are gray; those that are not marked are dashed.\n" : "// Internal steps are gray.\n");
+    print(out, "digraph %s {\n", impl ? "implementation" : "specification");
     put(out, "  rankdir=LR;\n  start [shape=point];\n  start -> 0;\n");
     for (uint32_t from = 0; from < g->states; from++) {
         print_node(out, g, from);
@@ -148,7 +158,7 @@ static void print_dot(struct output *out, struct graph *g) {
         for (size_t i = 0; i < g->edges; i++) {
             print(out, "  %lu -> %lu [label=", (unsigned long)from, (unsigned long)g->edge[i].to);
             print_label(out, &g->edge[i]);
-            print(out, "%s];\n", g->edge[i].action == INTERNAL ? ", style=dashed" : "");
+            print(out, "%s];\n", style(&g->edge[i]));
         }
     }
     put(out, "}\n");

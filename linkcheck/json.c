@@ -19,6 +19,17 @@ static void print_string(struct output *out, const char *string) {
     put(out, "\"");
 }
 
+static const char *truth(bool b) {
+    return b ? "true" : "false";
+}
+
+/* Of a table with marks: whether the step is marked, or whether steps that are not marked start in the focus point. */
+static void print_marks(struct output *out, const struct verdict *v, const struct state *s) {
+    const struct row *row = failing_row(v);
+    if (v->criterion == SMALLER_MEASURE && row) print(out, ",\"marked\":%s", truth(marked(row, s, v->sum)));
+    if (v->criterion == OFFERED) print(out, ",\"unmarked_enabled\":%s", truth(unmarked_step(&v->table.impl, s).row));
+}
+
 static void print_failure(struct output *out, const struct verdict *v) {
     const struct process *p = &v->table.impl;
     const struct state s = numbered_state(p, v->state);
@@ -29,6 +40,7 @@ static void print_failure(struct output *out, const struct verdict *v) {
     if (row)
         print(out, ",\"row\":%u,\"row_of\":\"%s\",\"action\":%u,\"sum\":%u", v->row, row_is_ours(v) ? "specification" : "implementation",
               row->action, v->sum);
+    if (v->table.has_marks) print_marks(out, v, &s);
     put(out, ",\"difference\":\"");
     print_difference(out, v); /* it has no character to escape */
     put(out, "\"");

@@ -1,4 +1,5 @@
-/* A table for a person. The implementation's parameters are p0, p1, ..; the specification's are q0, q1, ..; s is the sum value. */
+/* A table for a person. The implementation's parameters are p0, p1, ..; the specification's are q0, q1, ..; s is the sum value. A mark is
+ * shown beside its row. */
 #define _POSIX_C_SOURCE 200809L
 #include "show.h"
 #include "terms.h"
@@ -39,6 +40,10 @@ static void show_row(struct output *out, const struct process *p, unsigned r, ch
     print_formula(out, row->condition, letter);
     put(out, ", then ");
     show_next(out, p, row, letter);
+    if (row->mark) {
+        put(out, "; marked when ");
+        print_formula(out, row->mark, letter);
+    }
     put(out, "\n");
 }
 
@@ -64,4 +69,5 @@ void show_table(struct output *out, const struct table *t) {
     put(out, "measure\n  ");
     print_value(out, t->measure, 'p');
     put(out, "\n");
+    if (!t->has_marks) put(out, "marks\n  none given: all internal steps are marked\n");
 }

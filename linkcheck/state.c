@@ -3,7 +3,7 @@
 #include "state.h"
 #include "terms.h"
 
-/* No term outside rows reads the sum value. */
+/* No term outside rows and marks reads the sum value. */
 enum { NO_SUM = 0 };
 
 struct state initial_state(const struct process *p) {
@@ -56,11 +56,26 @@ const struct row *row_of(const struct process *p, unsigned action) {
     return NULL;
 }
 
+bool marked(const struct row *r, const struct state *s, unsigned sum) {
+    return !r->mark || holds_at(r->mark, s->value, sum);
+}
+
+static bool internal_step(const struct row *r, const struct state *s, unsigned sum) {
+    return r->action == INTERNAL && enabled(r, s, sum);
+}
+
 bool focus_point(const struct process *p, const struct state *s) {
     for (unsigned r = 0; r < p->rows; r++)
         for (unsigned sum = 0; sum < p->row[r].span; sum++)
-            if (p->row[r].action == INTERNAL && enabled(&p->row[r], s, sum)) return false;
+            if (internal_step(&p->row[r], s, sum) && marked(&p->row[r], s, sum)) return false;
     return true;
+}
+
+struct step unmarked_step(const struct process *p, const struct state *s) {
+    for (unsigned r = 0; r < p->rows; r++)
+        for (unsigned sum = 0; sum < p->row[r].span; sum++)
+            if (internal_step(&p->row[r], s, sum) && !marked(&p->row[r], s, sum)) return (struct step){&p->row[r], sum};
+    return (struct step){NULL, 0};
 }
 
 bool invariant_holds(const struct table *t, const struct state *s) {

@@ -30,8 +30,18 @@ unsigned data_number(const struct row *r, const struct state *s, unsigned sum);
 /* The row of a visible action; NULL if there is none. */
 const struct row *row_of(const struct process *p, unsigned action);
 
-/* No internal row is enabled. */
+/* Whether the step of an enabled internal row is marked. */
+bool marked(const struct row *r, const struct state *s, unsigned sum);
+
+/* No marked step is enabled. */
 bool focus_point(const struct process *p, const struct state *s);
+
+/* The first internal step that is enabled but not marked; its row is NULL if there is none. */
+struct step {
+    const struct row *row;
+    unsigned sum;
+};
+struct step unmarked_step(const struct process *p, const struct state *s);
 
 bool invariant_holds(const struct table *t, const struct state *s);
 struct state mapped(const struct table *t, const struct state *s);

@@ -10,7 +10,7 @@
 static const struct { unsigned least, most; } lines_of[KINDS + 1] = {
     [IMPL_PARAMETER] = {1, MAX_PARAMETERS}, [SPEC_PARAMETER] = {1, MAX_PARAMETERS},
     [IMPL_ROW] = {0, MAX_ROWS}, [SPEC_ROW] = {0, MAX_ROWS},
-    [INVARIANT] = {1, 1}, [MAPPING] = {1, 1}, [MEASURE] = {1, 1},
+    [INVARIANT] = {1, 1}, [MAPPING] = {1, 1}, [MEASURE] = {1, 1}, [MARKS] = {0, 1},
 };
 
 static const struct fault no_fault;
@@ -140,17 +140,40 @@ static void read_row_terms(struct row *row, struct scan *s, unsigned parameters)
     for (unsigned i = 0; i < parameters; i++) scan_value(s);
 }
 
+/* A formula for each internal row, in row order. */
+static void read_marks(struct process *p, struct scan *s) {
+    for (unsigned r = 0; r < p->rows; r++)
+        if (p->row[r].action == INTERNAL) p->row[r].mark = scan_formula(s);
+}
+
+/* The fault of a line whose terms are formulas, but not as many as there are internal rows. */
+static struct fault count_marks(const struct process *p, struct scan s, size_t number) {
+    unsigned formulas = 0, due = 0;
+    for (; !s.wrong && s.at != s.end; formulas++) scan_formula(&s);
+    for (unsigned r = 0; r < p->rows; r++) due += p->row[r].action == INTERNAL;
+    if (s.wrong || formulas == due) return no_fault;
+    return fault(6, number, "%u formula%s for %u internal row%s", formulas, formulas == 1 ? "" : "s", due, due == 1 ? "" : "s");
+}
+
+/* A look at the terms of a line. */
+static struct scan terms_of(const struct table *t, const struct line *line) {
+    const unsigned kind = line->field[0];
+    const bool row = kind == IMPL_ROW || kind == SPEC_ROW;
+    return (struct scan){
+        .at = line->field + (row ? 3 : 1), .end = line->field + line->count,
+        .parameters = kind == SPEC_ROW ? t->spec.parameters : t->impl.parameters, .has_sum = row || kind == MARKS,
+    };
+}
+
 static struct fault read_terms(struct table *t) {
     unsigned impl_rows = 0, spec_rows = 0;
     for (size_t i = 0; i < t->lines; i++) {
         const struct line *line = &t->line[i];
         unsigned kind = line->field[0];
         if (kind <= SPEC_PARAMETER) continue;
-        int in_row = kind <= SPEC_ROW;
-        struct scan s = {
-            .at = line->field + (in_row ? 3 : 1), .end = line->field + line->count,
-            .parameters = kind == SPEC_ROW ? t->spec.parameters : t->impl.parameters, .in_row = in_row,
-        };
+        struct scan s = terms_of(t, line);
+        struct fault f = kind == MARKS ? count_marks(&t->impl, s, i + 1) : no_fault;
+        if (f.number) return f;
         switch (kind) {
         case IMPL_ROW: read_row_terms(&t->impl.row[impl_rows++], &s, t->impl.parameters); break;
         case SPEC_ROW: read_row_terms(&t->spec.row[spec_rows++], &s, t->spec.parameters); break;
@@ -160,6 +183,10 @@ static struct fault read_terms(struct table *t) {
             for (unsigned v = 0; v < t->spec.parameters; v++) scan_value(&s);
             break;
         case MEASURE: t->measure = scan_value(&s); break;
+        case MARKS:
+            t->has_marks = true;
+            read_marks(&t->impl, &s);
+            break;
         }
         if (!s.wrong && s.at != s.end) s.wrong = "there are fields after the last term";
         if (s.wrong) return fault(6, i + 1, "field %zu: %s", (size_t)(s.at - line->field) + 1, s.wrong);
@@ -216,6 +243,7 @@ static struct fault check_actions(const struct table *t) {
 struct fault table_read(struct table *t, const uint8_t *text, size_t len) {
     t->fields = t->lines = 0;
     t->impl.parameters = t->impl.rows = t->spec.parameters = t->spec.rows = 0;
+    t->has_marks = false;
     if (len > MAX_TEXT) return fault(1, 0, "more than %d bytes", MAX_TEXT);
     struct fault f = read_lines(t, text, len);
     if (!f.number) f = count_fields(t);

@@ -1,8 +1,9 @@
-/* A design text taken apart: its fields, its two processes, its invariant, mapping and measure; or the place of its fault.
+/* A design text taken apart: its fields, its two processes, its invariant, mapping, measure and marks; or the place of its fault.
  * Whether a text is turned down is for check_design to say. What is here serves the words that a person reads. */
 #ifndef TABLE_H
 #define TABLE_H
 
+#include <stdbool.h>
 #include <stddef.h>
 #include <stdint.h>
 
@@ -19,7 +20,7 @@ enum {
 };
 
 /* The kinds of a line. */
-enum { IMPL_PARAMETER = 1, SPEC_PARAMETER, IMPL_ROW, SPEC_ROW, INVARIANT, MAPPING, MEASURE, KINDS = MEASURE };
+enum { IMPL_PARAMETER = 1, SPEC_PARAMETER, IMPL_ROW, SPEC_ROW, INVARIANT, MAPPING, MEASURE, MARKS, KINDS = MARKS };
 
 /* A term is its fields in prefix order, from the first on. */
 typedef const uint16_t *term;
@@ -27,6 +28,7 @@ typedef const uint16_t *term;
 struct row {
     unsigned action, span;
     term condition, data, next; /* next: one value for each parameter, one after the other */
+    term mark;                  /* of an internal row: the formula that its marked steps meet; NULL if all its steps are marked */
 };
 
 struct process {
@@ -47,6 +49,7 @@ struct table {
     size_t fields, lines;
     struct process impl, spec;
     term invariant, mapping, measure;
+    bool has_marks; /* there is a line of kind 8 */
 };
 
 /* Where a text breaks which rule. */

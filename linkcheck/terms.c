@@ -28,7 +28,7 @@ static void scan_value_within(struct scan *s, int depth) {
         if (take(s) >= s->parameters && !s->wrong) refuse(s, "there is no such parameter");
         break;
     case SUM_VALUE:
-        if (!s->in_row) refuse(s, "the sum value is for rows alone");
+        if (!s->has_sum) refuse(s, "the sum value is for rows and marks alone");
         break;
     case SUM: case DIFFERENCE: case REMAINDER: case CHOICE:
         if (mark == CHOICE) scan_formula_within(s, depth - 1);

@@ -16,7 +16,7 @@ enum { MAX_DEPTH = 32 };
 struct scan {
     const uint16_t *at, *end;
     unsigned parameters;
-    bool in_row;       /* the sum value may occur */
+    bool has_sum;      /* the sum value may occur */
     const char *wrong; /* NULL, or what is wrong at `at` */
 };
 

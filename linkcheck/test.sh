@@ -12,7 +12,7 @@ seed=${2:-1}
 work=$(mktemp -d)
 trap 'rm -rf "$work"' EXIT
 tables=compare/tables
-linkcheck=target/bin/linkcheck
+linkcheck=$PWD/target/bin/linkcheck
 linkcheck/build.sh
 
 fail() {
@@ -20,18 +20,51 @@ fail() {
     exit 1
 }
 
-# ---- stored outputs: a name in expected/ and the arguments that give it ----
+# ---- marks: changes of a typed table, by name ----
+
+# The board of test/marked.txt sends a price to its display: it is lost (sum value 0), delivered (1 and 3) or garbled (2). A garbled price
+# is thrown away, and what is shown may be refreshed for ever. Marked are sum value 3 and throwing away.
+mkdir "$work/marks"
+while read -r name change; do
+    sed "$change" linkcheck/test/marked.txt | "$linkcheck" --columns > "$work/marks/$name.txt" || fail "$name: no columns"
+done << 'END'
+given
+all-marked $s/.*/8 10 10 10/
+none-marked $s/.*/8 11 11 11/
+garbling-marked $s/ 12 2 0 3 / 14 12 2 0 0 /
+one-price-unmarked $s/ 12 2 0 3 / 15 12 2 0 3 14 12 1 1 0 2 /
+no-row-of-show /^3  2/d
+no-step-at-all /^3  2/d; /^3  0 1   12 1 0 0 2/d; $s/ 11$//
+unmarked-leads-outside /^3  0 1   12 1 0 0 2/s/1 0       1 1$/0 4 1 1/
+unmarked-changes-price /^3  0 1   12 1 0 0 2/s/1 1$/0 0/
+no-internal-row /^3  0/d; /^3  1/s/0 1 /0 2 /; s/^5.*/5 16 12 1 0 0 0 12 1 0 0 2/; $s/.*/8/
+depth-32 $s/11$/14 14 14 14 14 14 14 14 14 14 14 14 14 14 14 14 14 14 14 14 14 14 14 14 14 14 14 14 14 14 14 10/
+depth-33 $s/11$/14 14 14 14 14 14 14 14 14 14 14 14 14 14 14 14 14 14 14 14 14 14 14 14 14 14 14 14 14 14 14 14 10/
+two-lines $p
+before-the-measure /^7/{h;d;}; $G
+too-few $s/ 11$//
+too-few-none $s/.*/8/
+too-many $s/$/ 10/
+too-many-without-rows /^3  0/d; $s/.*/8 10/
+ends-in-a-formula $s/11$/14/
+fields-after-the-last $s/$/ 7/
+value-for-a-formula $s/11$/3 0 1 0 1/
+no-such-parameter $s/11$/12 1 2 0 0/
+internal-row-of-ours s/^4  1 4/4  0 4/
+END
+
+# ---- stored outputs: a name in expected/ and the arguments that give it, in the folder if one is set ----
 
 boards=()
 for name in P_given P_inv_false P_second_spec_size_3 P_first_size_2 P_row2_last_next_0 P_measure_0 P_cond_row3_true P_row2_removed P_data_row3 \
     P_second_map_0 c1_start_good_first inv_cuts abp_noloss__no_flip t1_far t234567 t34 t45 t56 t67 \
-    t7_span_3_specification kit_cabp; do
+    t7_span_3_specification t4_kind_9_last kit_cabp; do
     boards+=("$tables/$name.txt")
 done
 expect() {
     local name=$1
     shift
-    "$linkcheck" "$@" > "$work/out" || [ $? -le 2 ] || fail "$*: status $?"
+    (cd "${folder:-.}" && "$linkcheck" "$@") > "$work/out" || [ $? -le 2 ] || fail "$*: status $?"
     if [ "$remake" = yes ]; then cp "$work/out" "linkcheck/expected/$name"; fi
     diff "linkcheck/expected/$name" "$work/out" || fail "$* differs from expected/$name"
 }
@@ -45,12 +78,21 @@ expect pump.impl.aut --aut impl "$tables/P_given.txt"
 expect pump.spec.aut --aut spec "$tables/P_given.txt"
 expect pump.impl.dot --dot impl "$tables/P_given.txt"
 expect pump.spec.dot --dot spec "$tables/P_given.txt"
+folder=$work expect marks.txt marks
+folder=$work expect marks.json --json marks
+folder=$work expect marked.txt --show marks/given.txt
+folder=$work expect marked.impl.aut --aut impl marks/given.txt
+folder=$work expect marked.impl.dot --dot impl marks/given.txt
 cmp "$tables/P_given.txt" linkcheck/expected/columns.txt
 # The pages show what is said.
 shown() { grep -qxF -e "    $1" "$2" || fail "$2 does not show: $1"; }
 while read -r line; do shown "$line" examples/README.md; done < linkcheck/expected/examples.txt
 "$linkcheck" examples/pump.txt examples/bad-yesterdays-diesel.txt > "$work/out" || true
 while read -r line; do shown "$line" README.md; done < "$work/out"
+for name in retry concurrent-alternating-bit-with-loss; do
+    sed '$d' "examples/$name.txt" | "$linkcheck" - > "$work/out" || true
+    shown "$(head -n 1 "$work/out")" examples/README.md
+done
 for look in aut dot; do
     "$linkcheck" --$look "$tables/P_given.txt" > "$work/out" || fail "--$look: status $?"
     cat linkcheck/expected/pump.{impl,spec}.$look | diff - "$work/out" || fail "--$look is not that of both sides"
@@ -133,10 +175,12 @@ grep -q 'new\\u000aline \\"\\\\\\ufffd.txt' "$work/out" || fail "JSON: $(cat "$w
 
 # ---- damaged texts, and what looks at memory ----
 
-mkdir "$work/damaged"
+mkdir -p "$work/damaged/marks"
+marked=$((count / 10 + 1))
 ${CC:-cc} -std=c11 -Wall -Wextra -O2 linkcheck/test/damage.c -o "$work/damage"
 mapfile -t whole < <(printf '%s\n' $tables/*.txt | grep -Ev '/(t[1-7]|s_[0-9])')
 "$work/damage" "$work/damaged" "$count" "$seed" "${whole[@]}"
+"$work/damage" "$work/damaged/marks" "$marked" "$seed" "$work"/marks/*.txt
 "$linkcheck" "$work/damaged" > "$work/plain" || true
 # Each text turned down has its fault found: the words come from another reading than the number.
 for found in "$work/words" "$work/plain"; do
@@ -149,6 +193,9 @@ for found in "$work/words" "$work/plain"; do
     if sed -n 's/.*: the measure is \([0-9]*\), and \([0-9]*\) after.*/\1 \2/p' "$found" | awk '$2 < $1' | grep .; then fail "the measure falls"; fi
     if grep 'criterion 2 ' "$found" | grep -v 'not below the size'; then fail "no mapped value is outside"; fi
 done
+# A step that fails criterion 5 is marked.
+"$linkcheck" --json "$work/marks" "$work/damaged/marks" > "$work/marks.json" || true
+if grep '"marked":false' "$work/marks.json"; then fail "criterion 5 fails by a step that is not marked"; fi
 
 # Every look, by the command given, over a folder's tables.
 looks() {
@@ -175,17 +222,18 @@ if linkcheck/build.sh "$work/sanitized" -g -fsanitize=address,undefined -fno-san
     cmp "$work/words" "$work/looked" || fail "the sanitizers' build answers otherwise"
     looks "$work/damaged" "$work/sanitized"
     cmp "$work/plain" "$work/looked" || fail "the sanitizers' build answers otherwise"
-    few=("$tables"/P_*.txt "$tables"/[abfikr]*.txt "$tables"/t[1-7][1-7]*.txt "$work"/damaged/?)
+    few=("$tables"/P_*.txt "$tables"/[abfikr]*.txt "$tables"/t[1-7][1-7]*.txt "$work"/marks/*.txt "$work"/damaged/{,marks/}?)
     looks_at_each "$work/sanitized"
     checked="the address and undefined behaviour sanitizers"
 fi
 if valgrind -q --error-exitcode=99 "$linkcheck" --help > /dev/null 2>&1; then
     mkdir "$work/some"
     cp "$work"/damaged/[1-9]?? "$work/some" 2> /dev/null || cp "$work"/damaged/? "$work/some"
+    cp "$work"/marks/*.txt "$work/some"
     looks "$work/some" valgrind -q --error-exitcode=99 --leak-check=full "$linkcheck"
-    few=("$tables/P_given.txt" "$tables/t56.txt")
+    few=("$tables/P_given.txt" "$tables/t56.txt" "$work/marks/given.txt")
     looks_at_each valgrind -q --error-exitcode=99 --leak-check=full "$linkcheck"
     checked="$checked and valgrind"
 fi
-echo "linkcheck: $(wc -l < "$work/due") tables as in compare/reports.tsv, $count damaged texts from seed $seed, $checked: no fault"
+echo "linkcheck: $(wc -l < "$work/due") tables as in compare/reports.tsv, $((count + marked)) damaged texts from seed $seed, $checked: no fault"
 tail -n 1 "$work/plain"
