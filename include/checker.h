@@ -11,7 +11,7 @@ extern "C" {
 
 /* The version, as in the file VERSION: the first number changes if a call that there was answers otherwise, the second if calls or kinds
  * of lines are added. */
-#define CHECKER_VERSION "1.0.1"
+#define CHECKER_VERSION "1.1.0"
 
 /* What check_design returns. */
 #define CHECK_ACCEPTED 0
