@@ -1,44 +1,54 @@
--- The one-call check gives the verdict on the text's design: loaded on a new desk, advanced over all states, its verdict told.
+-- The one-call check gives the verdict on the text's design; and so does a desk that is decided.
 use Prim.Native.Nat.{ℕ, _≤_, _<_}
 use mathlib.Core.Path.{_≡_, refl, sym, ap, _∙_}
 use mathlib.Core.Logic.{_≢_}
-use mathlib.Core.Bool.{Bool, true, false}
+use mathlib.Core.Bool.{Bool, true, false, cond}
 use mathlib.Core.List.{List}
 use native.Mathlib.Omega.{arith}
-use borrow.Author.Tests.{eqb-true, eqb-false, ne-eqb, lt-ltb, le-ltb}
-use lib.Dec.{eqb}
+use borrow.Author.Tests.{ne-eqb, lt-ltb, le-ltb}
 use lib.ListN.{length}
+use Rattle.foundation.specs.First.{pass, fail}
+use Rattle.foundation.specs.First as first
 use Rattle.reader.specs.Text.{fieldsByLine}
 use Rattle.verdicts.specs.declared.Report.{Report}
+use Rattle.verdicts.specs.declared.Outcome.{Outcome}
+use Rattle.verdicts.specs.declared.Outcome.the-variants.{Fail}
 use Rattle.writer.specs.Put.{put}
 use Rattle.writer.specs.Report as bytes
 use Rattle.writer.proofs.Bytes.{report-first}
+use Rattle.criteria.specs.Design.{Design, states}
+use Rattle.criteria.specs.Failure.{Failure, startFailure}
 use Rattle.criteria.specs.Verdict.{accepted, failed}
 use Rattle.criteria.specs.Verdict as criteria
-use Rattle.decision.specs.Verdict.{verdictOf}
-use Rattle.design.specs.Lines.{designText}
+use Rattle.decision.specs.Tests.{holds1}
+use Rattle.decision.specs.Verdict.{overStates, checked, byOutcome, verdictOf}
+use Rattle.design.specs.Lines.{countsOf, designText}
+use Rattle.design.specs.Loaded.{fieldsHeld, startsHeld}
 use Rattle.loader.specs.Load.{faultOf, heldBy, loadedOf}
+use Rattle.loader.specs.declared.Loaded.{Loaded}
+use Rattle.walk.specs.Told.{said}
+use Rattle.walk.specs.Walk.{checkedIn}
 use Rattle.checker.specs.Said.{saidVerdict}
 use Rattle.answers.specs.declared.Phase.{Phase}
 use Rattle.answers.specs.declared.Phase.the-variants as phase
-use Rattle.answers.specs.declared.Done.{Done}
 use Rattle.answers.specs.declared.Done.the-variants as done
 use Rattle.answers.specs.declared.Verdict.{Verdict}
+use Rattle.answers.specs.Answers.{verdictNumbers, toldBy, phaseAfter}
 use Rattle.desk.specs.declared.Desk.{Desk}
-use Rattle.desk.specs.declared.AfterLoad.{AfterLoad}
-use Rattle.desk.specs.declared.AfterAdvance.{AfterAdvance}
-use Rattle.desk.specs.declared.AfterVerdict.{AfterVerdict}
-use Rattle.desk.specs.Desk.{emptyDesk, opened, notLoaded, loadEmpty, loadOf, advanceOf, tellBy, tellOf}
-use Rattle.answers.specs.Answers.{verdictNumbers}
+use Rattle.desk.specs.Desk.{opened, notLoaded, loadEmpty, tellBy, tellOf}
+use Rattle.desk.proofs.Numbers.{fault-kept}
 use Rattle.checker.specs.OneCall.{refusedReport, designReport, judgedOf, answerOf, bufferAfter}
-use Rattle.checker.proofs.Opened.{Ready, few}
-use Rattle.checker.proofs.Stages.{Stage, fresh, going, accepts, fails, advance-fresh}
+use Rattle.checker.proofs.Opened.{Ready, start-is, total-is, initial-is, walk-is}
+use Rattle.checker.proofs.Stages.{Stage, fresh, going, accepts, fails}
 
 -- ---- a load on an empty desk
 
 -- a text without fault is held, and nothing is tried yet
+opened-ready : (text : List ℕ) → faultOf text ≡ 0 → Ready text (opened (heldBy (fieldsByLine text)))
+opened-ready text ok = record { free = ok; held = record { fields-are = refl; starts-are = refl; counts-are = refl }; plan-is = refl }
+
 pub opened-stage : (text : List ℕ) → faultOf text ≡ 0 → Stage text (opened (heldBy (fieldsByLine text)))
-opened-stage text ok = fresh (record { free = ok; held = record { fields-are = refl; starts-are = refl; counts-are = refl }; plan-is = refl }) refl refl
+opened-stage text ok = fresh (opened-ready text ok) refl refl
 
 pub loaded-free : (d : Desk) (text : List ℕ) → faultOf text ≡ 0 → loadEmpty d (loadedOf text) ≡ record { answer = done.Done; desk = opened (heldBy (fieldsByLine text)) }
 unfolding loadEmpty loadedOf
@@ -47,10 +57,6 @@ loaded-free d text ok = rw ok
 pub loaded-fault : (d : Desk) (text : List ℕ) → faultOf text ≢ 0 → loadEmpty d (loadedOf text) ≡ notLoaded (faultOf text) d
 unfolding loadEmpty loadedOf
 loaded-fault d text z = rw (ne-eqb (faultOf text) 0 z) (rw (ne-eqb (faultOf text) 0 z))
-
-load-new : (text : List ℕ) → loadOf emptyDesk text ≡ loadEmpty emptyDesk (loadedOf text)
-unfolding loadOf
-load-new text = refl
 
 -- ---- the verdict of a decided desk
 
@@ -74,51 +80,44 @@ decided-report text desk s o = rw (decided-answer text desk s o) (same-report (v
 
 -- ---- the check
 
-module _ (text : List ℕ) (e : Desk) (ee : e ≡ emptyDesk) (a : AfterLoad) (ea : a ≡ loadOf e text) where
-  loaded : a ≡ loadEmpty emptyDesk (loadedOf text)
-  loaded = ea ∙ rw ee (load-new text)
+-- the arrays that hold a text's lines are checked as its design is
+checked-held : (text : List ℕ) → faultOf text ≡ 0 → checkedIn (fieldsHeld (fieldsByLine text)) (startsHeld (fieldsByLine text)) (countsOf (fieldsByLine text)) ≡ said (checked (designText text))
+unfolding checkedIn checked
+checked-held text ok =
+    rw (start-is text desk ready, total-is text desk ready, walk-is text desk ready (states d) 0 (omega arith), initial-is text desk ready) (go (holds1 d))
+  where
+    d : Design
+    d = designText text
 
-  refused-by : (z : Bool) → eqb (faultOf text) 0 ≡ z → (k : ℕ) → a .answer ≡ done.TurnedDown k → refusedReport k ≡ judgedOf text
+    desk : Desk
+    desk = opened (heldBy (fieldsByLine text))
+
+    ready : Ready text desk
+    ready = opened-ready text ok
+
+    go : (b : Bool) → cond b (said (overStates d)) (Fail (startFailure d)) ≡ said (cond b (overStates d) (fail (startFailure d)))
+    go true = refl
+    go false = refl
+
+module _ (text : List ℕ) (l : Loaded) (el : l ≡ loadedOf text) where
+  fault-is : l .fault ≡ faultOf text
+  fault-is = rw el (fault-kept text)
+
+  pub judge-refused : l .fault ≢ 0 → (r : Report) → r ≡ refusedReport (l .fault) → r ≡ judgedOf text
   unfolding judgedOf
-  refused-by true z k h =
-      let f = loaded ∙ loaded-free emptyDesk text (eqb-true (faultOf text) 0 z) in
-      let q : done.TurnedDown k ≡ done.Done = sym h ∙ ap (λ x. x .answer) f in
-      let w : _≡_ {A = ℕ} 0 1 = cc in
-      absurd (omega arith)
-  refused-by false z k h =
-      let f = loaded ∙ loaded-fault emptyDesk text (eqb-false (faultOf text) 0 z) in
-      let q : done.TurnedDown k ≡ done.TurnedDown (faultOf text) = sym h ∙ ap (λ x. x .answer) f in
-      let w : k ≡ faultOf text = cc in
-      rw (z, w)
+  judge-refused h r er = er ∙ rw (fault-is, ne-eqb (faultOf text) 0 (λ z. h (fault-is ∙ z)))
 
-  pub judge-refused : (k : ℕ) → a .answer ≡ done.TurnedDown k → (r : Report) → r ≡ refusedReport k → r ≡ judgedOf text
-  judge-refused k h r er = er ∙ refused-by _ refl k h
-
-  judged-by : (z : Bool) → eqb (faultOf text) 0 ≡ z → a .answer ≡ done.Done
-      → verdictNumbers (tellOf (advanceOf (a .desk) 18446744073709551615 .desk) .answer) ≡ judgedOf text
-  unfolding judgedOf
-  judged-by true z h =
-      let ok = eqb-true (faultOf text) 0 z in
-      let f = loaded ∙ loaded-free emptyDesk text ok in
-      let desk : Desk = opened (heldBy (fieldsByLine text)) in
-      let same : a .desk ≡ desk = ap (λ x. x .desk) f in
-      let ready : Ready text desk = record { free = ok; held = record { fields-are = refl; starts-are = refl; counts-are = refl }; plan-is = refl } in
-      let adv = advance-fresh text desk 18446744073709551615 (λ n. omega arith) ready refl refl in
-      let most = few text desk ready in
-      rw (z, same) (decided-report text (advanceOf desk 18446744073709551615 .desk) (adv .stage) (adv .ends (omega arith)))
-  judged-by false z h =
-      let f = loaded ∙ loaded-fault emptyDesk text (eqb-false (faultOf text) 0 z) in
-      let q : done.Done ≡ done.TurnedDown (faultOf text) = sym h ∙ ap (λ x. x .answer) f in
-      let w : _≡_ {A = ℕ} 0 1 = cc in
-      absurd (omega arith)
-
-  pub judge-loaded : a .answer ≡ done.Done → (r : Report) → r ≡ verdictNumbers (tellOf (advanceOf (a .desk) 18446744073709551615 .desk) .answer) → r ≡ judgedOf text
-  judge-loaded h r er = er ∙ judged-by _ refl h
-
--- the rest of a check, call by call
-pub rest-report : (desk : Desk) (n : ℕ) (a : AfterAdvance) → a ≡ advanceOf desk n → (t : AfterVerdict) → t ≡ tellOf (a .desk) → (r : Report)
-    → r ≡ verdictNumbers (t .answer) → r ≡ verdictNumbers (tellOf (advanceOf desk n .desk) .answer)
-rest-report desk n a ea t et r er = er ∙ rw (et, ea)
+  pub judge-loaded : l .fault ≡ 0 → (o : Outcome) → o ≡ checkedIn (l .fields) (l .starts) (l .counts) → (p : Phase) → p ≡ phaseAfter o true
+      → (v : Verdict) → v ≡ toldBy p → (r : Report) → r ≡ verdictNumbers v → r ≡ judgedOf text
+  unfolding judgedOf loadedOf
+  judge-loaded z o eo p ep v ev r er =
+      let ok : faultOf text ≡ 0 = sym fault-is ∙ z in
+      let held : l ≡ heldBy (fieldsByLine text) = el ∙ rw ok in
+      er ∙ rw (ev, ep, eo, held, ok, checked-held text ok) (same-report (checked (designText text)))
+    where
+      same-report : (w : first.Outcome Failure) → verdictNumbers (toldBy (phaseAfter (said w) true)) ≡ designReport (byOutcome w)
+      same-report pass = refl
+      same-report (fail x) = refl
 
 -- ---- the buffer
 

@@ -1,11 +1,8 @@
-// The one-call check: a text is loaded on a new desk, all its states are examined and the report is written (01, "The desk"). What it
-// answers and writes is in specs/OneCall, one equation for every text and every buffer.
-use answers::Done;
-use desk::Desk;
+// The one-call check: a text is loaded, all its states are examined and the report is written (01, "The desk"). What it answers and
+// writes is in specs/OneCall, one equation for every text and every buffer. There is no desk in it, so that no arrays move; that a desk
+// comes to the same is claim 2.
 use verdicts::Report;
 ghost use mathlib.Core.Path.{_≡_};
-ghost use Rattle.desk.specs.Desk.{advanceOf, tellOf};
-ghost use Rattle.answers.specs.Answers.{verdictNumbers};
 ghost use Rattle.checker.specs.OneCall.{refusedReport, judgedOf, answerOf, bufferAfter};
 
 // Checks a text and writes the report: 0 accepted, 1 failed, 2 turned down; 9 for a report buffer under 31 bytes, which is not
@@ -27,26 +24,15 @@ pub extern "C" fn check_design(text: &[u8], report: &mut [u8]) -> u32
 pub fn judge(text: &[u8]) -> Report
     ensures { λ r. ⌜ r ≡ judgedOf (now (text .entry)) ⌝ }
 {
-    let loaded = Desk::empty().load(text);
-    let answer = loaded.answer;
-    match answer {
-        Done::TurnedDown(number) => turned_down(number),
-        Done::Done => {
-            let desk = loaded.desk;
-            judge_rest(desk)
-        }
+    let loaded = loader::load(text);
+    let fault = loaded.fault;
+    if fault != 0 {
+        return turned_down(fault);
     }
-}
-
-// Examines all that remain, and reports.
-fn judge_rest(desk: Desk) -> Report
-    ensures { λ r. ⌜ r ≡ verdictNumbers (tellOf (advanceOf desk 18446744073709551615 .desk) .answer) ⌝ }
-{
-    let advanced = desk.advance(18446744073709551615);
-    let examined = advanced.desk;
-    let told = examined.verdict();
-    let answer = told.answer;
-    answers::verdict_numbers(answer)
+    let outcome = walk::check(&loaded.fields, &loaded.starts, loaded.counts);
+    let phase = answers::phase_after(outcome, true);
+    let verdict = answers::verdict_of(phase);
+    answers::verdict_numbers(verdict)
 }
 
 fn turned_down(number: u16) -> Report

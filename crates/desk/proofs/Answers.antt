@@ -7,10 +7,11 @@ use mathlib.Core.List.{List}
 use native.Mathlib.Omega.{arith}
 use borrow.Author.Tests.{eq-eqb, ne-eqb}
 use lib.Dec.{eqb, leb}
-use Rattle.layout.specs.Sizes.{stateCountIn, initialNumberIn}
+use Rattle.layout.specs.Sizes.{stateCountIn}
 use Rattle.loader.specs.declared.Loaded.{Loaded}
 use Rattle.loader.specs.Load.{loadedOf}
-use Rattle.walk.specs.Walk.{startIn, planOf, walkedBy}
+use Rattle.walk.specs.Walk.{startIn, startFailureIn, planOf, walkedBy}
+use Rattle.verdicts.specs.declared.Failure.{Failure}
 use Rattle.verdicts.specs.declared.Walked.{Walked}
 use Rattle.desk.specs.Answers.{loadNumber, advanceCount}
 use Rattle.walk.proofs.Told.{count-within}
@@ -166,10 +167,10 @@ module _ (n next total : ℕ) where
 -- ---- the start fails; the next states are examined
 
 module _ (d : Desk) where
-  pub start-failed : (s : ℕ) → s ≡ initialNumberIn (d .fields) (d .starts) (d .counts) → (e : Desk)
-      → e ≡ placed d 0 (phase.Failed (record { criterion = 1; state = s; row = 0; sum = 0 })) → record { answer = advance.Failed 0; desk = e } ≡ failStart d
+  pub start-failed : (x : Failure) → x ≡ startFailureIn (d .fields) (d .starts) (d .counts) → (e : Desk) → e ≡ placed d 0 (phase.Failed x)
+      → record { answer = advance.Failed 0; desk = e } ≡ failStart d
   unfolding failStart
-  start-failed s es e ee = rw (ee, es)
+  start-failed x ex e ee = rw (ee, ex)
 
   module _ (n total k : ℕ) (et : total ≡ stateCountIn (d .fields) (d .starts) (d .counts)) (ek : k ≡ ahead n (d .next) total) where
     -- wherever the walk starts

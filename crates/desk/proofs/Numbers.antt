@@ -24,7 +24,7 @@ use Rattle.desk.specs.Desk.{loadEmpty, loadBy, loadOf, afterWalk, walked
 
 -- ---- load
 
-fault-kept : (text : List ℕ) → loadedOf text .fault ≡ faultOf text
+pub fault-kept : (text : List ℕ) → loadedOf text .fault ≡ faultOf text
 unfolding loadedOf
 fault-kept text = go (eqb (faultOf text) 0) refl
   where

@@ -11,11 +11,10 @@ use Rattle.limits.specs.Limits.{maxFields, lineStarts}
 use Rattle.reader.specs.Text.{fieldsByLine}
 use Rattle.design.specs.Lines.{countsOf}
 use Rattle.design.specs.Loaded.{fieldsHeld, startsHeld}
-use Rattle.layout.specs.Sizes.{stateCountIn, initialNumberIn}
+use Rattle.layout.specs.Sizes.{stateCountIn}
 use Rattle.loader.specs.declared.Loaded.{Loaded}
 use Rattle.loader.specs.Load.{loadedOf}
-use Rattle.walk.specs.Walk.{startIn, planOf, walkedBy}
-use Rattle.verdicts.specs.declared.Failure.{Failure}
+use Rattle.walk.specs.Walk.{startIn, startFailureIn, planOf, walkedBy}
 use Rattle.verdicts.specs.declared.Walked.{Walked}
 use Rattle.verdicts.specs.declared.Outcome.{Outcome}
 use Rattle.answers.specs.declared.Phase.{Phase}
@@ -82,10 +81,10 @@ notAdvanced k d = record { answer = advance.TurnedDown k; desk = d }
 unfoldable pub ahead : ℕ → ℕ → ℕ → ℕ
 ahead n next total = min n (total - next)
 
--- "how many states it examined, the failing one included; 0 if criterion 1 failed"; "criterion 1 reports the initial state"
+-- "how many states it examined, the failing one included; 0 if criterion 1 failed"
 unfoldable pub failStart : Desk → AfterAdvance
 failStart d =
-    let failure : Failure = record { criterion = 1; state = initialNumberIn (d .fields) (d .starts) (d .counts); row = 0; sum = 0 } in
+    let failure = startFailureIn (d .fields) (d .starts) (d .counts) in
     record { answer = advance.Failed 0; desk = placed d 0 (phase.Failed failure) }
 
 -- "The check is decided when a criterion fails or the last state is done."

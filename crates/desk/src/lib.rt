@@ -7,7 +7,6 @@ use answers::Done;
 use answers::Phase;
 use answers::Verdict;
 use design::Counts;
-use verdicts::Failure;
 use verdicts::Walked;
 ghost use mathlib.Core.Path.{_≡_};
 ghost use Prim.Native.Nat.{_+_, _<_};
@@ -228,12 +227,7 @@ impl Desk {
     fn fail_start(self) -> AfterAdvance
         ensures { λ r. ⌜ r ≡ failStart self ⌝ }
     {
-        let failure = Failure {
-            criterion: 1,
-            state: layout::initial_number(&self.fields, &self.starts, self.counts),
-            row: 0,
-            sum: 0,
-        };
+        let failure = walk::start_failure(&self.fields, &self.starts, self.counts);
         AfterAdvance {
             answer: Advance::Failed(0),
             desk: self.placed(0, Phase::Failed(failure)),

@@ -22,7 +22,7 @@ use Rattle.decision.specs.Examine.{named, stateAt, firstFailing, examine}
 use Rattle.design.specs.Loaded.{sections, designAt, designIn}
 use Rattle.design.specs.declared.Counts.{Counts}
 use Rattle.design.specs.declared.Shape.{Shape}
-use Rattle.layout.specs.Sizes.{countsFit, Fits, shapeOf, stateCountIn}
+use Rattle.layout.specs.Sizes.{countsFit, Fits, shapeOf, stateCountIn, initialNumberIn}
 use Rattle.layout.proofs.Sizes.{shape-fits, sections-kept}
 use Rattle.steps.specs.Arrays.{padded, initialIn, stateIn, invariantIn, mappedIn, sameIn}
 use Rattle.steps.proofs.States as held
@@ -35,7 +35,7 @@ use Rattle.state_passes.specs.Passes.{passesIn}
 use Rattle.state_passes.proofs.Decided.{quick-held}
 use Rattle.walk.specs.Told.{told, toldWalked, noWalk, namedBy}
 use Rattle.walk.specs.Examine.{examineAt, examineIn, walkOn}
-use Rattle.walk.specs.Walk.{startIn, walkIn, statesThere, planOf, walkBy, walkedBy, startMeets}
+use Rattle.walk.specs.Walk.{startIn, startFailureIn, walkIn, statesThere, planOf, walkBy, walkedBy, checkedIn, startMeets}
 use Rattle.walk.proofs.Told.{walked-so}
 use Rattle.verdicts.specs.declared.Outcome.{Outcome as Answer}
 use Rattle.verdicts.specs.declared.Outcome.the-variants.{Pass, Fail}
@@ -258,3 +258,18 @@ module _ (f s : List ℕ) (c : Counts) (n from : ℕ) where
       go : (b : Bool) → countsFit c ≡ b → cond (statesThere f s c n from) (walkOn f s (shapeOf c) (planIn f s (shapeOf c)) n from) noWalk ≡ walkIn f s c n from
       go false e = rw e
       go true e = rw (sections-kept c e, e) (enough (fits-of c h (sym (sections-kept c e))) _ refl)
+
+-- ---- a whole check
+
+pub start-failed : (f s : List ℕ) (c : Counts) (n : ℕ) → n ≡ initialNumberIn f s c → record { criterion = 1; state = n; row = 0; sum = 0 } ≡ startFailureIn f s c
+start-failed f s c n e = rw e
+
+module _ (f s : List ℕ) (c : Counts) (b : Bool) (eb : b ≡ startIn f s c) where
+  pub check-start : (x : Failure) → not b ≡ true → x ≡ startFailureIn f s c → Fail x ≡ checkedIn f s c
+  unfolding checkedIn
+  check-start x h ex = rw (← eb, not-true b h, ex)
+
+  pub check-states : (p : List ℕ) (n : ℕ) (w : WalkAnswer) → not b ≡ false → p ≡ planOf f s c → n ≡ stateCountIn f s c → w ≡ walkedBy f s c p n 0
+      → w .outcome ≡ checkedIn f s c
+  unfolding checkedIn
+  check-states p n w h ep en ew = rw (← eb, not-false b h, ew, ep, en)

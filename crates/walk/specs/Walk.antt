@@ -13,12 +13,14 @@ use Rattle.decision.specs.Examine.{examine}
 use Rattle.design.specs.Loaded.{designIn}
 use Rattle.design.specs.declared.Counts.{Counts}
 use Rattle.design.specs.declared.Shape.{Shape}
-use Rattle.layout.specs.Sizes.{countsFit, shapeOf}
+use Rattle.layout.specs.Sizes.{countsFit, shapeOf, stateCountIn, initialNumberIn}
 use Rattle.plan.specs.Plan.{planIn}
 use Rattle.steps.specs.Arrays.{initialIn, invariantIn, mappedIn, sameIn}
 use Rattle.walk.specs.Told.{noWalk, saidWalked}
 use Rattle.walk.specs.Examine.{walkOn}
 use Rattle.verdicts.specs.declared.Walked.{Walked as WalkAnswer}
+use Rattle.verdicts.specs.declared.Outcome.{Outcome}
+use Rattle.verdicts.specs.declared.Outcome.the-variants.{Fail}
 
 -- criterion 1
 unfoldable pub startIn : List ℕ → List ℕ → Counts → Bool
@@ -40,6 +42,14 @@ walkBy f s c p n from = cond (statesThere f s c n from) (walkOn f s (shapeOf c) 
 
 unfoldable pub walkedBy : List ℕ → List ℕ → Counts → List ℕ → ℕ → ℕ → WalkAnswer
 walkedBy f s c p n from = saidWalked (walkBy f s c p n from)
+
+-- "criterion 1 reports the initial state"
+abbrev pub startFailureIn : List ℕ → List ℕ → Counts → Failure
+startFailureIn f s c = record { criterion = 1; state = initialNumberIn f s c; row = 0; sum = 0 }
+
+-- both: criterion 1, then all states
+unfoldable pub checkedIn : List ℕ → List ℕ → Counts → Outcome
+checkedIn f s c = cond (startIn f s c) (walkedBy f s c (planOf f s c) (stateCountIn f s c) 0 .outcome) (Fail (startFailureIn f s c))
 
 -- criterion 1 as the code tries it
 unfoldable pub startMeets : List ℕ → List ℕ → Shape → Bool

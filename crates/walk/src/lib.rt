@@ -1,5 +1,5 @@
 // The walk over the states of the design in a desk's arrays: criterion 1 at the start, and criteria 2 to 9 at n states from a place on,
-// by a plan that is made once for the design. Every public function answers any arrays, any counts and any numbers. What a walk is, and
+// by a plan that is made once for the design; or both in one check. Every public function answers any arrays, any counts and any numbers. What a walk is, and
 // what the examination of a state, is in the crates foundation and decision.
 use design::Counts;
 use design::Shape;
@@ -11,7 +11,7 @@ ghost use mathlib.Core.Path.{_≡_};
 ghost use Prim.Native.Nat.{_+_, _≤_, min};
 ghost use Rattle.layout.specs.Sizes.{Fits, stateCountIn};
 ghost use Rattle.walk.specs.Told.{told, toldWalked, noWalk, namedBy};
-ghost use Rattle.walk.specs.Walk.{startMeets, startIn, planOf, walkedBy};
+ghost use Rattle.walk.specs.Walk.{startMeets, startIn, startFailureIn, planOf, walkedBy, checkedIn};
 ghost use Rattle.walk.specs.Examine.{examineIn, walkOn};
 
 // How many numbers a plan has.
@@ -29,6 +29,35 @@ pub fn start_holds<'a>(
         return false;
     }
     start_meets(fields, starts, layout::shape_of(counts))
+}
+
+// The failure of criterion 1.
+pub fn start_failure<'a>(
+    fields: &'a limits::Fields,
+    starts: &'a limits::Starts,
+    counts: Counts,
+) -> Failure
+    ensures { λ r. ⌜ r ≡ startFailureIn (now (fields .entry)) (now (starts .entry)) counts ⌝ }
+{
+    Failure {
+        criterion: 1,
+        state: layout::initial_number(fields, starts, counts),
+        row: 0,
+        sum: 0,
+    }
+}
+
+// The whole check: criterion 1, then all states.
+pub fn check<'a>(fields: &'a limits::Fields, starts: &'a limits::Starts, counts: Counts) -> Outcome
+    ensures { λ r. ⌜ r ≡ checkedIn (now (fields .entry)) (now (starts .entry)) counts ⌝ }
+{
+    if !start_holds(fields, starts, counts) {
+        return Outcome::Fail(start_failure(fields, starts, counts));
+    }
+    let plan = plan(fields, starts, counts);
+    let total = layout::state_count(fields, starts, counts);
+    let walked = walk(fields, starts, counts, &plan, 0, total);
+    walked.outcome
 }
 
 // The plan for a walk: what does not change from state to state.
