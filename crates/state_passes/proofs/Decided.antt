@@ -49,7 +49,8 @@ use Rattle.plan.specs.Plan.{rowBy, partnerBy, freeOf, partnerFree, looksOf, noM
 use Rattle.plan.specs.declared.RowPlan.{RowPlan}
 use Rattle.plan.specs.declared.Mark.{Mark}
 use Rattle.plan.proofs.Planned.{impl-row-plan, spec-row-plan}
-use Rattle.state_passes.specs.Passes.{rowFor, placeOf, markHolds, made, keptIn, answeredIn, stepIn, stepOfRow, seen, looksIn, rowIn, implIn, replyLooks, replyIn, specIn, passesIn}
+use Rattle.step_passes.specs.Steps.{keptIn, answeredIn, internalStep, visibleStep}
+use Rattle.state_passes.specs.Passes.{rowFor, placeOf, markHolds, stepIn, stepOfRow, seen, looksIn, rowIn, implIn, replyLooks, replyIn, specIn, passesIn}
 use Rattle.state_passes.specs.declared.Seen.{Seen}
 
 -- a row's condition for the sum value e, taken for 0 where it is said to be sum-free
@@ -87,6 +88,11 @@ arranged true b r = refl
 arranged false b r = refl
 
 -- ---- all criteria at a row and a sum value
+
+-- what is asked of either sort of row
+either : (b a x y : Bool) → cond b (a && x) (a && y) ≡ a && cond b x y
+either true a x y = refl
+either false a x y = refl
 
 at-once : (en i int s4 l5 q6 j0 d8 s9 : Bool) → (j0 ≡ true → q6 ≡ false)
     → (en ⇒ (i && cond int (s4 && l5) (q6 && (d8 && s9))))
@@ -159,8 +165,8 @@ module _ (f s : List ℕ) (h : Shape) (v t : List ℕ) (l : ℕ) where
 
       -- its step, by where the data stand
       step-by-place : en .internal ≡ internalB row → (g : Guarded) (p : ℕ) (marked : Bool) (e : ℕ)
-          → stepIn f s h (rowFor g en p) (made (l + 3 + readF 32 (drop (l + 3) f) .used) marked) v t m e ≡ stepOfRow f s h row marked (en .partner) v t m e
-      unfolding stepIn stepOfRow valuesAt
+          → stepIn f s h (rowFor g en p) (l + 3 + readF 32 (drop (l + 3) f) .used) marked v t m e ≡ stepOfRow f s h row marked (en .partner) v t m e
+      unfolding internalStep visibleStep stepOfRow valuesAt
       step-by-place ei g p marked e = rw (ei, place f l 3 refl, place f (l + 3) _ refl, place f (l + 3 + _) _ refl)
 
       module _ (p : ℕ) (ei : en .internal ≡ internalB row) where
@@ -185,9 +191,9 @@ module _ (f s : List ℕ) (h : Shape) (v t : List ℕ) (l : ℕ) where
             go true y =
                 let on : (e : ℕ) → rest v (cond (en .free) 0 e) ≡ onIn row v (en .free) e =
                 λ e. sym (on-guarded v (h .implementation .parameters .count) (cond (en .free) 0 e) ∙ ap (λ b. b && rest v (cond (en .free) 0 e)) y) in
-                let step : (e : ℕ) → stepIn f s h (rowFor (front v) en p) (made (front v .at + readF (front v .depth) (drop (front v .at) f) .used) (marked e)) v t m e
+                let step : (e : ℕ) → stepIn f s h (rowFor (front v) en p) (front v .at + readF (front v .depth) (drop (front v .at) f) .used) (marked e) v t m e
                 ≡ stepOfRow f s h row (marked e) (en .partner) v t m e =
-                λ e. ap (λ k. stepIn f s h (rowFor (front v) en p) (made k (marked e)) v t m e) (sym (guards f v e 32 (l + 3) .ends y))
+                λ e. ap (λ k. stepIn f s h (rowFor (front v) en p) k (marked e) v t m e) (sym (guards f v e 32 (l + 3) .ends y))
                 ∙ step-by-place ei (front v) p (marked e) e in
                 λ i. seen (all-alike _ held (en .looks) 0 (λ e k. on e k ⇒ step e k) i)
                 (not (en .internal) || all-alike _ off (en .looks) 0 (λ e. ap (λ b. not (b && marked e)) (on e)) i)
@@ -399,6 +405,7 @@ module _ (f s : List ℕ) (h : Shape) (fits : Fits h) (v : State) where
             states.same-held y (mapped d n) n2 (states.mapped-length f s h v) (states.mapped-length f s h n) (fits .specification .parameters),
             answered-held,
           )
+          (either (internalB r) (invariantStateB d n) (sameB y (mapped d n) && (marked ⇒ ltb (measureAt d n) (measureAt d v))) answers)
 
       -- of any mark
       row-made : (marked : Bool) → (enabledB r v e ⇒ stepOfRow f s h r marked j v t (measureAt d v) e)

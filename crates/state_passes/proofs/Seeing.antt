@@ -5,34 +5,33 @@ use mathlib.Core.List.{List}
 use Prim.Native.Nat.{ℕ, zero, suc, _+_, _-_, _≤_, _<_}
 use native.Mathlib.Numerals.{add-one}
 use native.Mathlib.Omega.{arith}
-use borrow.Author.Tests.{not-true, not-false, eq-eqb, ne-eqb}
-use lib.Dec.{eqb, ltb, eqb·suc-zero}
+use borrow.Author.Tests.{not-true, not-false, ne-eqb}
+use lib.Dec.{eqb, eqb·suc-zero}
 use lib.ListN.{getD, drop}
 use Rattle.foundation.specs.First.{allIn}
 use Rattle.foundation.specs.Reflects.{_⇒_}
+use Rattle.foundation.proofs.First.{all-alike}
 use Rattle.foundation.proofs.All.{all-begin, all-turn, all-fail, all-end, all-yes}
-use Rattle.terms.specs.Tree.{evalV, evalF}
-use Rattle.terms.specs.Read.{readV, readF}
+use Rattle.terms.specs.Tree.{evalF}
+use Rattle.terms.specs.Read.{readF}
 use Rattle.terms.proofs.Read.{place}
 use Rattle.terms.proofs.And.{and-left, and-right}
-use Rattle.eval.specs.Answer.{answerV, answerF}
-use Rattle.eval.specs.declared.Valued.{Valued}
+use Rattle.eval.specs.Answer.{answerF}
 use Rattle.eval.specs.declared.Held.{Held}
 use Rattle.decision.specs.Tests.{enabledB}
-use Rattle.design.specs.Line.{rowOf}
 use Rattle.design.specs.declared.Process.{Process}
 use Rattle.design.specs.declared.Shape.{Shape}
 use Rattle.layout.specs.Sizes.{Fits}
-use Rattle.steps.specs.Arrays.{padded, valuesAt, lineOf, belowIn, sameIn, insideIn, mappedIn, measureIn}
+use Rattle.steps.specs.Arrays.{lineOf, belowIn, measureIn}
 use Rattle.conjuncts.specs.Conjuncts.{guardIn}
 use Rattle.conjuncts.specs.declared.Guarded.{Guarded}
 use Rattle.plan.specs.Plan.{rowBy, partnerBy, rowPlanAt}
 use Rattle.plan.specs.declared.RowPlan.{RowPlan}
-use Rattle.state_passes.specs.Passes.{rowFor, placeOf, left, onAt, knownIn, markHolds, markAt, knownMark, made, keptIn, answeredIn, stepIn, seen, lookIn, looksIn, rowIn, implIn, repliedIn, replyLooks, replyIn, specIn, passesIn}
+use Rattle.step_passes.specs.Steps.{internalStep, visibleStep}
+use Rattle.state_passes.specs.Passes.{rowFor, placeOf, left, onAt, knownIn, markHolds, markAt, knownMark, stepIn, seen, visibleLook, visibleLooks, internalLook, internalLooks, looksIn, rowIn, implIn, repliedIn, replyLooks, replyIn, specIn, passesIn}
 use Rattle.state_passes.specs.declared.Seen.{Seen}
 use Rattle.state_passes.specs.declared.Row.{Row}
 use Rattle.state_passes.specs.declared.First.{First}
-use Rattle.state_passes.specs.declared.Made.{Made}
 
 -- ---- what is known of a condition
 
@@ -93,115 +92,115 @@ module _ (s : List ℕ) (h : Shape) (en : RowPlan) where
   pub place-some : (line : ℕ) → (en .mark .at ≡ 0 → ⊥) → line ≡ getD s (h .marks .first) 0 → line + en .mark .at ≡ placeOf s h en
   place-some line some el = rw (el, ne-eqb (en .mark .at) 0 some)
 
--- ---- a step
-
-module _ (f s x t w : List ℕ) (h : Shape) (m : ℕ) (marked b : Bool) (ew : w ≡ mappedIn f s h x) (eb : b ≡ sameIn (h .specification .parameters .count) t w) where
-  pub kept-not : not b ≡ true → false ≡ keptIn f s h x t m marked
-  unfolding keptIn
-  kept-not y = rw (← ew, ← eb, not-true b y)
-
-  pub kept-unmarked : not b ≡ false → not marked ≡ true → true ≡ keptIn f s h x t m marked
-  unfolding keptIn
-  kept-unmarked y n = rw (← ew, ← eb, not-false b y, not-true marked n)
-
-  pub kept-lowers : (n : ℕ) → not b ≡ false → not marked ≡ false → n ≡ measureIn f s h x → ltb n m ≡ keptIn f s h x t m marked
-  unfolding keptIn
-  kept-lowers n y k en = rw (← ew, ← eb, not-false b y, not-false marked k, en)
-
-module _ (f s y t : List ℕ) (p : Process) (j w e : ℕ) where
-  abbrev n : ℕ
-  n = p .parameters .count
-
-  pub answer-none : j ≡ 0 → false ≡ answeredIn f s p j w y t e
-  unfolding answeredIn partnerBy evalF
-  answer-none z = rw z
-
-  module _ (line : ℕ) (some : j ≡ 0 → ⊥) (el : line ≡ lineOf s p j) (h : Held) (eh : h ≡ answerF (line + 3) t e (readF 32 (drop (line + 3) f))) where
-    row-is : partnerBy f s p j ≡ rowOf n (drop line f)
-    unfolding partnerBy rowBy
-    row-is = rw (ne-eqb j 0 some, el)
-
-    pub answer-off : not (h .holds) ≡ true → false ≡ answeredIn f s p j w y t e
-    unfolding answeredIn
-    answer-off is-off =
-        let off : evalF (rowOf n (drop line f) .condition) t e ≡ false =
-        rw (place f line 3 refl) (sym (ap (λ r. r .holds) eh) ∙ not-true (h .holds) is-off) in
-        rw (row-is, off)
-
-    on : not (h .holds) ≡ false → evalF (rowOf n (drop line f) .condition) t e ≡ true
-    on yes-on = rw (place f line 3 refl) (sym (ap (λ r. r .holds) eh) ∙ not-false (h .holds) yes-on)
-
-    carried : (x : Valued) → x ≡ answerV (h .next) t e (readV 32 (drop (h .next) f)) → evalV (rowOf n (drop line f) .carries) t e ≡ x .value
-    carried x ex = rw (ex, eh, place f line 3 refl, place f (line + 3) _ refl)
-
-    pub answer-differs : (x : Valued) → not (h .holds) ≡ false → x ≡ answerV (h .next) t e (readV 32 (drop (h .next) f)) → (w ≡ x .value → ⊥)
-        → false ≡ answeredIn f s p j w y t e
-    unfolding answeredIn
-    answer-differs x yes-on ex ne = rw (row-is, on yes-on, carried x ex, ne-eqb w (x .value) ne)
-
-    pub answer-same : (x : Valued) (z : List ℕ) (b : Bool) → not (h .holds) ≡ false → x ≡ answerV (h .next) t e (readV 32 (drop (h .next) f)) → w ≡ x .value
-        → z ≡ padded (valuesAt f (x .next) n t e) → b ≡ sameIn n y z → b ≡ answeredIn f s p j w y t e
-    unfolding answeredIn valuesAt
-    answer-same x z b yes-on ex eq ez eb =
-        rw (row-is, on yes-on, carried x ex, eq-eqb w (x .value) eq, eb, ez, ex, eh, place f line 3 refl, place f (line + 3) _ refl, place f (line + 3 + _) _ refl)
-
-module _ (f s v t x : List ℕ) (h : Shape) (row : Row) (step : Made) (m e : ℕ) (i : Bool) (d : Valued) (ed : d ≡ answerV (step .at) v e (readV 32 (drop (step .at) f)))
-    (ex : x ≡ padded (valuesAt f (d .next) (h .implementation .parameters .count) v e)) (ei : i ≡ insideIn f s h x) where
-  abbrev rest : Bool
-  rest = cond (row .internal) (keptIn f s h x t m (step .marked)) (answeredIn f s (h .specification) (row .partner) (d .value) (mappedIn f s h x) t e)
-
-  step-so : insideIn f s h x && rest ≡ stepIn f s h row step v t m e
-  unfolding stepIn
-  step-so = rw (ex, ed)
-
-  pub step-out : not i ≡ true → false ≡ stepIn f s h row step v t m e
-  step-out y = ap (λ a. a && rest) (sym (sym ei ∙ not-true i y)) ∙ step-so
-
-  step-within : (r : Bool) → not i ≡ false → r ≡ rest → r ≡ stepIn f s h row step v t m e
-  step-within r y er = er ∙ ap (λ a. a && rest) (sym (sym ei ∙ not-false i y)) ∙ step-so
-
-  pub step-internal : (r : Bool) → not i ≡ false → row .internal ≡ true → r ≡ keptIn f s h x t m (step .marked) → r ≡ stepIn f s h row step v t m e
-  step-internal r y eb er = step-within r y (er ∙ rw eb)
-
-  pub step-visible : (z : List ℕ) (r : Bool) → not i ≡ false → row .internal ≡ false → z ≡ mappedIn f s h x
-      → r ≡ answeredIn f s (h .specification) (row .partner) (d .value) z t e → r ≡ stepIn f s h row step v t m e
-  step-visible z r y eb ez er = step-within r y (er ∙ rw (eb, ez))
-
--- one look
-module _ (f s v t : List ℕ) (h : Shape) (row : Row) (first : First) (o : Held) (m e : ℕ) (eo : o ≡ knownIn f row v (first .on) e) where
-  pub look-off : not (o .holds) ≡ true → record { holds = true; quiet = true } ≡ lookIn f s h row first v t m e
-  unfolding lookIn
-  look-off y = rw (← eo, not-true (o .holds) y)
-
-  pub look-on : (k b : Bool) → not (o .holds) ≡ false → k ≡ knownMark f row v (first .marked) e → b ≡ stepIn f s h row (record { at = o .next; marked = k }) v t m e
-      → record { holds = b; quiet = not k } ≡ lookIn f s h row first v t m e
-  unfolding lookIn
-  look-on k b y ek eb = rw (← eo, ← ek, not-false (o .holds) y, eb)
-
--- ---- all sum values of a row
+-- ---- all that are tried one after the other
 
 -- one more that holds, whose second says q
 all-step : (g : ℕ → Bool) (n i : ℕ) → i < n → allIn g (n - i) i ≡ g i && allIn g (n - (i + 1)) (i + 1)
 unfolding allIn
 all-step g n i l = let e : n - i ≡ suc (n - (i + 1)) = omega arith in rw (e, add-one i)
 
--- two tests of which the first decides whether the second is told
-module _ (h q : ℕ → Bool) (u : Bool → Bool) (n : ℕ) where
-  abbrev seenLeft : Bool → ℕ → Seen
-  seenLeft a i = seen (allIn h (n - i) i) (u (a && allIn q (n - i) i))
+-- n sights g, of which each says whether it holds, and if all do, whether all are quiet
+module _ (g : ℕ → Seen) (n : ℕ) where
+  abbrev h : ℕ → Bool
+  h i = g i .holds
 
-  seen-begin : seenLeft true 0 ≡ seen (allIn h n 0) (u (allIn q n 0))
+  abbrev q : ℕ → Bool
+  q i = g i .quiet
+
+  abbrev seenAll : Seen
+  seenAll = seen (allIn h n 0) (allIn q n 0)
+
+  abbrev seenLeft : Bool → ℕ → Seen
+  seenLeft a i = seen (allIn h (n - i) i) (a && allIn q (n - i) i)
+
+  seen-begin : seenLeft true 0 ≡ seenAll
   seen-begin = let e : n - 0 ≡ n = omega arith in rw e
 
-  seen-turn : (a : Bool) (i : ℕ) → i < n → h i ≡ true → seenLeft a i ≡ seenLeft (a && q i) (i + 1)
-  seen-turn a i l e =
-      rw (all-turn h n i l e, all-step q n i l) (ap (λ b. seen (allIn h (n - (i + 1)) (i + 1)) (u b)) (sym (and-assoc a (q i) (allIn q (n - (i + 1)) (i + 1)))))
+  module _ (a : Bool) (i : ℕ) (r : Seen) (l : i < n) (is : r ≡ g i) (inv : seenLeft a i ≡ seenAll) where
+    seen-turn : not (r .holds) ≡ false → seenLeft (a && r .quiet) (i + 1) ≡ seenAll
+    seen-turn ok =
+        let holds : h i ≡ true = sym (ap (λ x. x .holds) is) ∙ not-false (r .holds) ok in
+        ap (λ x. seenLeft (a && x .quiet) (i + 1)) is
+        ∙ sym (rw (all-turn h n i l holds, all-step q n i l) (ap (λ b. seen (allIn h (n - (i + 1)) (i + 1)) b) (sym (and-assoc a (q i) (allIn q (n - (i + 1)) (i + 1)))))) ∙ inv
 
-  seen-fail : (a : Bool) (i : ℕ) → i < n → h i ≡ false → record { holds = false; quiet = false } ≡ seenLeft a i
-  seen-fail a i l e = rw (all-fail h n i l e)
+    seen-fail : not (r .holds) ≡ true → record { holds = false; quiet = false } ≡ seenAll
+    seen-fail ok = rw (all-fail h n i l (sym (ap (λ x. x .holds) is) ∙ not-true (r .holds) ok)) at inv
 
-  seen-end : (a : Bool) (i : ℕ) → n ≤ i → record { holds = true; quiet = u a } ≡ seenLeft a i
-  seen-end a i l = rw (all-end h n i l, all-end q n i l, and-true a)
+  seen-end : (a : Bool) (i : ℕ) → n ≤ i → seenLeft a i ≡ seenAll → record { holds = true; quiet = a } ≡ seenAll
+  seen-end a i l inv = rw (all-end h n i l, all-end q n i l, and-true a) at inv
+
+-- ---- the looks at a visible row
+
+module _ (f s v t : List ℕ) (h : Shape) (row : Row) (first : Held) where
+  module _ (o : Held) (e : ℕ) (eo : o ≡ knownIn f row v first e) where
+    pub visible-off : not (o .holds) ≡ true → true ≡ visibleLook f s h row first v t e
+    unfolding visibleLook
+    visible-off y = rw (← eo, not-true (o .holds) y)
+
+    pub visible-on : (b : Bool) → not (o .holds) ≡ false → b ≡ visibleStep f s h (o .next) (row .partner) v t e → b ≡ visibleLook f s h row first v t e
+    unfolding visibleLook
+    visible-on b y eb = rw (← eo, not-false (o .holds) y, eb)
+
+  abbrev looked : ℕ → Bool
+  looked e = visibleLook f s h row first v t e
+
+  unfoldable pub visibleLeft : ℕ → Bool
+  visibleLeft e = allIn looked (row .looks - e) e
+
+  pub visible-begin : visibleLeft 0 ≡ visibleLooks f s h row first v t
+  unfolding visibleLeft visibleLooks
+  visible-begin = all-begin looked (row .looks)
+
+  module _ (e : ℕ) (b : Bool) (l : e < row .looks) (eb : b ≡ visibleLook f s h row first v t e) (inv : visibleLeft e ≡ visibleLooks f s h row first v t) where
+    pub visible-turn : not b ≡ false → visibleLeft (e + 1) ≡ visibleLooks f s h row first v t
+    unfolding visibleLeft
+    visible-turn ok = sym (all-turn looked (row .looks) e l (sym eb ∙ not-false b ok)) ∙ inv
+
+    pub visible-fail : not b ≡ true → false ≡ visibleLooks f s h row first v t
+    unfolding visibleLeft
+    visible-fail ok = sym (all-fail looked (row .looks) e l (sym eb ∙ not-true b ok)) ∙ inv
+
+  pub visible-end : (e : ℕ) → row .looks ≤ e → visibleLeft e ≡ visibleLooks f s h row first v t → true ≡ visibleLooks f s h row first v t
+  unfolding visibleLeft
+  visible-end e l inv = sym (all-end looked (row .looks) e l) ∙ inv
+
+-- ---- the looks at an internal row
+
+module _ (f s v t : List ℕ) (h : Shape) (row : Row) (first : First) (m : ℕ) where
+  module _ (o : Held) (e : ℕ) (eo : o ≡ knownIn f row v (first .on) e) where
+    pub internal-off : not (o .holds) ≡ true → record { holds = true; quiet = true } ≡ internalLook f s h row first v t m e
+    unfolding internalLook
+    internal-off y = rw (← eo, not-true (o .holds) y)
+
+    pub internal-on : (k b : Bool) → not (o .holds) ≡ false → k ≡ knownMark f row v (first .marked) e → b ≡ internalStep f s h (o .next) k v t m e
+        → record { holds = b; quiet = not k } ≡ internalLook f s h row first v t m e
+    unfolding internalLook
+    internal-on k b y ek eb = rw (← eo, ← ek, not-false (o .holds) y, eb)
+
+  abbrev look : ℕ → Seen
+  look e = internalLook f s h row first v t m e
+
+  unfoldable pub internalLeft : Bool → ℕ → Seen
+  internalLeft a e = seenLeft look (row .looks) a e
+
+  pub internal-begin : internalLeft true 0 ≡ internalLooks f s h row first v t m
+  unfolding internalLeft internalLooks
+  internal-begin = seen-begin look (row .looks)
+
+  module _ (a : Bool) (e : ℕ) (r : Seen) (l : e < row .looks) (er : r ≡ internalLook f s h row first v t m e) (inv : internalLeft a e ≡ internalLooks f s h row first v t m) where
+    pub internal-turn : not (r .holds) ≡ false → internalLeft (a && r .quiet) (e + 1) ≡ internalLooks f s h row first v t m
+    unfolding internalLeft internalLooks
+    internal-turn ok = seen-turn look (row .looks) a e r l er inv ok
+
+    pub internal-fail : not (r .holds) ≡ true → record { holds = false; quiet = false } ≡ internalLooks f s h row first v t m
+    unfolding internalLeft internalLooks
+    internal-fail ok = seen-fail look (row .looks) a e r l er inv ok
+
+  pub internal-end : (a : Bool) (e : ℕ) → row .looks ≤ e → internalLeft a e ≡ internalLooks f s h row first v t m → record { holds = true; quiet = a } ≡ internalLooks f s h row first v t m
+  unfolding internalLeft internalLooks
+  internal-end a e l inv = seen-end look (row .looks) a e l inv
+
+-- ---- the looks at a row
 
 -- a condition that does not read the sum value, and does not hold for 0, never holds
 never : (f v : List ℕ) (row : Row) (first : Held) → row .free && not (first .holds) ≡ true → first ≡ answerF (row .at) v 0 (left f row) → (e : ℕ) → onAt f row v e ≡ false
@@ -209,61 +208,47 @@ never f v row first y ef e =
     ap (λ b. evalF (left f row .tree) v (cond b 0 e)) (and-left (row .free) (not (first .holds)) y)
     ∙ sym (ap (λ x. x .holds) ef) ∙ not-true (first .holds) (and-right (row .free) (not (first .holds)) y)
 
-module _ (f s v t : List ℕ) (h : Shape) (row : Row) (m : ℕ) where
-  abbrev whole : Seen
-  whole = looksIn f s h row v t m
-
+module _ (f s v t : List ℕ) (h : Shape) (row : Row) (m : ℕ) (on : Held) (eo : on ≡ answerF (row .at) v 0 (left f row)) where
   abbrev past : ℕ
   past = row .at + left f row .used
 
   abbrev held : ℕ → Bool
-  held e = onAt f row v e ⇒ stepIn f s h row (made past (markAt f row v e)) v t m e
+  held e = onAt f row v e ⇒ stepIn f s h row past (markAt f row v e) v t m e
 
   abbrev off : ℕ → Bool
   off e = not (onAt f row v e && markAt f row v e)
 
-  abbrev told : Bool → Bool
-  told b = not (row .internal) || b
+  pub row-ruled-out : row .free && not (on .holds) ≡ true → record { holds = true; quiet = true } ≡ looksIn f s h row v t m
+  unfolding looksIn
+  row-ruled-out y =
+      rw (
+        all-yes held (λ e. ap (λ b. b ⇒ stepIn f s h row past (markAt f row v e) v t m e) (never f v row on y eo e)) (row .looks) 0,
+        all-yes off (λ e. ap (λ b. not (b && markAt f row v e)) (never f v row on y eo e)) (row .looks) 0,
+        or-true (not (row .internal)),
+      )
 
-  unfoldable pub rowLeft : Bool → ℕ → Seen
-  rowLeft a e = seenLeft held off told (row .looks) a e
+  pub row-internal : (k : Bool) (r : Seen) → row .internal ≡ true → k ≡ markHolds f (row .mark) v 0 → r ≡ internalLooks f s h row (record { on = on; marked = k }) v t m
+      → r ≡ looksIn f s h row v t m
+  unfolding looksIn internalLooks internalLook
+  row-internal k r int ek er =
+      er ∙ (λ i. seen (all-alike _ held (row .looks) 0 (λ e j. look-is e j .holds) i) (all-alike _ off (row .looks) 0 (λ e j. look-is e j .quiet) i))
+      ∙ rw int
+    where
+      look-is : (e : ℕ) → internalLook f s h row (record { on = on; marked = k }) v t m e ≡ record { holds = held e; quiet = off e }
+      look-is e = rw (on-is f row v on e eo, mark-is f row v k e ek, int)
 
-  pub row-begin : rowLeft true 0 ≡ whole
-  unfolding rowLeft looksIn
-  row-begin = seen-begin held off told (row .looks)
+  pub row-visible : (b : Bool) → row .internal ≡ false → b ≡ visibleLooks f s h row on v t → record { holds = b; quiet = b } ≡ looksIn f s h row v t m
+  unfolding looksIn visibleLooks visibleLook
+  row-visible b vis eb =
+      ap (λ x. record { holds = x; quiet = x }) (eb ∙ all-alike _ held (row .looks) 0 look-is)
+      ∙ go (allIn held (row .looks) 0) ∙ ap (λ i. seen (allIn held (row .looks) 0) (not i || allIn off (row .looks) 0)) (sym vis)
+    where
+      look-is : (e : ℕ) → visibleLook f s h row on v t e ≡ held e
+      look-is e = rw (on-is f row v on e eo, vis)
 
-  module _ (on : Held) (eo : on ≡ answerF (row .at) v 0 (left f row)) where
-    pub row-ruled-out : row .free && not (on .holds) ≡ true → record { holds = true; quiet = true } ≡ whole
-    unfolding looksIn
-    row-ruled-out y =
-        rw (
-          all-yes held (λ e. ap (λ b. b ⇒ stepIn f s h row (made past (markAt f row v e)) v t m e) (never f v row on y eo e)) (row .looks) 0,
-          all-yes off (λ e. ap (λ b. not (b && markAt f row v e)) (never f v row on y eo e)) (row .looks) 0,
-          or-true (not (row .internal)),
-        )
-
-    module _ (k : Bool) (ek : k ≡ markHolds f (row .mark) v 0) (e : ℕ) (q : Bool) (g : Seen) (l : e < row .looks)
-        (eg : g ≡ lookIn f s h row (record { on = on; marked = k }) v t m e) (inv : rowLeft q e ≡ whole) where
-      look-row : lookIn f s h row (record { on = on; marked = k }) v t m e ≡ record { holds = held e; quiet = off e }
-      unfolding lookIn
-      look-row = rw (on-is f row v on e eo, mark-is f row v k e ek)
-
-      held-row : g .holds ≡ held e
-      held-row = ap (λ x. x .holds) (eg ∙ look-row)
-
-      pub row-turn : not (g .holds) ≡ false → rowLeft (q && g .quiet) (e + 1) ≡ whole
-      unfolding rowLeft
-      row-turn ok =
-          ap (λ x. seenLeft held off told (row .looks) (q && x .quiet) (e + 1)) (eg ∙ look-row)
-          ∙ sym (seen-turn held off told (row .looks) q e l (sym held-row ∙ not-false (g .holds) ok)) ∙ inv
-
-      pub row-fail : not (g .holds) ≡ true → record { holds = false; quiet = false } ≡ whole
-      unfolding rowLeft
-      row-fail ok = seen-fail held off told (row .looks) q e l (sym held-row ∙ not-true (g .holds) ok) ∙ inv
-
-  pub row-end : (e : ℕ) (q : Bool) → row .looks ≤ e → rowLeft q e ≡ whole → record { holds = true; quiet = not (row .internal) || q } ≡ whole
-  unfolding rowLeft
-  row-end e q l inv = seen-end held off told (row .looks) q e l ∙ inv
+      go : (x : Bool) → record { holds = x; quiet = x } ≡ seen x true
+      go true = refl
+      go false = refl
 
 -- the conjuncts in front
 module _ (f s p v t : List ℕ) (h : Shape) (i k m line n : ℕ) (g : Guarded) (ek : k ≡ i + 1) (el : line ≡ lineOf s (h .implementation) k) (en : n ≡ rowPlanAt p i .front)
@@ -289,33 +274,25 @@ module _ (f s p v t : List ℕ) (h : Shape) (m : ℕ) where
   abbrev rowSeen : ℕ → Seen
   rowSeen i = rowIn f s h (i + 1) (rowPlanAt p i) v t m
 
-  abbrev holdsAt : ℕ → Bool
-  holdsAt i = rowSeen i .holds
-
-  abbrev quietAt : ℕ → Bool
-  quietAt i = rowSeen i .quiet
-
   unfoldable pub implLeft : Bool → ℕ → Seen
-  implLeft a i = seenLeft holdsAt quietAt (λ b. b) rows a i
+  implLeft a i = seenLeft rowSeen rows a i
 
   pub impl-begin : implLeft true 0 ≡ implIn f s h p v t m
   unfolding implLeft implIn
-  impl-begin = seen-begin holdsAt quietAt (λ b. b) rows
+  impl-begin = seen-begin rowSeen rows
 
   module _ (a : Bool) (i : ℕ) (r : Seen) (l : i < rows) (is : r ≡ rowIn f s h (i + 1) (rowPlanAt p i) v t m) (inv : implLeft a i ≡ implIn f s h p v t m) where
     pub impl-turn : not (r .holds) ≡ false → implLeft (a && r .quiet) (i + 1) ≡ implIn f s h p v t m
-    unfolding implLeft
-    impl-turn ok =
-        ap (λ x. seenLeft holdsAt quietAt (λ b. b) rows (a && x .quiet) (i + 1)) is
-        ∙ sym (seen-turn holdsAt quietAt (λ b. b) rows a i l (sym (ap (λ x. x .holds) is) ∙ not-false (r .holds) ok)) ∙ inv
+    unfolding implLeft implIn
+    impl-turn ok = seen-turn rowSeen rows a i r l is inv ok
 
     pub impl-fail : not (r .holds) ≡ true → record { holds = false; quiet = false } ≡ implIn f s h p v t m
-    unfolding implLeft
-    impl-fail ok = seen-fail holdsAt quietAt (λ b. b) rows a i l (sym (ap (λ x. x .holds) is) ∙ not-true (r .holds) ok) ∙ inv
+    unfolding implLeft implIn
+    impl-fail ok = seen-fail rowSeen rows a i r l is inv ok
 
   pub impl-end : (a : Bool) (i : ℕ) → rows ≤ i → implLeft a i ≡ implIn f s h p v t m → record { holds = true; quiet = a } ≡ implIn f s h p v t m
-  unfolding implLeft
-  impl-end a i l inv = seen-end holdsAt quietAt (λ b. b) rows a i l ∙ inv
+  unfolding implLeft implIn
+  impl-end a i l inv = seen-end rowSeen rows a i l inv
 
 -- a plan has their entries
 pub impl-few : (h : Shape) (i : ℕ) → Fits h → i < h .implementation .rows .count → i < 64

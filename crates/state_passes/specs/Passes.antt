@@ -3,12 +3,12 @@
 use mathlib.Core.Bool.{Bool, true, false, not, _&&_, _||_, cond}
 use mathlib.Core.List.{List}
 use Prim.Native.Nat.{ℕ, _+_}
-use lib.Dec.{eqb, ltb}
+use lib.Dec.{eqb}
 use lib.ListN.{getD, drop}
 use Rattle.foundation.specs.First.{allIn}
 use Rattle.foundation.specs.Reflects.{_⇒_}
-use Rattle.terms.specs.Tree.{Formula, evalV, evalF}
-use Rattle.terms.specs.Read.{Read, readV, readF}
+use Rattle.terms.specs.Tree.{Formula, evalF}
+use Rattle.terms.specs.Read.{Read, readF}
 use Rattle.eval.specs.Answer.{answerF}
 use Rattle.eval.specs.declared.Held.{Held}
 use Rattle.criteria.specs.Design as design
@@ -16,15 +16,15 @@ use Rattle.criteria.specs.Step.{nextState, dataNumber}
 use Rattle.decision.specs.Tests.{enabledB, internalB}
 use Rattle.design.specs.declared.Process.{Process}
 use Rattle.design.specs.declared.Shape.{Shape}
-use Rattle.steps.specs.Arrays.{padded, valuesAt, lineOf, belowIn, sameIn, insideIn, mappedIn, measureIn}
+use Rattle.steps.specs.Arrays.{padded, lineOf, belowIn, measureIn}
 use Rattle.conjuncts.specs.Conjuncts.{guardIn}
 use Rattle.conjuncts.specs.declared.Guarded.{Guarded}
 use Rattle.plan.specs.Plan.{partnerBy, rowPlanAt}
 use Rattle.plan.specs.declared.RowPlan.{RowPlan}
+use Rattle.step_passes.specs.Steps.{internalTo, visibleTo, internalStep, visibleStep}
 use Rattle.state_passes.specs.declared.Seen.{Seen}
 use Rattle.state_passes.specs.declared.Row.{Row}
 use Rattle.state_passes.specs.declared.First.{First}
-use Rattle.state_passes.specs.declared.Made.{Made}
 
 -- ---- a row that is looked at
 
@@ -69,30 +69,15 @@ knownMark f row v first e = cond (row .steady || eqb e 0) first (markHolds f (ro
 
 -- ---- a step
 
--- an internal step to x keeps the mapping, and lowers the measure if it is marked
-unfoldable pub keptIn : List ℕ → List ℕ → Shape → List ℕ → List ℕ → ℕ → Bool → Bool
-keptIn f s h x t m marked = sameIn (h .specification .parameters .count) t (mappedIn f s h x) && (marked ⇒ ltb (measureIn f s h x) m)
+-- of a row whose data stand at a place, marked or not
+abbrev pub stepIn : List ℕ → List ℕ → Shape → Row → ℕ → Bool → List ℕ → List ℕ → ℕ → ℕ → Bool
+stepIn f s h row at marked v t m e = cond (row .internal) (internalStep f s h at marked v t m e) (visibleStep f s h at (row .partner) v t e)
 
--- row j of the specification makes the same step: enabled, the data number w, to y
-unfoldable pub answeredIn : List ℕ → List ℕ → Process → ℕ → ℕ → List ℕ → List ℕ → ℕ → Bool
-answeredIn f s p j w y t e =
-    let q = partnerBy f s p j in
-    enabledB q t e && (eqb w (dataNumber q t e) && sameIn (p .parameters .count) y (padded (nextState q t e)))
-
--- a step to x with the data number w, marked or not, of an internal row or of one whose partner is j
-abbrev pub stepTo : List ℕ → List ℕ → Shape → Bool → Bool → ℕ → List ℕ → ℕ → ℕ → List ℕ → ℕ → Bool
-stepTo f s h marked internal j t m w x e = insideIn f s h x && cond internal (keptIn f s h x t m marked) (answeredIn f s (h .specification) j w (mappedIn f s h x) t e)
-
--- of a row that makes it
-unfoldable pub stepIn : List ℕ → List ℕ → Shape → Row → Made → List ℕ → List ℕ → ℕ → ℕ → Bool
-stepIn f s h row step v t m e =
-    let r = readV 32 (drop (step .at) f) in
-    stepTo f s h (step .marked) (row .internal) (row .partner) t m (evalV (r .tree) v e)
-    (padded (valuesAt f (step .at + r .used) (h .implementation .parameters .count) v e)) e
-
--- of a row of the design
+-- of a row of the design, whose partner is j
 unfoldable pub stepOfRow : List ℕ → List ℕ → Shape → design.Row → Bool → ℕ → List ℕ → List ℕ → ℕ → ℕ → Bool
-stepOfRow f s h r marked j v t m e = stepTo f s h marked (internalB r) j t m (dataNumber r v e) (padded (nextState r v e)) e
+stepOfRow f s h r marked j v t m e =
+    let x = padded (nextState r v e) in
+    cond (internalB r) (internalTo f s h marked t m x) (visibleTo f s h j t (dataNumber r v e) x e)
 
 -- ---- the rows of the implementation
 
@@ -100,21 +85,30 @@ stepOfRow f s h r marked j v t m e = stepTo f s h marked (internalB r) j t m (da
 abbrev pub seen : Bool → Bool → Seen
 seen h q = cond h (record { holds = true; quiet = q }) (record { holds = false; quiet = false })
 
--- a step whose row's data stand at a place, marked or not
-abbrev pub made : ℕ → Bool → Made
-made at marked = record { at = at; marked = marked }
+-- a look at a visible row, and all
+unfoldable pub visibleLook : List ℕ → List ℕ → Shape → Row → Held → List ℕ → List ℕ → ℕ → Bool
+visibleLook f s h row first v t e = let o = knownIn f row v first e in o .holds ⇒ visibleStep f s h (o .next) (row .partner) v t e
 
--- one look, and all
-unfoldable pub lookIn : List ℕ → List ℕ → Shape → Row → First → List ℕ → List ℕ → ℕ → ℕ → Seen
-lookIn f s h row first v t m e =
+unfoldable pub visibleLooks : List ℕ → List ℕ → Shape → Row → Held → List ℕ → List ℕ → Bool
+visibleLooks f s h row first v t = allIn (λ e. visibleLook f s h row first v t e) (row .looks) 0
+
+-- a look at an internal one, and all
+unfoldable pub internalLook : List ℕ → List ℕ → Shape → Row → First → List ℕ → List ℕ → ℕ → ℕ → Seen
+internalLook f s h row first v t m e =
     let o = knownIn f row v (first .on) e in
     let marked = knownMark f row v (first .marked) e in
-    record { holds = o .holds ⇒ stepIn f s h row (made (o .next) marked) v t m e; quiet = not (o .holds && marked) }
+    record { holds = o .holds ⇒ internalStep f s h (o .next) marked v t m e; quiet = not (o .holds && marked) }
 
+unfoldable pub internalLooks : List ℕ → List ℕ → Shape → Row → First → List ℕ → List ℕ → ℕ → Seen
+internalLooks f s h row first v t m =
+    let look : ℕ → Seen = λ e. internalLook f s h row first v t m e in
+    seen (allIn (λ e. look e .holds) (row .looks) 0) (allIn (λ e. look e .quiet) (row .looks) 0)
+
+-- the same of either, said of the row
 unfoldable pub looksIn : List ℕ → List ℕ → Shape → Row → List ℕ → List ℕ → ℕ → Seen
 looksIn f s h row v t m =
     let past = row .at + left f row .used in
-    seen (allIn (λ e. onAt f row v e ⇒ stepIn f s h row (made past (markAt f row v e)) v t m e) (row .looks) 0)
+    seen (allIn (λ e. onAt f row v e ⇒ stepIn f s h row past (markAt f row v e) v t m e) (row .looks) 0)
     (not (row .internal) || allIn (λ e. not (onAt f row v e && markAt f row v e)) (row .looks) 0)
 
 -- row k, by its plan

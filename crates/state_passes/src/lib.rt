@@ -12,7 +12,7 @@ ghost use mathlib.Core.Path.{_≡_};
 ghost use Prim.Native.Nat.{_+_, _<_};
 ghost use Rattle.layout.specs.Sizes.{Fits};
 ghost use Rattle.plan.specs.Plan.{rowPlanAt};
-ghost use Rattle.state_passes.specs.Passes.{knownIn, markHolds, knownMark, keptIn, answeredIn, stepIn, lookIn, looksIn, rowFor, placeOf, rowIn, implIn, repliedIn, replyLooks, replyIn, specIn, passesIn};
+ghost use Rattle.state_passes.specs.Passes.{knownIn, markHolds, knownMark, visibleLook, visibleLooks, internalLook, internalLooks, looksIn, rowFor, placeOf, rowIn, implIn, repliedIn, replyLooks, replyIn, specIn, passesIn};
 
 // What was seen of rows: whether each holds, and, if so, whether none has a marked step.
 pub struct Seen {
@@ -40,12 +40,6 @@ pub struct Row {
 // What is known of a row for the sum value 0: whether its condition holds, and whether its mark does.
 pub struct First {
     pub on: Held,
-    pub marked: bool,
-}
-
-// A step that a row makes: where its data stand, and whether it is marked.
-pub struct Made {
-    pub at: usize,
     pub marked: bool,
 }
 
@@ -96,100 +90,54 @@ fn marked_at(fields: &limits::Fields, row: Row, v: &limits::Values, first: bool,
     mark_at(fields, row.mark, v, sum)
 }
 
-// ---- a step of a row
+// ---- the looks at a visible row
 
-// Whether an internal step to x keeps the mapping t, and, if it is marked, lowers the measure m.
-fn kept<'a>(
-    fields: &'a limits::Fields,
-    starts: &'a limits::Starts,
-    shape: Shape,
-    x: &limits::Values,
-    t: &limits::Values,
-    m: u16,
-    marked: bool,
-) -> bool
-    ensures { λ r. ⌜ r ≡ keptIn (now (fields .entry)) (now (starts .entry)) shape (now (x .entry)) (now (t .entry)) m marked ⌝ }
-{
-    let there = steps::mapped(fields, starts, shape, x);
-    if !steps::same(shape.specification.parameters.count, t, &there) {
-        return false;
-    }
-    if !marked {
-        return true;
-    }
-    steps::measure(fields, starts, shape, x) < m
-}
-
-// Whether row j of the specification makes the same step at t: it is enabled, carries the same data and leads to `there`.
-fn answered<'a>(
-    fields: &'a limits::Fields,
-    starts: &'a limits::Starts,
-    specification: Process,
-    j: u16,
-    carries: u16,
-    there: &limits::Values,
-    t: &limits::Values,
-    sum: u16,
-) -> bool
-    ensures { λ r. ⌜ r ≡ answeredIn (now (fields .entry)) (now (starts .entry)) specification j carries (now (there .entry)) (now (t .entry)) sum ⌝ }
-{
-    if j == 0 {
-        return false;
-    }
-    let line = steps::line_of(starts, specification, j);
-    let condition = eval::formula(fields, line as usize + 3, t, sum, limits::MAX_DEPTH);
-    if !condition.holds {
-        return false;
-    }
-    let carried = eval::value(fields, condition.next, t, sum, limits::MAX_DEPTH);
-    if carries != carried.value {
-        return false;
-    }
-    let n = specification.parameters.count;
-    let next = steps::values(fields, carried.next, n, t, sum);
-    steps::same(n, there, &next)
-}
-
-// Whether criteria 3 to 6, 8 and 9 hold of the step of a row that is enabled.
-fn step_holds<'a>(
+// One look: whether criteria 3, 6, 8 and 9 hold for a sum value.
+fn visible_look<'a>(
     fields: &'a limits::Fields,
     starts: &'a limits::Starts,
     shape: Shape,
     row: Row,
-    step: Made,
+    first: Held,
     v: &limits::Values,
     t: &limits::Values,
-    m: u16,
     sum: u16,
 ) -> bool
-    ensures { λ r. ⌜ r ≡ stepIn (now (fields .entry)) (now (starts .entry)) shape row step (now (v .entry)) (now (t .entry)) m sum ⌝ }
+    ensures { λ r. ⌜ r ≡ visibleLook (now (fields .entry)) (now (starts .entry)) shape row first (now (v .entry)) (now (t .entry)) sum ⌝ }
 {
-    let data = eval::value(fields, step.at, v, sum, limits::MAX_DEPTH);
-    let n = shape.implementation.parameters.count;
-    let x = steps::values(fields, data.next, n, v, sum);
-    if !steps::inside(fields, starts, shape, &x) {
-        return false;
+    let on = on_at(fields, row, v, first, sum);
+    if !on.holds {
+        return true;
     }
-    if row.internal {
-        return kept(fields, starts, shape, &x, t, m, step.marked);
-    }
-    let there = steps::mapped(fields, starts, shape, &x);
-    answered(
-        fields,
-        starts,
-        shape.specification,
-        row.partner,
-        data.value,
-        &there,
-        t,
-        sum,
-    )
+    step_passes::visible_holds(fields, starts, shape, on.next, row.partner, v, t, sum)
 }
 
-// ---- the rows of the implementation
+// Whether they all do.
+fn visible_looks<'a>(
+    fields: &'a limits::Fields,
+    starts: &'a limits::Starts,
+    shape: Shape,
+    row: Row,
+    first: Held,
+    v: &limits::Values,
+    t: &limits::Values,
+) -> bool
+    ensures { λ r. ⌜ r ≡ visibleLooks (now (fields .entry)) (now (starts .entry)) shape row first (now (v .entry)) (now (t .entry)) ⌝ }
+{
+    let mut sum = 0;
+    while sum < row.looks {
+        if !visible_look(fields, starts, shape, row, first, v, t, sum) {
+            return false;
+        }
+        sum += 1;
+    }
+    true
+}
 
-// One look at a row: whether it holds, and whether it makes no marked step.
-fn look<'a>(
+// ---- the looks at an internal row
+
+// One look: whether criteria 3, 4 and 5 hold for a sum value, and whether there is no marked step.
+fn internal_look<'a>(
     fields: &'a limits::Fields,
     starts: &'a limits::Starts,
     shape: Shape,
@@ -200,7 +148,7 @@ fn look<'a>(
     m: u16,
     sum: u16,
 ) -> Seen
-    ensures { λ r. ⌜ r ≡ lookIn (now (fields .entry)) (now (starts .entry)) shape row first (now (v .entry)) (now (t .entry)) m sum ⌝ }
+    ensures { λ r. ⌜ r ≡ internalLook (now (fields .entry)) (now (starts .entry)) shape row first (now (v .entry)) (now (t .entry)) m sum ⌝ }
 {
     let on = on_at(fields, row, v, first.on, sum);
     if !on.holds {
@@ -209,17 +157,48 @@ fn look<'a>(
             quiet: true,
         };
     }
-    let step = Made {
-        at: on.next,
-        marked: marked_at(fields, row, v, first.marked, sum),
-    };
+    let marked = marked_at(fields, row, v, first.marked, sum);
     Seen {
-        holds: step_holds(fields, starts, shape, row, step, v, t, m, sum),
-        quiet: !step.marked,
+        holds: step_passes::internal_holds(fields, starts, shape, on.next, marked, v, t, m, sum),
+        quiet: !marked,
     }
 }
 
-// What its looks see. A condition or a mark that does not read the sum value is evaluated once.
+// What they all see.
+fn internal_looks<'a>(
+    fields: &'a limits::Fields,
+    starts: &'a limits::Starts,
+    shape: Shape,
+    row: Row,
+    first: First,
+    v: &limits::Values,
+    t: &limits::Values,
+    m: u16,
+) -> Seen
+    ensures { λ r. ⌜ r ≡ internalLooks (now (fields .entry)) (now (starts .entry)) shape row first (now (v .entry)) (now (t .entry)) m ⌝ }
+{
+    let mut quiet = true;
+    let mut sum = 0;
+    while sum < row.looks {
+        let seen = internal_look(fields, starts, shape, row, first, v, t, m, sum);
+        if !seen.holds {
+            return Seen {
+                holds: false,
+                quiet: false,
+            };
+        }
+        quiet = quiet & seen.quiet;
+        sum += 1;
+    }
+    Seen {
+        holds: true,
+        quiet: quiet,
+    }
+}
+
+// ---- the rows of the implementation
+
+// What a row's looks see. A condition or a mark that does not read the sum value is evaluated once.
 fn row_looks<'a>(
     fields: &'a limits::Fields,
     starts: &'a limits::Starts,
@@ -238,26 +217,17 @@ fn row_looks<'a>(
             quiet: true,
         };
     }
-    let first = First {
-        on: on,
-        marked: mark_at(fields, row.mark, v, 0),
-    };
-    let mut quiet = true;
-    let mut sum = 0;
-    while sum < row.looks {
-        let seen = look(fields, starts, shape, row, first, v, t, m, sum);
-        if !seen.holds {
-            return Seen {
-                holds: false,
-                quiet: false,
-            };
-        }
-        quiet = quiet & seen.quiet;
-        sum += 1;
+    if row.internal {
+        let first = First {
+            on: on,
+            marked: mark_at(fields, row.mark, v, 0),
+        };
+        return internal_looks(fields, starts, shape, row, first, v, t, m);
     }
+    let holds = visible_looks(fields, starts, shape, row, on, v, t);
     Seen {
-        holds: true,
-        quiet: !row.internal | quiet,
+        holds: holds,
+        quiet: holds,
     }
 }
 

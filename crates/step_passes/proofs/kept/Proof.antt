@@ -1,8 +1,8 @@
--- The mapping, then the measure of a marked step.
+-- The mapping, then the measure.
 use borrow.Author.Needs.{needs}
-use Rattle.state_passes.proofs.Seeing as laws
-use Rattle.state_passes.proofs.kept.Statement.{statement}
-use Rattle.state_passes.proofs.kept.Tie as tie
+use Rattle.step_passes.proofs.Steps as laws
+use Rattle.step_passes.proofs.kept.Statement.{statement}
+use Rattle.step_passes.proofs.kept.Tie as tie
 
 pub kept-spec : {M : Type 1} → statement M
 kept-spec =

@@ -1,8 +1,8 @@
--- Condition, data and next values, each from where the one before ended.
+-- The partner, its condition, its data, where it leads.
 use borrow.Author.Needs.{needs}
-use Rattle.state_passes.proofs.Seeing as laws
-use Rattle.state_passes.proofs.answered.Statement.{statement}
-use Rattle.state_passes.proofs.answered.Tie as tie
+use Rattle.step_passes.proofs.Steps as laws
+use Rattle.step_passes.proofs.answered.Statement.{statement}
+use Rattle.step_passes.proofs.answered.Tie as tie
 
 pub answered-spec : {M : Type 1} → statement M
 answered-spec =
