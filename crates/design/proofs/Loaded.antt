@@ -89,6 +89,11 @@ each-same says says′ line line′ zero i h = refl
 each-same says says′ line line′ (suc n) i h =
     rw (h i (omega arith) (omega arith), each-same says says′ line line′ n (suc i) (λ j l u. h j (omega arith) (omega arith)))
 
+pub each-length : {A : Type 0} (says : List ℕ → A) (line : ℕ → List ℕ) (n i : ℕ) → length (eachLine says line n i) ≡ n
+unfolding eachLine
+each-length says line zero i = refl
+each-length says line (suc n) i = ap suc (each-length says line n (suc i))
+
 -- the first n of them
 pub each-take : {A : Type 0} (says : List ℕ → A) (line : ℕ → List ℕ) (c n i : ℕ) → n ≤ c → take n (eachLine says line c i) ≡ eachLine says line n i
 unfolding eachLine

@@ -23,7 +23,9 @@ use Rattle.decision.specs.Tests.{enabledB, internalB, markedB, focusB, rowNumbe
 use Rattle.decision.proofs.Find.{Found, Missing, find, found-partner}
 use Rattle.design.specs.Loaded.{designAt}
 use Rattle.design.specs.declared.Shape.{Shape}
-use Rattle.steps.specs.Arrays.{padded, stepOf, rowStep, rowSpan, rowWith, belowIn, sameIn, insideIn, mappedIn, measureIn, markedIn}
+use Rattle.steps.specs.Arrays.{padded, stepOf, rowStep, rowSpan, rowWith, belowIn, sameIn, insideIn, mappedIn, measureIn}
+use Rattle.marks.specs.Marks.{markedIn}
+use Rattle.marks.proofs.Held.{marked-held}
 use Rattle.steps.specs.declared.Step.{Step}
 use Rattle.steps.proofs.Arrays.{row-past}
 use Rattle.steps.proofs.States as states
@@ -56,7 +58,7 @@ module _ (f s : List ℕ) (h : Shape) (v : List ℕ) (k e : ℕ) where
       some z = not-past k (rw z) on
 
       go : Dec (k ≤ h .implementation .rows .count) → markedIn f s h k v e ≡ markedB (designAt f s h) k v e
-      go (yes l) = states.marked-held f s h k v e some l (eqb-true (row .action) 0 int)
+      go (yes l) = marked-held f s h k v e some l (eqb-true (row .action) 0 int)
       go (no l) = absurd (not-past k (row-past f s (h .implementation) k (omega arith)) on)
 
   pub mark-tested : internalB row && (enabledB row v e && markedIn f s h k v e) ≡ markedTest (designAt f s h) v k row e

@@ -38,7 +38,7 @@ fn row_quiet<'a>(
     let mut sum = 0;
     while sum < span {
         let step = steps::row_step(fields, starts, shape.implementation, k, v, sum);
-        let marked = steps::marked(fields, starts, shape, k, v, sum);
+        let marked = marks::marked(fields, starts, shape, k, v, sum);
         if (step.action == 0) & (step.enabled & marked) {
             return false;
         }
@@ -126,7 +126,7 @@ fn holds5<'a>(
     let step = steps::row_step(fields, starts, shape.implementation, k, &here.state, sum);
     let there = steps::measure(fields, starts, shape, &step.next);
     let measure = steps::measure(fields, starts, shape, &here.state);
-    let marked = steps::marked(fields, starts, shape, k, &here.state, sum);
+    let marked = marks::marked(fields, starts, shape, k, &here.state, sum);
     !step.enabled | (!(step.action == 0) | (!marked | (there < measure)))
 }
 

@@ -31,7 +31,8 @@ use Rattle.layout.specs.Sizes.{Fits as ShapeFits, internalIn}
 use Rattle.steps.proofs.States.{rows-count}
 use Rattle.design.specs.declared.Process.{Process}
 use Rattle.design.specs.declared.Shape.{Shape}
-use Rattle.steps.specs.Arrays.{lineOf, rowWith, afterFormulas, markPlace}
+use Rattle.steps.specs.Arrays.{lineOf, rowWith}
+use Rattle.marks.specs.Marks.{afterFormulas, markPlace}
 use Rattle.conjuncts.specs.Conjuncts.{frontOf}
 use Rattle.plan.specs.Plan.{rowBy, partnerBy, valuesFree, freeOf, partnerFree, looksOf, noMark, markIn, markThere, rowPlanOf, noRowPlan, rowPlanIn, rowPlanFor, twoFlags, flagsOf, packOf, rowPlansFrom, planIn, rowPlanAt}
 use Rattle.plan.specs.declared.RowPlan.{RowPlan}

@@ -16,7 +16,8 @@ use Rattle.design.specs.declared.Process.{Process}
 use Rattle.design.specs.declared.Shape.{Shape}
 use Rattle.conjuncts.specs.Conjuncts.{frontOf}
 use Rattle.decision.specs.Tests.{internalB}
-use Rattle.steps.specs.Arrays.{lineOf, rowWith, markPlace}
+use Rattle.steps.specs.Arrays.{lineOf, rowWith}
+use Rattle.marks.specs.Marks.{markPlace}
 use Rattle.plan.specs.declared.RowPlan.{RowPlan}
 use Rattle.plan.specs.declared.Mark.{Mark}
 

@@ -139,7 +139,7 @@ fn mark_there<'a>(
     ensures { λ r. ⌜ r ≡ markThere (now (fields .entry)) (now (starts .entry)) shape k ⌝ }
 {
     let line = layout::line(starts, shape.marks.first as usize);
-    let place = steps::mark_place(fields, starts, shape, k);
+    let place = marks::place(fields, starts, shape, k);
     let mark = sum_free::formula_sum_free(fields, place, limits::MAX_DEPTH);
     let _all: &[u16] = fields; // for the proof: as a slice it has its length, which bounds the place
     Mark {

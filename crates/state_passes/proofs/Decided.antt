@@ -33,12 +33,13 @@ use Rattle.decision.proofs.Quick.{rows-none}
 use Rattle.decision.proofs.Alike.{formula-alike}
 use Rattle.decision.proofs.Find.{Found, Missing, find, found-at, found-partner}
 use Rattle.design.specs.Line as line
-use Rattle.design.specs.Line.{formulasUsed}
 use Rattle.design.specs.Loaded.{lineFrom, processIn, designAt}
 use Rattle.design.specs.declared.Process.{Process}
 use Rattle.design.specs.declared.Shape.{Shape}
-use Rattle.layout.specs.Sizes.{Fits, internalIn}
-use Rattle.steps.specs.Arrays.{padded, stepOf, valuesAt, lineOf, rowWith, sameIn, measureIn, afterFormulas, markPlace}
+use Rattle.layout.specs.Sizes.{Fits}
+use Rattle.steps.specs.Arrays.{padded, stepOf, valuesAt, lineOf, rowWith, sameIn, measureIn}
+use Rattle.marks.specs.Marks.{afterFormulas, markPlace}
+use Rattle.marks.proofs.Held.{mark-none, mark-held}
 use Rattle.steps.specs.declared.Step.{Step}
 use Rattle.steps.proofs.Arrays.{row-there}
 use Rattle.steps.proofs.States as states
@@ -50,7 +51,7 @@ use Rattle.plan.specs.declared.RowPlan.{RowPlan}
 use Rattle.plan.specs.declared.Mark.{Mark}
 use Rattle.plan.proofs.Planned.{impl-row-plan, spec-row-plan}
 use Rattle.step_passes.specs.Steps.{keptIn, answeredIn, internalStep, visibleStep}
-use Rattle.state_passes.specs.Passes.{rowFor, placeOf, markHolds, stepIn, stepOfRow, seen, looksIn, rowIn, implIn, replyLooks, replyIn, specIn, passesIn}
+use Rattle.state_passes.specs.Passes.{rowFor, markHolds, stepIn, stepOfRow, seen, looksIn, rowIn, implIn, replyLooks, replyIn, specIn, passesIn}
 use Rattle.state_passes.specs.declared.Seen.{Seen}
 
 -- a row's condition for the sum value e, taken for 0 where it is said to be sum-free
@@ -301,7 +302,7 @@ module _ (f s : List ℕ) (h : Shape) (v : State) (i : ℕ) where
     -- without a line of marks
     none-given : h .marks .count ≡ 0 → (e : ℕ) → marks e ≡ markedB (designAt f s h) (i + 1) v e
     unfolding markIn markHolds evalF
-    none-given n e = rw (eq-eqb (h .marks .count) 0 n) (ap (λ (g : Formula). evalF g v e) (sym (states.mark-none f s h (i + 1) n)))
+    none-given n e = rw (eq-eqb (h .marks .count) 0 n) (ap (λ (g : Formula). evalF g v e) (sym (mark-none f s h (i + 1) n)))
 
     -- with one
     row-internal : rowAt (designAt f s h .impl .rows) (i + 1) .action ≡ 0
@@ -322,7 +323,7 @@ module _ (f s : List ℕ) (h : Shape) (v : State) (i : ℕ) where
         let p : start + (at - start) ≡ at = omega arith in
         rw (mark-is some, ne-eqb (at - start) 0 (λ z. omega arith), p, ne-eqb at 0 (λ z. omega arith))
         (taken-held (readF 32 (drop at f) .tree) v e
-        ∙ ap (λ (g : Formula). evalF g v e) (sym (states.mark-held f s h (i + 1) (omega arith) (omega arith) row-internal some)))
+        ∙ ap (λ (g : Formula). evalF g v e) (sym (mark-held f s h (i + 1) (omega arith) (omega arith) row-internal some)))
 
     marks-are : (e : ℕ) → marks e ≡ markedB (designAt f s h) (i + 1) v e
     marks-are e = go (decLt 0 (h .marks .count))

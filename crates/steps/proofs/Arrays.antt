@@ -21,15 +21,14 @@ use Rattle.decision.specs.Tests.{rowFrom}
 use Rattle.eval.specs.Answer.{answerV, answerF}
 use Rattle.eval.specs.declared.Valued.{Valued}
 use Rattle.eval.specs.declared.Held.{Held}
-use Rattle.sum_free.specs.SumFree.{foundF}
-use Rattle.sum_free.specs.declared.Found.{Found}
-use Rattle.design.specs.Line.{parameterOf, rowOf, valuesIn, formulasUsed}
+use Rattle.design.specs.Line.{parameterOf, rowOf, valuesIn}
 use Rattle.design.specs.Loaded.{lineFrom, eachLine, processIn}
+use Rattle.design.proofs.Loaded.{each-length}
 use Rattle.design.specs.declared.Process.{Process}
 use Rattle.design.specs.declared.Shape.{Shape}
-use Rattle.layout.specs.Sizes.{parametersFrom, sizesOf, initialsOf, internalIn}
+use Rattle.layout.specs.Sizes.{parametersFrom, sizesOf, initialsOf}
 use Rattle.layout.proofs.Sizes.{each-on, each-none}
-use Rattle.steps.specs.Arrays.{padded, firstValues, valuesAt, stepOf, noStep, lineOf, rowStep, rowSpan, rowWith, stateIn, initialIn, belowIn, sameIn, invariantIn, insideIn, mappedIn, measureIn, afterFormulas, markPlace, markedIn}
+use Rattle.steps.specs.Arrays.{padded, firstValues, valuesAt, stepOf, noStep, lineOf, rowStep, rowSpan, rowWith, stateIn, initialIn, belowIn, sameIn, invariantIn, insideIn, mappedIn, measureIn}
 use Rattle.steps.specs.declared.Step.{Step}
 
 -- ---- the values of terms, one after the other
@@ -235,11 +234,6 @@ step-is f v line n e a h x w ea eh ex ew = rw (ea, place f line 3 refl, ew, ex, 
 
 -- ---- rows by their numbers
 
-pub each-length : {A : Type 0} (says : List ℕ → A) (line : ℕ → List ℕ) (n i : ℕ) → length (eachLine says line n i) ≡ n
-unfolding eachLine
-each-length says line zero i = refl
-each-length says line (suc n) i = ap suc (each-length says line n (suc i))
-
 each-get : {A : Type 0} (says : List ℕ → A) (line : ℕ → List ℕ) (n i j : ℕ) (x : A) → j < n → getD (eachLine says line n i) j x ≡ says (line (i + j))
 unfolding eachLine
 each-get says line zero i j x l = absurd (omega arith)
@@ -355,41 +349,3 @@ module _ (f s v : List ℕ) (h : Shape) (b : Bool) (said : b ≡ belowIn f s (h 
   pub inside-not : b ≡ false → false ≡ insideIn f s h v
   unfolding insideIn
   inside-not y = rw (← said, y)
-
--- ---- marks
-
-module _ (f : List ℕ) (at n : ℕ) where
-  pub formulas-begin : afterFormulas f at (n - 0) ≡ afterFormulas f at n
-  formulas-begin = let e : n - 0 ≡ n = omega arith in rw e
-
-  pub formulas-turn : (p i : ℕ) (x : Found) → i < n → x ≡ foundF p (readF 32 (drop p f)) → afterFormulas f p (n - i) ≡ afterFormulas f at n
-      → afterFormulas f (x .next) (n - (i + 1)) ≡ afterFormulas f at n
-  unfolding afterFormulas formulasUsed
-  formulas-turn p i x l ex inv = go ∙ inv
-    where
-      go : afterFormulas f (x .next) (n - (i + 1)) ≡ afterFormulas f p (n - i)
-      go =
-          let e : n - i ≡ suc (n - (i + 1)) = omega arith in
-          let u : ℕ = readF 32 (drop p f) .used in
-          rw (e, ex, place f p u refl) (omega arith)
-
-  pub formulas-end : (p i : ℕ) → n ≤ i → afterFormulas f p (n - i) ≡ afterFormulas f at n → p ≡ afterFormulas f at n
-  unfolding afterFormulas formulasUsed
-  formulas-end p i l inv = go ∙ inv
-    where
-      go : p ≡ afterFormulas f p (n - i)
-      go = let e : n - i ≡ 0 = omega arith in rw e (omega arith)
-
-pub mark-place-is : (f s : List ℕ) (h : Shape) (k line i j r : ℕ) → line ≡ getD s (h .marks .first) 0 → i ≡ k - 1 → j ≡ internalIn f s (h .implementation) i
-    → r ≡ afterFormulas f (line + 1) j → r ≡ markPlace f s h k
-unfolding markPlace
-mark-place-is f s h k line i j r el ei ej er = er ∙ rw (ej, ei, el)
-
-module _ (f s : List ℕ) (h : Shape) (k : ℕ) (v : List ℕ) (e : ℕ) where
-  pub all-marked : h .marks .count ≡ 0 → true ≡ markedIn f s h k v e
-  unfolding markedIn
-  all-marked z = rw (eq-eqb (h .marks .count) 0 z)
-
-  pub marked-is : (p : ℕ) (x : Held) → (h .marks .count ≡ 0 → ⊥) → p ≡ markPlace f s h k → x ≡ answerF p v e (readF 32 (drop p f)) → x .holds ≡ markedIn f s h k v e
-  unfolding markedIn
-  marked-is p x some ep ex = rw (ex, ep, ne-eqb (h .marks .count) 0 some)

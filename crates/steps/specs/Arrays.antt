@@ -1,10 +1,9 @@
 -- What the code computes of a state from a desk's arrays: f the fields, s the starts of lines, p a process and h the shape, which say
 -- where the lines stand. A state is an array of eight values. Nothing here is said of the criteria: that these are the state, the
 -- steps and the tests of the design in the arrays is in proofs/States.
-use mathlib.Core.Bool.{Bool, true, false, _&&_, cond}
+use mathlib.Core.Bool.{Bool, false, _&&_}
 use mathlib.Core.List.{List, [], _∷_}
 use Prim.Native.Nat.{ℕ, zero, suc, _+_, _-_, min}
-use lib.Dec.{eqb}
 use lib.ListN.{getD, drop, replicate}
 use lib.Seq.{sets}
 use Rattle.foundation.specs.Radix.{belowB, sameB, splitOf}
@@ -13,13 +12,11 @@ use Rattle.criteria.specs.Step.{nextState, dataNumber}
 use Rattle.criteria.specs.Rows.{rowAt}
 use Rattle.decision.specs.Tests as tests
 use Rattle.decision.specs.Tests.{enabledB, invariantB}
-use Rattle.terms.specs.Tree.{evalF}
-use Rattle.terms.specs.Read.{readF}
-use Rattle.design.specs.Line.{valuesIn, formulasUsed}
+use Rattle.design.specs.Line.{valuesIn}
 use Rattle.design.specs.Loaded.{processIn, designAt}
 use Rattle.design.specs.declared.Process.{Process}
 use Rattle.design.specs.declared.Shape.{Shape}
-use Rattle.layout.specs.Sizes.{parametersFrom, sizesOf, internalIn}
+use Rattle.layout.specs.Sizes.{parametersFrom, sizesOf}
 use Rattle.steps.specs.declared.Step.{Step}
 
 -- eight values: those given, and 0 after them
@@ -83,14 +80,3 @@ mappedIn f s h v = padded (mapped (designAt f s h) v)
 
 unfoldable pub measureIn : List ℕ → List ℕ → Shape → List ℕ → ℕ
 measureIn f s h v = measureAt (designAt f s h) v
-
--- ---- marks: the place after n formulas from a place on, that of the mark of row k, and whether this mark holds, if row k is internal
-
-unfoldable pub afterFormulas : List ℕ → ℕ → ℕ → ℕ
-afterFormulas f at n = at + formulasUsed n (drop at f)
-
-unfoldable pub markPlace : List ℕ → List ℕ → Shape → ℕ → ℕ
-markPlace f s h k = afterFormulas f (getD s (h .marks .first) 0 + 1) (internalIn f s (h .implementation) (k - 1))
-
-unfoldable pub markedIn : List ℕ → List ℕ → Shape → ℕ → List ℕ → ℕ → Bool
-markedIn f s h k v e = cond (eqb (h .marks .count) 0) true (evalF (readF 32 (drop (markPlace f s h k) f) .tree) v e)

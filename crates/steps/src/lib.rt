@@ -1,5 +1,5 @@
 // States and steps, from a desk's arrays: the state that has a number, what a row does at a state, whether the invariant holds there,
-// the mapped state and the measure, and which steps are marked. Every function answers any arrays.
+// the mapped state and the measure. Every function answers any arrays.
 //
 // A state, of either process, is an array of eight values of which those past the last parameter are 0. What each function computes
 // is in specs/Arrays; that this is what the design in the arrays says is in proofs/States.
@@ -9,7 +9,7 @@ ghost use mathlib.Core.Path.{_≡_};
 ghost use Prim.Native.Nat.{_-_, _%_, _/_, min};
 ghost use lib.ListN.{drop};
 ghost use Rattle.design.specs.Line.{rowOf};
-ghost use Rattle.steps.specs.Arrays.{padded, valuesAt, stepOf, noStep, lineOf, rowStep, rowSpan, rowWith, stateIn, initialIn, belowIn, sameIn, invariantIn, insideIn, mappedIn, measureIn, afterFormulas, markPlace, markedIn};
+ghost use Rattle.steps.specs.Arrays.{padded, valuesAt, stepOf, noStep, lineOf, rowStep, rowSpan, rowWith, stateIn, initialIn, belowIn, sameIn, invariantIn, insideIn, mappedIn, measureIn};
 
 // What a row does at a state for a sum value: its action, whether it is enabled, the data number, and the state that it leads to.
 pub struct Step {
@@ -306,60 +306,4 @@ pub fn measure<'a>(
     let line = layout::line(starts, shape.measure as usize);
     let m = eval::value(fields, line as usize + 1, v, 0, limits::MAX_DEPTH);
     m.value
-}
-
-// ---- marks
-
-// The place after n formulas that stand one after the other from a place on; whether they read the sum value is told beside it.
-fn after_formulas(fields: &limits::Fields, at: usize, n: u16) -> usize
-    ensures { λ r. ⌜ r ≡ afterFormulas (now (fields .entry)) at n ⌝ }
-{
-    let mut place = at;
-    let mut i = 0;
-    while i < n {
-        let x = sum_free::formula_sum_free(fields, place, limits::MAX_DEPTH);
-        place = x.next;
-        i += 1;
-    }
-    place
-}
-
-// How many rows stand before row k.
-fn rows_before(k: u16) -> u16
-    ensures { λ r. ⌜ r ≡ k - 1 ⌝ }
-{
-    if k == 0 { 0 } else { k - 1 }
-}
-
-// Where the mark of row k of the implementation stands, if it is internal: after those of the internal rows before it.
-pub fn mark_place<'a>(
-    fields: &'a limits::Fields,
-    starts: &'a limits::Starts,
-    shape: Shape,
-    k: u16,
-) -> usize
-    ensures { λ r. ⌜ r ≡ markPlace (now (fields .entry)) (now (starts .entry)) shape k ⌝ }
-{
-    let line = layout::line(starts, shape.marks.first as usize);
-    let earlier = layout::internal_rows(fields, starts, shape.implementation, rows_before(k));
-    after_formulas(fields, line as usize + 1, earlier)
-}
-
-// Whether the mark of row k, if it is internal, holds: without a line of marks each does.
-pub fn marked<'a>(
-    fields: &'a limits::Fields,
-    starts: &'a limits::Starts,
-    shape: Shape,
-    k: u16,
-    v: &limits::Values,
-    sum: u16,
-) -> bool
-    ensures { λ r. ⌜ r ≡ markedIn (now (fields .entry)) (now (starts .entry)) shape k (now (v .entry)) sum ⌝ }
-{
-    if shape.marks.count == 0 {
-        return true;
-    }
-    let place = mark_place(fields, starts, shape, k);
-    let mark = eval::formula(fields, place, v, sum, limits::MAX_DEPTH);
-    mark.holds
 }

@@ -1,11 +1,11 @@
 -- After the formulas of the internal rows before it.
 use borrow.Author.Needs.{needs}
-use Rattle.steps.proofs.Arrays as laws
-use Rattle.steps.proofs.mark_place.Statement.{statement}
-use Rattle.steps.proofs.mark_place.Tie as tie
+use Rattle.marks.proofs.Marks as laws
+use Rattle.marks.proofs.place.Statement.{statement}
+use Rattle.marks.proofs.place.Tie as tie
 
-pub mark-place-spec : {M : Type 1} → statement M
-mark-place-spec =
+pub place-spec : {M : Type 1} → statement M
+place-spec =
     tie.close
     (tie.spec
     (λ c. search needs)

@@ -1,8 +1,8 @@
 -- The formula at the mark's place, where there are marks.
 use borrow.Author.Needs.{needs}
-use Rattle.steps.proofs.Arrays as laws
-use Rattle.steps.proofs.marked.Statement.{statement}
-use Rattle.steps.proofs.marked.Tie as tie
+use Rattle.marks.proofs.Marks as laws
+use Rattle.marks.proofs.marked.Statement.{statement}
+use Rattle.marks.proofs.marked.Tie as tie
 
 pub marked-spec : {M : Type 1} → statement M
 marked-spec =

@@ -1,0 +1,23 @@
+-- Marks as the code finds them: f the fields, s the starts of lines, h the shape; rows count from 1.
+use mathlib.Core.Bool.{Bool, true, cond}
+use mathlib.Core.List.{List}
+use Prim.Native.Nat.{ℕ, _+_, _-_}
+use lib.Dec.{eqb}
+use lib.ListN.{getD, drop}
+use Rattle.terms.specs.Tree.{evalF}
+use Rattle.terms.specs.Read.{readF}
+use Rattle.design.specs.Line.{formulasUsed}
+use Rattle.design.specs.declared.Shape.{Shape}
+use Rattle.layout.specs.Sizes.{internalIn}
+
+-- the place after n formulas from a place on
+unfoldable pub afterFormulas : List ℕ → ℕ → ℕ → ℕ
+afterFormulas f at n = at + formulasUsed n (drop at f)
+
+-- that of the mark of row k, if it is internal: after the line's kind and the marks of the internal rows before it
+unfoldable pub markPlace : List ℕ → List ℕ → Shape → ℕ → ℕ
+markPlace f s h k = afterFormulas f (getD s (h .marks .first) 0 + 1) (internalIn f s (h .implementation) (k - 1))
+
+-- whether it holds; without a line of marks each does
+unfoldable pub markedIn : List ℕ → List ℕ → Shape → ℕ → List ℕ → ℕ → Bool
+markedIn f s h k v e = cond (eqb (h .marks .count) 0) true (evalF (readF 32 (drop (markPlace f s h k) f) .tree) v e)

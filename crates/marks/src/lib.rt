@@ -1,0 +1,60 @@
+// Marks, from a desk's arrays: where that of a row stands in the line of marks, and whether it holds. Every function answers any arrays.
+// What each computes is in specs/Marks; that this is the mark of the design in the arrays is in proofs/Held.
+use design::Shape;
+ghost use mathlib.Core.Path.{_≡_};
+ghost use Prim.Native.Nat.{_-_};
+ghost use Rattle.marks.specs.Marks.{afterFormulas, markPlace, markedIn};
+
+// The place after n formulas that stand one after the other from a place on; whether they read the sum value is told beside it.
+fn after_formulas(fields: &limits::Fields, at: usize, n: u16) -> usize
+    ensures { λ r. ⌜ r ≡ afterFormulas (now (fields .entry)) at n ⌝ }
+{
+    let mut next = at;
+    let mut i = 0;
+    while i < n {
+        let x = sum_free::formula_sum_free(fields, next, limits::MAX_DEPTH);
+        next = x.next;
+        i += 1;
+    }
+    next
+}
+
+// How many rows stand before row k.
+fn rows_before(k: u16) -> u16
+    ensures { λ r. ⌜ r ≡ k - 1 ⌝ }
+{
+    if k == 0 { 0 } else { k - 1 }
+}
+
+// Where the mark of row k of the implementation stands, if it is internal: after those of the internal rows before it.
+pub fn place<'a>(
+    fields: &'a limits::Fields,
+    starts: &'a limits::Starts,
+    shape: Shape,
+    k: u16,
+) -> usize
+    ensures { λ r. ⌜ r ≡ markPlace (now (fields .entry)) (now (starts .entry)) shape k ⌝ }
+{
+    let line = layout::line(starts, shape.marks.first as usize);
+    let earlier = layout::internal_rows(fields, starts, shape.implementation, rows_before(k));
+    after_formulas(fields, line as usize + 1, earlier)
+}
+
+// Whether the mark of row k, if it is internal, holds: without a line of marks each does.
+pub fn marked<'a>(
+    fields: &'a limits::Fields,
+    starts: &'a limits::Starts,
+    shape: Shape,
+    k: u16,
+    v: &limits::Values,
+    sum: u16,
+) -> bool
+    ensures { λ r. ⌜ r ≡ markedIn (now (fields .entry)) (now (starts .entry)) shape k (now (v .entry)) sum ⌝ }
+{
+    if shape.marks.count == 0 {
+        return true;
+    }
+    let at = place(fields, starts, shape, k);
+    let mark = eval::formula(fields, at, v, sum, limits::MAX_DEPTH);
+    mark.holds
+}
