@@ -1,16 +1,14 @@
 -- What the functions that make the plan return, as specs/Plan says it, and the turns of their loops; and that the plan of a design
 -- has the plan of each row.
-use mathlib.Core.Path.{_≡_, refl, sym, _∙_, ap}
+use mathlib.Core.Path.{_≡_, refl, sym, _∙_}
 use mathlib.Core.Logic.{_⊎_, inl, inr}
 use mathlib.Core.Bool.{Bool, true, false, not, _&&_, and-true, cond}
-use mathlib.Core.List.{List, _++_, append-nil}
-use Prim.Native.Nat.{ℕ, zero, suc, _+_, _-_, _*_, _%_, _/_, _≤_, _<_}
-use native.Mathlib.Numerals.{add-one}
+use mathlib.Core.List.{List}
+use Prim.Native.Nat.{ℕ, suc, _+_, _-_, _*_, _≤_, _<_}
 use native.Mathlib.Omega.{arith}
 use borrow.Author.Tests.{not-true, not-false, eq-eqb, ne-eqb, le-leb, lt-leb, lt-ltb, le-ltb}
 use lib.Dec.{eqb, ltb, leb}
-use lib.ListN.{length, getD, drop, set, replicate, length-replicate, length-drop, drop-of-length-le}
-use lib.Seq.{sets, sets-eq}
+use lib.ListN.{length, getD, drop, set, replicate, length-drop}
 use mir.Syntax.{w16}
 use mir.Val.{Fits}
 use Rattle.foundation.specs.Nth.{eachB}
@@ -31,12 +29,14 @@ use Rattle.layout.specs.Sizes.{Fits as ShapeFits, internalIn}
 use Rattle.steps.proofs.States.{rows-count}
 use Rattle.design.specs.declared.Process.{Process}
 use Rattle.design.specs.declared.Shape.{Shape}
-use Rattle.steps.specs.Arrays.{lineOf, rowWith}
+use Rattle.steps.specs.Arrays.{lineOf, rowBy, partnerBy, rowWith}
 use Rattle.marks.specs.Marks.{afterFormulas, markPlace}
 use Rattle.conjuncts.specs.Conjuncts.{frontOf}
-use Rattle.plan.specs.Plan.{rowBy, partnerBy, valuesFree, freeOf, partnerFree, looksOf, noMark, markIn, markThere, rowPlanOf, noRowPlan, rowPlanIn, rowPlanFor, twoFlags, flagsOf, packOf, rowPlansFrom, planIn, rowPlanAt}
-use Rattle.plan.specs.declared.RowPlan.{RowPlan}
-use Rattle.plan.specs.declared.Mark.{Mark}
+use Rattle.row_plan.specs.RowPlan.{noMark, noRowPlan, packedOf, rowPlanAt}
+use Rattle.row_plan.specs.declared.RowPlan.{RowPlan}
+use Rattle.row_plan.specs.declared.Mark.{Mark}
+use Rattle.row_plan.proofs.Numbers.{numbersLeft, numbers-begin, numbers-turn, numbers-end, numbers-read}
+use Rattle.plan.specs.Plan.{valuesFree, freeOf, partnerFree, looksOf, markIn, markThere, rowPlanOf, rowPlanIn, rowPlanFor, planIn}
 
 -- ---- terms that do not read the sum value
 
@@ -90,7 +90,7 @@ module _ (f s : List ℕ) (p : Process) (k : ℕ) (whole : Bool) where
   unfolding partnerFree partnerBy rowBy
   partner-free-is line r some el er = er ∙ rw (ne-eqb k 0 some, el)
 
--- ---- looks and flags
+-- ---- looks
 
 module _ (free : Bool) (span : ℕ) where
   pub looks-all : not free ≡ true → span ≡ looksOf free span
@@ -104,53 +104,6 @@ module _ (free : Bool) (span : ℕ) where
   pub looks-one : not free ≡ false → (span ≡ 0 → ⊥) → 1 ≡ looksOf free span
   unfolding looksOf
   looks-one h p = rw (not-false free h) (omega arith)
-
-module _ (a b : Bool) (r : ℕ) where
-  pub two-first : a ≡ true → r ≡ cond b 3 1 → r ≡ twoFlags a b
-  unfolding twoFlags
-  two-first h er = er ∙ rw h
-
-  pub two-second : a ≡ false → r ≡ cond b 2 0 → r ≡ twoFlags a b
-  unfolding twoFlags
-  two-second h er = er ∙ rw h
-
-  -- they are small
-  pub two-small : r ≡ twoFlags a b → Fits w16 (4 + r)
-  unfolding twoFlags
-  two-small er = go a b er
-    where
-      go : (x y : Bool) → r ≡ cond x (cond y 3 1) (cond y 2 0) → Fits w16 (4 + r)
-      go true true e = record { fits = omega arith }
-      go true false e = record { fits = omega arith }
-      go false true e = record { fits = omega arith }
-      go false false e = record { fits = omega arith }
-
-  module _ (c : Bool) (er : r ≡ twoFlags a b) where
-    pub flags-third : c ≡ true → 4 + r ≡ flagsOf a b c
-    unfolding flagsOf
-    flags-third h = rw (er, h)
-
-    pub flags-two : c ≡ false → r ≡ flagsOf a b c
-    unfolding flagsOf
-    flags-two h = er ∙ rw h
-
-pub flags-small : (a b c : Bool) (r : ℕ) → r ≡ flagsOf a b c → r < 8
-unfolding flagsOf twoFlags
-flags-small true true true r e = omega arith
-flags-small true true false r e = omega arith
-flags-small true false true r e = omega arith
-flags-small true false false r e = omega arith
-flags-small false true true r e = omega arith
-flags-small false true false r e = omega arith
-flags-small false false true r e = omega arith
-flags-small false false false r e = omega arith
-
-module _ (b : Bool) (x y : ℕ) where
-  pub one-first : b ≡ true → x ≡ cond b x y
-  one-first h = rw h
-
-  pub one-other : b ≡ false → y ≡ cond b x y
-  one-other h = rw h
 
 -- ---- marks
 
@@ -228,89 +181,20 @@ module _ (f s : List ℕ) (h : Shape) (i : ℕ) (r : RowPlan) where
 
 module _ (f s : List ℕ) (h : Shape) where
   unfoldable pub planLeft : List ℕ → ℕ → List ℕ
-  planLeft w i = sets w (4 * i) (rowPlansFrom f s h (64 - i) i)
+  planLeft w i = numbersLeft (rowPlanFor f s h) w i
 
-  plans-length : (n i : ℕ) → length (rowPlansFrom f s h n i) ≡ 4 * n
-  unfolding rowPlansFrom
-  plans-length zero i = refl
-  plans-length (suc n) i = rw (plans-length n (suc i)) (omega arith)
-
-  -- a full array: nothing of what it held before is left
   pub plan-begin : planLeft (replicate 256 0) 0 ≡ planIn f s h
   unfolding planLeft planIn
-  plan-begin = all-stored (rowPlansFrom f s h 64 0) (plans-length 64 0)
-    where
-      all-stored : (vs : List ℕ) → length vs ≡ 256 → sets (replicate 256 0) 0 vs ≡ vs
-      all-stored vs e =
-          let l : 0 + length vs ≤ length (replicate {A = ℕ} 256 0) = omega (arith, length-replicate {A = ℕ} 256 0) in
-          let u : length (replicate {A = ℕ} 256 0) ≤ 0 + length vs = omega (arith, length-replicate {A = ℕ} 256 0) in
-          sets-eq vs (replicate 256 0) 0 l ∙ ap (λ r. vs ++ r) (drop-of-length-le (replicate 256 0) u) ∙ append-nil vs
+  plan-begin = numbers-begin (rowPlanFor f s h)
 
-  pub plan-turn : (w : List ℕ) (i at flags x : ℕ) (e : RowPlan) → i < 64 → at ≡ 4 * i → e ≡ rowPlanFor f s h i → flags ≡ flagsOf (e .free) (e .mark .free) (e .internal)
-      → x ≡ packOf (e .partner) flags → planLeft w i ≡ planIn f s h
+  pub plan-turn : (w : List ℕ) (i at x : ℕ) (e : RowPlan) → i < 64 → at ≡ 4 * i → e ≡ rowPlanFor f s h i → x ≡ packedOf e → planLeft w i ≡ planIn f s h
       → planLeft (set (set (set (set w at x) (at + 1) (e .looks)) (at + 2) (e .front)) (at + 3) (e .mark .at)) (i + 1) ≡ planIn f s h
-  unfolding planLeft rowPlansFrom
-  plan-turn w i at flags x e l ea ee eg ex inv = go ∙ inv
-    where
-      go : planLeft (set (set (set (set w at x) (at + 1) (e .looks)) (at + 2) (e .front)) (at + 3) (e .mark .at)) (i + 1) ≡ planLeft w i
-      go =
-          let n : 64 - i ≡ suc (64 - (i + 1)) = omega arith in
-          let k1 : 4 * i + 1 ≡ suc (4 * i) = omega arith in
-          let k2 : 4 * i + 2 ≡ suc (suc (4 * i)) = omega arith in
-          let k3 : 4 * i + 3 ≡ suc (suc (suc (4 * i))) = omega arith in
-          let k4 : 4 * (i + 1) ≡ suc (suc (suc (suc (4 * i)))) = omega arith in
-          rw (n, ex, eg, ee, ea, k1, k2, k3, k4, add-one i)
+  unfolding planLeft
+  plan-turn w i at x e l ea ee ex inv = numbers-turn (rowPlanFor f s h) w i at x e l ea ee ex ∙ inv
 
   pub plan-end : (w : List ℕ) (i : ℕ) → 64 ≤ i → planLeft w i ≡ planIn f s h → w ≡ planIn f s h
-  unfolding planLeft rowPlansFrom
-  plan-end w i l inv = go ∙ inv
-    where
-      go : w ≡ planLeft w i
-      go = let e : 64 - i ≡ 0 = omega arith in rw e
-
--- ---- read again
-
-first-is : (a b c : Bool) → eqb (flagsOf a b c % 2) 1 ≡ a
-unfolding flagsOf twoFlags
-first-is true true true = refl
-first-is true true false = refl
-first-is true false true = refl
-first-is true false false = refl
-first-is false true true = refl
-first-is false true false = refl
-first-is false false true = refl
-first-is false false false = refl
-
-second-is : (a b c : Bool) → eqb (flagsOf a b c / 2 % 2) 1 ≡ b
-unfolding flagsOf twoFlags
-second-is true true true = refl
-second-is true true false = refl
-second-is true false true = refl
-second-is true false false = refl
-second-is false true true = refl
-second-is false true false = refl
-second-is false false true = refl
-second-is false false false = refl
-
-third-is : (a b c : Bool) → leb 4 (flagsOf a b c) ≡ c
-unfolding flagsOf twoFlags
-third-is true true true = refl
-third-is true true false = refl
-third-is true false true = refl
-third-is true false false = refl
-third-is false true true = refl
-third-is false true false = refl
-third-is false false true = refl
-third-is false false false = refl
-
--- partner and flags
-pack-flags : (j g : ℕ) → packOf j g / 64 ≡ g
-unfolding packOf
-pack-flags j g = omega arith
-
-pack-partner : (j g : ℕ) → j < 64 → packOf j g % 64 ≡ j
-unfolding packOf
-pack-partner j g l = omega arith
+  unfolding planLeft
+  plan-end w i l inv = numbers-end (rowPlanFor f s h) w i l ∙ inv
 
 -- there are fewer rows than that
 partner-below : (f s : List ℕ) (p : Process) (a : ℕ) → rowWith f s p a ≤ p .rows .count
@@ -343,48 +227,14 @@ module _ (f s : List ℕ) (h : Shape) (fits : ShapeFits h) where
       go true = partner-in f s (h .implementation) (h .specification) true (markIn f s h (i + 1)) (i + 1) (fits .specification .rows)
       go false = partner-in f s (h .specification) (h .implementation) false noMark (i - 32 + 1) (fits .implementation .rows)
 
-  row-plan-read : (n i k : ℕ) → k < n → rowPlanAt (rowPlansFrom f s h n i) k ≡ rowPlanFor f s h (i + k)
-  unfolding rowPlansFrom rowPlanAt
-  row-plan-read zero i k l = absurd (omega arith)
-  row-plan-read (suc n) i zero l =
-      let e : i + 0 ≡ i = omega arith in
-      let r : RowPlan = rowPlanFor f s h i in
-      let g : ℕ = flagsOf (r .free) (r .mark .free) (r .internal) in
-      let few : packOf (r .partner) g / 64 ≡ g = pack-flags (r .partner) g in
-      rw e
-      (λ j. record {
-        partner = pack-partner (r .partner) g (partner-small i) j;
-        looks = r .looks;
-        internal = (ap (leb 4) few ∙ third-is (r .free) (r .mark .free) (r .internal)) j;
-        free = (ap (λ x. eqb (x % 2) 1) few ∙ first-is (r .free) (r .mark .free) (r .internal)) j;
-        front = r .front;
-        mark = record { at = r .mark .at; free = (ap (λ x. eqb (x / 2 % 2) 1) few ∙ second-is (r .free) (r .mark .free) (r .internal)) j };
-      })
-  row-plan-read (suc n) i (suc k) l =
-      let e : suc i + k ≡ i + suc k = omega arith in
-      let k0 : 4 * suc k ≡ suc (suc (suc (suc (4 * k)))) = omega arith in
-      let k1 : 4 * suc k + 1 ≡ suc (suc (suc (suc (4 * k + 1)))) = omega arith in
-      let k2 : 4 * suc k + 2 ≡ suc (suc (suc (suc (4 * k + 2)))) = omega arith in
-      let k3 : 4 * suc k + 3 ≡ suc (suc (suc (suc (4 * k + 3)))) = omega arith in
-      let all : List ℕ = rowPlansFrom f s h (suc n) i in
-      (λ j. record {
-        partner = getD all (k0 j) 0 % 64;
-        looks = getD all (k1 j) 0;
-        internal = leb 4 (getD all (k0 j) 0 / 64);
-        free = eqb (getD all (k0 j) 0 / 64 % 2) 1;
-        front = getD all (k2 j) 0;
-        mark = record { at = getD all (k3 j) 0; free = eqb (getD all (k0 j) 0 / 64 / 2 % 2) 1 };
-      })
-      ∙ row-plan-read n (suc i) k (omega arith) ∙ rw e
-
   -- of a row that is there
   pub impl-row-plan : (i : ℕ) → i < 32 → i < h .implementation .rows .count → rowPlanAt (planIn f s h) i ≡ rowPlanOf f s (h .implementation) (h .specification) true (markIn f s h (i + 1)) (i + 1)
   unfolding planIn rowPlanFor rowPlanIn
-  impl-row-plan i l u = let z : 0 + i ≡ i = omega arith in row-plan-read 64 0 i (omega arith) ∙ rw (z, lt-ltb i 32 l, le-leb (i + 1) (h .implementation .rows .count) (omega arith))
+  impl-row-plan i l u = let z : 0 + i ≡ i = omega arith in numbers-read (rowPlanFor f s h) partner-small 64 0 i (omega arith) ∙ rw (z, lt-ltb i 32 l, le-leb (i + 1) (h .implementation .rows .count) (omega arith))
 
   pub spec-row-plan : (i : ℕ) → i < 32 → i < h .specification .rows .count → rowPlanAt (planIn f s h) (32 + i) ≡ rowPlanOf f s (h .specification) (h .implementation) false noMark (i + 1)
   unfolding planIn rowPlanFor rowPlanIn
   spec-row-plan i l u =
       let z : 0 + (32 + i) ≡ 32 + i = omega arith in
       let e : 32 + i - 32 ≡ i = omega arith in
-      row-plan-read 64 0 (32 + i) (omega arith) ∙ rw (z, le-ltb (32 + i) 32 (omega arith), e, le-leb (i + 1) (h .specification .rows .count) (omega arith))
+      numbers-read (rowPlanFor f s h) partner-small 64 0 (32 + i) (omega arith) ∙ rw (z, le-ltb (32 + i) 32 (omega arith), e, le-leb (i + 1) (h .specification .rows .count) (omega arith))

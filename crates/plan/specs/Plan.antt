@@ -1,8 +1,8 @@
 -- What is worked out once for all states: which rows do not read the sum value, where marks stand, and the plan of each row. f the
 -- fields, s the starts of lines, p a process and o the other, h the shape; rows count from 1.
 use mathlib.Core.Bool.{Bool, true, false, not, _&&_, _||_, cond}
-use mathlib.Core.List.{List, [], _∷_}
-use Prim.Native.Nat.{ℕ, zero, suc, _+_, _*_, _-_, _%_, _/_, min}
+use mathlib.Core.List.{List}
+use Prim.Native.Nat.{ℕ, _+_, _-_, min}
 use lib.Dec.{eqb, leb, ltb}
 use lib.ListN.{getD, drop}
 use Rattle.foundation.specs.Nth.{eachB}
@@ -10,25 +10,18 @@ use Rattle.terms.specs.Tree.{Value}
 use Rattle.terms.specs.Read.{readF}
 use Rattle.sum_free.specs.SumFree.{sumFreeV, sumFreeF}
 use Rattle.criteria.specs.Design.{Row}
-use Rattle.criteria.specs.Rows.{noRow}
-use Rattle.design.specs.Line.{rowOf, valuesIn}
+use Rattle.design.specs.Line.{valuesIn}
 use Rattle.design.specs.declared.Process.{Process}
 use Rattle.design.specs.declared.Shape.{Shape}
 use Rattle.conjuncts.specs.Conjuncts.{frontOf}
 use Rattle.decision.specs.Tests.{internalB}
-use Rattle.steps.specs.Arrays.{lineOf, rowWith}
+use Rattle.steps.specs.Arrays.{lineOf, rowBy, partnerBy, rowWith}
 use Rattle.marks.specs.Marks.{markPlace}
-use Rattle.plan.specs.declared.RowPlan.{RowPlan}
-use Rattle.plan.specs.declared.Mark.{Mark}
+use Rattle.row_plan.specs.RowPlan.{noMark, noRowPlan, numbersFrom}
+use Rattle.row_plan.specs.declared.RowPlan.{RowPlan}
+use Rattle.row_plan.specs.declared.Mark.{Mark}
 
 -- ---- rows
-
--- row k by its line, and where 0 stands for no row
-unfoldable pub rowBy : List ℕ → List ℕ → Process → ℕ → Row
-rowBy f s p k = rowOf (p .parameters .count) (drop (lineOf s p k) f)
-
-unfoldable pub partnerBy : List ℕ → List ℕ → Process → ℕ → Row
-partnerBy f s p k = cond (eqb k 0) noRow (rowBy f s p k)
 
 -- values, and a row's condition or the whole row, that do not read the sum value
 unfoldable pub valuesFree : List ℕ → ℕ → ℕ → Bool
@@ -41,9 +34,6 @@ unfoldable pub partnerFree : List ℕ → List ℕ → Process → ℕ → Bool 
 partnerFree f s p k whole = freeOf whole (partnerBy f s p k)
 
 -- ---- marks
-
-abbrev pub noMark : Mark
-noMark = record { at = 0; free = true }
 
 -- of row k of the implementation: its place in the line of marks
 unfoldable pub markThere : List ℕ → List ℕ → Shape → ℕ → Mark
@@ -75,9 +65,6 @@ rowPlanOf f s p o whole m k =
       mark = m;
     }
 
-abbrev pub noRowPlan : RowPlan
-noRowPlan = record { partner = 0; looks = 0; internal = false; free = false; front = 0; mark = noMark }
-
 -- where there is one
 unfoldable pub rowPlanIn : List ℕ → List ℕ → Process → Process → Bool → Mark → ℕ → RowPlan
 rowPlanIn f s p o whole m k = cond (leb k (p .rows .count)) (rowPlanOf f s p o whole m k) noRowPlan
@@ -88,36 +75,7 @@ rowPlanFor f s h i =
     cond (ltb i 32) (rowPlanIn f s (h .implementation) (h .specification) true (markIn f s h (i + 1)) (i + 1))
     (rowPlanIn f s (h .specification) (h .implementation) false noMark (i - 32 + 1))
 
--- ---- all of them: four numbers for each row
-
--- three flags: the last binary digits
-unfoldable pub twoFlags : Bool → Bool → ℕ
-twoFlags a b = cond a (cond b 3 1) (cond b 2 0)
-
-unfoldable pub flagsOf : Bool → Bool → Bool → ℕ
-flagsOf a b c = cond c (4 + twoFlags a b) (twoFlags a b)
-
--- partner and flags, of which the first is below 64
-unfoldable pub packOf : ℕ → ℕ → ℕ
-packOf j flags = j % 64 + 64 * flags
-
--- n of them from the i-th on
-unfoldable pub rowPlansFrom : List ℕ → List ℕ → Shape → ℕ → ℕ → List ℕ
-rowPlansFrom f s h zero i = []
-rowPlansFrom f s h (suc n) i =
-    let e : RowPlan = rowPlanFor f s h i in
-    packOf (e .partner) (flagsOf (e .free) (e .mark .free) (e .internal)) ∷ e .looks ∷ e .front ∷ e .mark .at ∷ rowPlansFrom f s h n (suc i)
+-- ---- all of them
 
 unfoldable pub planIn : List ℕ → List ℕ → Shape → List ℕ
-planIn f s h = rowPlansFrom f s h 64 0
-
--- number i of any
-unfoldable pub rowPlanAt : List ℕ → ℕ → RowPlan
-rowPlanAt p i = record {
-  partner = getD p (4 * i) 0 % 64;
-  looks = getD p (4 * i + 1) 0;
-  internal = leb 4 (getD p (4 * i) 0 / 64);
-  free = eqb (getD p (4 * i) 0 / 64 % 2) 1;
-  front = getD p (4 * i + 2) 0;
-  mark = record { at = getD p (4 * i + 3) 0; free = eqb (getD p (4 * i) 0 / 64 / 2 % 2) 1 };
-}
+planIn f s h = numbersFrom (rowPlanFor f s h) 64 0

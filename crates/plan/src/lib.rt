@@ -5,44 +5,19 @@
 // function answers any arrays.
 use design::Process;
 use design::Shape;
+use row_plan::Mark;
+use row_plan::RowPlan;
 ghost use mathlib.Core.Path.{_≡_};
-ghost use mathlib.Core.Bool.{cond};
 ghost use Prim.Native.Nat.{_<_};
 ghost use lib.ListN.{drop};
 ghost use Rattle.design.specs.Line.{rowOf};
-ghost use Rattle.plan.specs.Plan.{valuesFree, freeOf, partnerFree, looksOf, flagsOf, twoFlags, packOf, noMark, markIn, markThere, rowPlanOf, rowPlanIn, rowPlanFor, planIn, rowPlanAt};
+ghost use Rattle.row_plan.specs.RowPlan.{noMark};
+ghost use Rattle.plan.specs.Plan.{valuesFree, freeOf, partnerFree, looksOf, markIn, markThere, rowPlanOf, rowPlanIn, rowPlanFor, planIn};
 
-// What the plan has of a row.
-pub struct RowPlan {
-    // the number of its partner, 0 if there is none
-    pub partner: u16,
-    // how many sum values need a look
-    pub looks: u16,
-    pub internal: bool,
-    // whether its condition does not read the sum value
-    pub free: bool,
-    // how many conjuncts in front of its condition do not
-    pub front: u16,
-    pub mark: Mark,
-}
+// As many rows as a process may have, and as many numbers as a plan.
+const ROWS: usize = row_plan::ROWS;
 
-// The mark of a row: its place in the line of marks, and whether it does not read the sum value. At place 0 stands the line's kind: it says
-// that there is no mark, and all steps of the row are marked.
-pub struct Mark {
-    pub at: u16,
-    pub free: bool,
-}
-
-// A row's plan is four numbers: partner and flags, looks, front, mark.
-const NUMBERS: usize = 4;
-
-// More than any row has for its number.
-const PARTNERS: u16 = 64;
-
-// A plan has them for each row of the implementation that there may be, and then for each of the specification.
-pub const ROWS: usize = limits::MAX_ROWS;
-
-pub const LENGTH: usize = 2 * limits::MAX_ROWS * NUMBERS;
+pub const LENGTH: usize = row_plan::LENGTH;
 
 // ---- what reads the sum value
 
@@ -239,40 +214,6 @@ fn row_plan_for<'a>(
     }
 }
 
-// Three flags as a number: its last three binary digits.
-fn flags(first: bool, second: bool, third: bool) -> u16
-    ensures { λ r. ⌜ r ≡ flagsOf first second third ⌝ }
-{
-    if third {
-        return 4 + two_flags(first, second);
-    }
-    two_flags(first, second)
-}
-
-fn two_flags(first: bool, second: bool) -> u16
-    ensures { λ r. ⌜ r ≡ twoFlags first second ⌝ }
-{
-    if first {
-        return one_of(second, 3, 1);
-    }
-    one_of(second, 2, 0)
-}
-
-// The first number if so, else the other.
-fn one_of(so: bool, first: u16, other: u16) -> u16
-    ensures { λ r. ⌜ r ≡ cond so first other ⌝ }
-{
-    if so { first } else { other }
-}
-
-// A row's partner and its flags as one number.
-fn packed(partner: u16, flags: u16) -> u16
-    requires { ⌜ flags < 8 ⌝ }
-    ensures { λ r. ⌜ r ≡ packOf partner flags ⌝ }
-{
-    partner % PARTNERS + PARTNERS * flags
-}
-
 // All of them.
 pub fn plan<'a>(
     fields: &'a limits::Fields,
@@ -285,42 +226,12 @@ pub fn plan<'a>(
     let mut i = 0;
     while i < 2 * ROWS {
         let row = row_plan_for(fields, starts, shape, i);
-        let at = NUMBERS * i;
-        let flags = flags(row.free, row.mark.free, row.internal);
-        out[at] = packed(row.partner, flags);
+        let at = row_plan::NUMBERS * i;
+        out[at] = row_plan::packed(row);
         out[at + 1] = row.looks;
         out[at + 2] = row.front;
         out[at + 3] = row.mark.at;
         i += 1;
     }
     out
-}
-
-// Number i of the rows' plans in a plan.
-pub fn row_plan_at(plan: &[u16; LENGTH], i: usize) -> RowPlan
-    requires { ⌜ i < 64 ⌝ }
-    ensures { λ r. ⌜ r ≡ rowPlanAt (now (plan .entry)) i ⌝ }
-{
-    let at = NUMBERS * i;
-    let flags = plan[at] / PARTNERS;
-    RowPlan {
-        partner: plan[at] % PARTNERS,
-        looks: plan[at + 1],
-        internal: 4 <= flags,
-        free: flags % 2 == 1,
-        front: plan[at + 2],
-        mark: Mark {
-            at: plan[at + 3],
-            free: flags / 2 % 2 == 1,
-        },
-    }
-}
-
-// How many conjuncts in front of the row's condition do not read the sum value, by number i of a plan: all that a row which they rule out
-// is asked for.
-pub fn front_at(plan: &[u16; LENGTH], i: usize) -> u16
-    requires { ⌜ i < 64 ⌝ }
-    ensures { λ r. ⌜ r ≡ rowPlanAt (now (plan .entry)) i .front ⌝ }
-{
-    plan[NUMBERS * i + 2]
 }

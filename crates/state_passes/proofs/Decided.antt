@@ -37,7 +37,7 @@ use Rattle.design.specs.Loaded.{lineFrom, processIn, designAt}
 use Rattle.design.specs.declared.Process.{Process}
 use Rattle.design.specs.declared.Shape.{Shape}
 use Rattle.layout.specs.Sizes.{Fits}
-use Rattle.steps.specs.Arrays.{padded, stepOf, valuesAt, lineOf, rowWith, sameIn, measureIn}
+use Rattle.steps.specs.Arrays.{padded, stepOf, valuesAt, lineOf, rowWith, sameIn, measureIn, rowBy, partnerBy}
 use Rattle.marks.specs.Marks.{afterFormulas, markPlace}
 use Rattle.marks.proofs.Held.{mark-none, mark-held}
 use Rattle.steps.specs.declared.Step.{Step}
@@ -46,9 +46,10 @@ use Rattle.steps.proofs.States as states
 use Rattle.conjuncts.specs.Conjuncts.{frontOf, guardIn}
 use Rattle.conjuncts.proofs.Conjuncts.{guards}
 use Rattle.conjuncts.specs.declared.Guarded.{Guarded}
-use Rattle.plan.specs.Plan.{rowBy, partnerBy, freeOf, partnerFree, looksOf, noMark, markThere, markIn, rowPlanOf, planIn, rowPlanAt}
-use Rattle.plan.specs.declared.RowPlan.{RowPlan}
-use Rattle.plan.specs.declared.Mark.{Mark}
+use Rattle.row_plan.specs.RowPlan.{noMark, rowPlanAt}
+use Rattle.plan.specs.Plan.{freeOf, partnerFree, looksOf, markThere, markIn, rowPlanOf, planIn}
+use Rattle.row_plan.specs.declared.RowPlan.{RowPlan}
+use Rattle.row_plan.specs.declared.Mark.{Mark}
 use Rattle.plan.proofs.Planned.{impl-row-plan, spec-row-plan}
 use Rattle.step_passes.specs.Steps.{keptIn, answeredIn, internalStep, visibleStep}
 use Rattle.state_passes.specs.Passes.{rowFor, markHolds, stepIn, stepOfRow, seen, looksIn, rowIn, implIn, replyLooks, replyIn, specIn, passesIn}

@@ -22,11 +22,11 @@ use Rattle.decision.specs.Tests.{enabledB}
 use Rattle.design.specs.declared.Process.{Process}
 use Rattle.design.specs.declared.Shape.{Shape}
 use Rattle.layout.specs.Sizes.{Fits}
-use Rattle.steps.specs.Arrays.{lineOf, belowIn, measureIn}
+use Rattle.steps.specs.Arrays.{lineOf, belowIn, measureIn, rowBy, partnerBy}
 use Rattle.conjuncts.specs.Conjuncts.{guardIn}
 use Rattle.conjuncts.specs.declared.Guarded.{Guarded}
-use Rattle.plan.specs.Plan.{rowBy, partnerBy, rowPlanAt}
-use Rattle.plan.specs.declared.RowPlan.{RowPlan}
+use Rattle.row_plan.specs.RowPlan.{rowPlanAt}
+use Rattle.row_plan.specs.declared.RowPlan.{RowPlan}
 use Rattle.step_passes.specs.Steps.{internalStep, visibleStep}
 use Rattle.state_passes.specs.Passes.{rowFor, placeOf, left, onAt, knownIn, markHolds, markAt, knownMark, stepIn, seen, visibleLook, visibleLooks, internalLook, internalLooks, looksIn, rowIn, implIn, repliedIn, replyLooks, replyIn, specIn, passesIn}
 use Rattle.state_passes.specs.declared.Seen.{Seen}

@@ -16,11 +16,11 @@ use Rattle.criteria.specs.Step.{nextState, dataNumber}
 use Rattle.decision.specs.Tests.{enabledB, internalB}
 use Rattle.design.specs.declared.Process.{Process}
 use Rattle.design.specs.declared.Shape.{Shape}
-use Rattle.steps.specs.Arrays.{padded, lineOf, belowIn, measureIn}
+use Rattle.steps.specs.Arrays.{padded, lineOf, belowIn, measureIn, partnerBy}
 use Rattle.conjuncts.specs.Conjuncts.{guardIn}
 use Rattle.conjuncts.specs.declared.Guarded.{Guarded}
-use Rattle.plan.specs.Plan.{partnerBy, rowPlanAt}
-use Rattle.plan.specs.declared.RowPlan.{RowPlan}
+use Rattle.row_plan.specs.RowPlan.{rowPlanAt}
+use Rattle.row_plan.specs.declared.RowPlan.{RowPlan}
 use Rattle.step_passes.specs.Steps.{internalTo, visibleTo, internalStep, visibleStep}
 use Rattle.state_passes.specs.declared.Seen.{Seen}
 use Rattle.state_passes.specs.declared.Row.{Row}

@@ -7,11 +7,11 @@ use conjuncts::Guarded;
 use design::Process;
 use design::Shape;
 use eval::Held;
-use plan::RowPlan;
+use row_plan::RowPlan;
 ghost use mathlib.Core.Path.{_≡_};
 ghost use Prim.Native.Nat.{_+_, _<_};
 ghost use Rattle.layout.specs.Sizes.{Fits};
-ghost use Rattle.plan.specs.Plan.{rowPlanAt};
+ghost use Rattle.row_plan.specs.RowPlan.{rowPlanAt};
 ghost use Rattle.state_passes.specs.Passes.{knownIn, markHolds, knownMark, visibleLook, visibleLooks, internalLook, internalLooks, looksIn, rowFor, placeOf, rowIn, implIn, repliedIn, replyLooks, replyIn, specIn, passesIn};
 
 // What was seen of rows: whether each holds, and, if so, whether none has a marked step.
@@ -247,7 +247,7 @@ fn row_seen<'a>(
     fields: &'a limits::Fields,
     starts: &'a limits::Starts,
     shape: Shape,
-    plan: &[u16; plan::LENGTH],
+    plan: &[u16; row_plan::LENGTH],
     i: u8,
     v: &limits::Values,
     t: &limits::Values,
@@ -257,7 +257,7 @@ fn row_seen<'a>(
     ensures { λ r. ⌜ r ≡ rowIn (now (fields .entry)) (now (starts .entry)) shape (i + 1) (rowPlanAt (now (plan .entry)) i) (now (v .entry)) (now (t .entry)) m ⌝ }
 {
     let line = steps::line_of(starts, shape.implementation, i as u16 + 1);
-    let conjuncts = plan::front_at(plan, i as usize);
+    let conjuncts = row_plan::front(plan, i as usize);
     let front = conjuncts::guard(fields, line as usize + 3, v, 0, conjuncts);
     if !front.holds {
         return Seen {
@@ -265,7 +265,7 @@ fn row_seen<'a>(
             quiet: true,
         };
     }
-    let planned = plan::row_plan_at(plan, i as usize);
+    let planned = row_plan::planned(plan, i as usize);
     let mark = place_of(starts, shape, planned);
     let row = row_for(front, planned, mark);
     row_looks(fields, starts, shape, row, v, t, m)
@@ -276,7 +276,7 @@ fn rows_seen<'a>(
     fields: &'a limits::Fields,
     starts: &'a limits::Starts,
     shape: Shape,
-    plan: &[u16; plan::LENGTH],
+    plan: &[u16; row_plan::LENGTH],
     v: &limits::Values,
     t: &limits::Values,
     m: u16,
@@ -359,7 +359,7 @@ fn row_replied<'a>(
     fields: &'a limits::Fields,
     starts: &'a limits::Starts,
     shape: Shape,
-    plan: &[u16; plan::LENGTH],
+    plan: &[u16; row_plan::LENGTH],
     i: u8,
     v: &limits::Values,
     t: &limits::Values,
@@ -368,12 +368,12 @@ fn row_replied<'a>(
     ensures { λ r. ⌜ r ≡ replyIn (now (fields .entry)) (now (starts .entry)) shape (i + 1) (rowPlanAt (now (plan .entry)) (32 + i)) (now (v .entry)) (now (t .entry)) ⌝ }
 {
     let line = steps::line_of(starts, shape.specification, i as u16 + 1);
-    let conjuncts = plan::front_at(plan, plan::ROWS + i as usize);
+    let conjuncts = row_plan::front(plan, row_plan::ROWS + i as usize);
     let front = conjuncts::guard(fields, line as usize + 3, t, 0, conjuncts);
     if !front.holds {
         return true;
     }
-    let planned = plan::row_plan_at(plan, plan::ROWS + i as usize);
+    let planned = row_plan::planned(plan, row_plan::ROWS + i as usize);
     let row = row_for(front, planned, 0);
     reply_looks(fields, starts, shape.implementation, row, v, t)
 }
@@ -383,7 +383,7 @@ fn rows_replied<'a>(
     fields: &'a limits::Fields,
     starts: &'a limits::Starts,
     shape: Shape,
-    plan: &[u16; plan::LENGTH],
+    plan: &[u16; row_plan::LENGTH],
     v: &limits::Values,
     t: &limits::Values,
 ) -> bool
@@ -407,7 +407,7 @@ pub fn passes<'a>(
     fields: &'a limits::Fields,
     starts: &'a limits::Starts,
     shape: Shape,
-    plan: &[u16; plan::LENGTH],
+    plan: &[u16; row_plan::LENGTH],
     v: &limits::Values,
     t: &limits::Values,
 ) -> bool

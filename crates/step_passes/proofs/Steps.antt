@@ -15,8 +15,7 @@ use Rattle.eval.specs.declared.Held.{Held}
 use Rattle.design.specs.Line.{rowOf}
 use Rattle.design.specs.declared.Process.{Process}
 use Rattle.design.specs.declared.Shape.{Shape}
-use Rattle.steps.specs.Arrays.{padded, valuesAt, lineOf, sameIn, insideIn, mappedIn, measureIn}
-use Rattle.plan.specs.Plan.{rowBy, partnerBy}
+use Rattle.steps.specs.Arrays.{padded, valuesAt, lineOf, sameIn, insideIn, mappedIn, measureIn, rowBy, partnerBy}
 use Rattle.step_passes.specs.Steps.{keptIn, answeredIn, internalStep, visibleStep}
 
 -- ---- to a state, with a data number

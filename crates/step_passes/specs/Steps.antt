@@ -12,8 +12,7 @@ use Rattle.criteria.specs.Step.{nextState, dataNumber}
 use Rattle.decision.specs.Tests.{enabledB}
 use Rattle.design.specs.declared.Process.{Process}
 use Rattle.design.specs.declared.Shape.{Shape}
-use Rattle.steps.specs.Arrays.{padded, valuesAt, sameIn, insideIn, mappedIn, measureIn}
-use Rattle.plan.specs.Plan.{partnerBy}
+use Rattle.steps.specs.Arrays.{padded, valuesAt, sameIn, insideIn, mappedIn, measureIn, partnerBy}
 
 -- an internal step to x keeps the mapping, and lowers the measure if it is marked
 unfoldable pub keptIn : List ℕ → List ℕ → Shape → List ℕ → List ℕ → ℕ → Bool → Bool

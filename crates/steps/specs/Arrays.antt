@@ -1,18 +1,19 @@
 -- What the code computes of a state from a desk's arrays: f the fields, s the starts of lines, p a process and h the shape, which say
 -- where the lines stand. A state is an array of eight values. Nothing here is said of the criteria: that these are the state, the
 -- steps and the tests of the design in the arrays is in proofs/States.
-use mathlib.Core.Bool.{Bool, false, _&&_}
+use mathlib.Core.Bool.{Bool, false, _&&_, cond}
 use mathlib.Core.List.{List, [], _∷_}
 use Prim.Native.Nat.{ℕ, zero, suc, _+_, _-_, min}
+use lib.Dec.{eqb}
 use lib.ListN.{getD, drop, replicate}
 use lib.Seq.{sets}
 use Rattle.foundation.specs.Radix.{belowB, sameB, splitOf}
 use Rattle.criteria.specs.Design.{Row, values, sizes, initialState, mapped, measureAt}
 use Rattle.criteria.specs.Step.{nextState, dataNumber}
-use Rattle.criteria.specs.Rows.{rowAt}
+use Rattle.criteria.specs.Rows.{noRow, rowAt}
 use Rattle.decision.specs.Tests as tests
 use Rattle.decision.specs.Tests.{enabledB, invariantB}
-use Rattle.design.specs.Line.{valuesIn}
+use Rattle.design.specs.Line.{rowOf, valuesIn}
 use Rattle.design.specs.Loaded.{processIn, designAt}
 use Rattle.design.specs.declared.Process.{Process}
 use Rattle.design.specs.declared.Shape.{Shape}
@@ -43,6 +44,13 @@ noStep = record { action = 0; enabled = false; carries = 0; next = replicate 8 0
 
 unfoldable pub lineOf : List ℕ → Process → ℕ → ℕ
 lineOf s p k = getD s (p .rows .first + k - 1) 0
+
+-- row k by its line, and where 0 stands for no row
+unfoldable pub rowBy : List ℕ → List ℕ → Process → ℕ → Row
+rowBy f s p k = rowOf (p .parameters .count) (drop (lineOf s p k) f)
+
+unfoldable pub partnerBy : List ℕ → List ℕ → Process → ℕ → Row
+partnerBy f s p k = cond (eqb k 0) noRow (rowBy f s p k)
 
 unfoldable pub rowStep : List ℕ → List ℕ → Process → ℕ → List ℕ → ℕ → Step
 rowStep f s p k v e = stepOf (rowAt (processIn f s p .rows) k) v e

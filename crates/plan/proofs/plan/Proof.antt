@@ -25,7 +25,6 @@ plan-spec =
     (λ c κs. search needs)
     (λ c. search needs)
     (λ c κs. search needs)
-    (λ c κs. search laws.flags-small)
     (λ c. search needs)
     (λ c. search needs)
     (λ c. search needs)

@@ -1,15 +1,15 @@
 -- One of the row's four numbers.
 use borrow.Author.Needs.{needs}
-use Rattle.plan.specs.Plan.{rowPlanAt}
-use Rattle.plan.proofs.front_at.Statement.{statement}
-use Rattle.plan.proofs.front_at.Tie as tie
+use Rattle.row_plan.specs.RowPlan.{rowPlanAt}
+use Rattle.row_plan.proofs.front.Statement.{statement}
+use Rattle.row_plan.proofs.front.Tie as tie
 
 returns : tie.Need-returns
 unfolding rowPlanAt
 returns c = search needs
 
-pub front-at-spec : {M : Type 1} → statement M
-front-at-spec =
+pub front-spec : {M : Type 1} → statement M
+front-spec =
     tie.close
     (tie.spec
     (λ c. search needs)

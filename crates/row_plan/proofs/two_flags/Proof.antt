@@ -1,8 +1,8 @@
 -- Two flags are one of four numbers.
 use borrow.Author.Needs.{needs}
-use Rattle.plan.proofs.Planned as laws
-use Rattle.plan.proofs.two_flags.Statement.{statement}
-use Rattle.plan.proofs.two_flags.Tie as tie
+use Rattle.row_plan.proofs.Numbers as laws
+use Rattle.row_plan.proofs.two_flags.Statement.{statement}
+use Rattle.row_plan.proofs.two_flags.Tie as tie
 
 pub two-flags-spec : {M : Type 1} → statement M
 two-flags-spec =

@@ -1,15 +1,15 @@
 -- Its four numbers.
 use borrow.Author.Needs.{needs}
-use Rattle.plan.specs.Plan.{rowPlanAt}
-use Rattle.plan.proofs.row_plan_at.Statement.{statement}
-use Rattle.plan.proofs.row_plan_at.Tie as tie
+use Rattle.row_plan.specs.RowPlan.{rowPlanAt}
+use Rattle.row_plan.proofs.planned.Statement.{statement}
+use Rattle.row_plan.proofs.planned.Tie as tie
 
 returns : tie.Need-returns
 unfolding rowPlanAt
 returns c = search needs
 
-pub row-plan-at-spec : {M : Type 1} → statement M
-row-plan-at-spec =
+pub planned-spec : {M : Type 1} → statement M
+planned-spec =
     tie.close
     (tie.spec
     (λ c. search needs)

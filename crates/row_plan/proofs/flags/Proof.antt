@@ -1,8 +1,8 @@
 -- The third is 4 more.
 use borrow.Author.Needs.{needs}
-use Rattle.plan.proofs.Planned as laws
-use Rattle.plan.proofs.flags.Statement.{statement}
-use Rattle.plan.proofs.flags.Tie as tie
+use Rattle.row_plan.proofs.Numbers as laws
+use Rattle.row_plan.proofs.flags.Statement.{statement}
+use Rattle.row_plan.proofs.flags.Tie as tie
 
 pub flags-spec : {M : Type 1} → statement M
 flags-spec =
