@@ -1,6 +1,6 @@
--- The one-call check gives the verdict on the text's design; and so does a desk that is decided.
+-- The one-call check gives the verdict on the text's design.
 use Prim.Native.Nat.{ℕ, _≤_, _<_}
-use mathlib.Core.Path.{_≡_, refl, sym, ap, _∙_}
+use mathlib.Core.Path.{_≡_, refl, sym, _∙_}
 use mathlib.Core.Logic.{_≢_}
 use mathlib.Core.Bool.{Bool, true, false, cond}
 use mathlib.Core.List.{List}
@@ -18,65 +18,20 @@ use Rattle.writer.specs.Report as bytes
 use Rattle.writer.proofs.Bytes.{report-first}
 use Rattle.criteria.specs.Design.{Design, states}
 use Rattle.criteria.specs.Failure.{Failure, startFailure}
-use Rattle.criteria.specs.Verdict.{accepted, failed}
-use Rattle.criteria.specs.Verdict as criteria
 use Rattle.decision.specs.Tests.{holds1}
-use Rattle.decision.specs.Verdict.{overStates, checked, byOutcome, verdictOf}
+use Rattle.decision.specs.Verdict.{overStates, checked, byOutcome}
 use Rattle.design.specs.Lines.{countsOf, designText}
 use Rattle.design.specs.Loaded.{fieldsHeld, startsHeld}
 use Rattle.loader.specs.Load.{faultOf, heldBy, loadedOf}
 use Rattle.loader.specs.declared.Loaded.{Loaded}
+use Rattle.loader.proofs.Passed.{fault-kept}
 use Rattle.walk.specs.Told.{said}
 use Rattle.walk.specs.Walk.{checkedIn}
-use Rattle.checker.specs.Said.{saidVerdict}
 use Rattle.answers.specs.declared.Phase.{Phase}
-use Rattle.answers.specs.declared.Phase.the-variants as phase
-use Rattle.answers.specs.declared.Done.the-variants as done
 use Rattle.answers.specs.declared.Verdict.{Verdict}
 use Rattle.answers.specs.Answers.{verdictNumbers, toldBy, phaseAfter}
-use Rattle.desk.specs.declared.Desk.{Desk}
-use Rattle.desk.specs.Desk.{opened, notLoaded, loadEmpty, tellBy, tellOf}
-use Rattle.desk.proofs.Numbers.{fault-kept}
 use Rattle.checker.specs.OneCall.{refusedReport, designReport, judgedOf, answerOf, bufferAfter}
-use Rattle.checker.proofs.Opened.{Ready, start-is, total-is, initial-is, walk-is}
-use Rattle.checker.proofs.Stages.{Stage, fresh, going, accepts, fails}
-
--- ---- a load on an empty desk
-
--- a text without fault is held, and nothing is tried yet
-opened-ready : (text : List ℕ) → faultOf text ≡ 0 → Ready text (opened (heldBy (fieldsByLine text)))
-opened-ready text ok = record { free = ok; held = record { fields-are = refl; starts-are = refl; counts-are = refl }; plan-is = refl }
-
-pub opened-stage : (text : List ℕ) → faultOf text ≡ 0 → Stage text (opened (heldBy (fieldsByLine text)))
-opened-stage text ok = fresh (opened-ready text ok) refl refl
-
-pub loaded-free : (d : Desk) (text : List ℕ) → faultOf text ≡ 0 → loadEmpty d (loadedOf text) ≡ record { answer = done.Done; desk = opened (heldBy (fieldsByLine text)) }
-unfolding loadEmpty loadedOf
-loaded-free d text ok = rw ok
-
-pub loaded-fault : (d : Desk) (text : List ℕ) → faultOf text ≢ 0 → loadEmpty d (loadedOf text) ≡ notLoaded (faultOf text) d
-unfolding loadEmpty loadedOf
-loaded-fault d text z = rw (ne-eqb (faultOf text) 0 z) (rw (ne-eqb (faultOf text) 0 z))
-
--- ---- the verdict of a decided desk
-
-tell-at : (desk : Desk) {p : Phase} → desk .phase ≡ p → tellOf desk .answer ≡ tellBy p desk .answer
-unfolding tellOf
-tell-at desk e = ap (λ p. tellBy p desk .answer) e
-
-pub decided-answer : (text : List ℕ) (desk : Desk) → Stage text desk → desk .phase ≢ phase.Open → tellOf desk .answer ≡ saidVerdict (verdictOf (designText text))
-decided-answer text desk (fresh h e z) o = absurd (o e)
-decided-answer text desk (going h e l u p) o = absurd (o e)
-decided-answer text desk (accepts h e v) o = rw (tell-at desk e, v)
-decided-answer text desk (fails x h e v) o = rw (tell-at desk e, v)
-
-pub decided-report : (text : List ℕ) (desk : Desk) → Stage text desk → desk .phase ≢ phase.Open
-    → verdictNumbers (tellOf desk .answer) ≡ designReport (verdictOf (designText text))
-decided-report text desk s o = rw (decided-answer text desk s o) (same-report (verdictOf (designText text)))
-  where
-    same-report : (v : criteria.Verdict) → verdictNumbers (saidVerdict v) ≡ designReport v
-    same-report accepted = refl
-    same-report (failed x) = refl
+use Rattle.checker.proofs.Opened.{start-held, total-held, initial-held, walk-held}
 
 -- ---- the check
 
@@ -84,16 +39,10 @@ decided-report text desk s o = rw (decided-answer text desk s o) (same-report (v
 checked-held : (text : List ℕ) → faultOf text ≡ 0 → checkedIn (fieldsHeld (fieldsByLine text)) (startsHeld (fieldsByLine text)) (countsOf (fieldsByLine text)) ≡ said (checked (designText text))
 unfolding checkedIn checked
 checked-held text ok =
-    rw (start-is text desk ready, total-is text desk ready, walk-is text desk ready (states d) 0 (omega arith), initial-is text desk ready) (go (holds1 d))
+    rw (start-held text ok, total-held text ok, walk-held text ok (states d) 0 (omega arith), initial-held text ok) (go (holds1 d))
   where
     d : Design
     d = designText text
-
-    desk : Desk
-    desk = opened (heldBy (fieldsByLine text))
-
-    ready : Ready text desk
-    ready = opened-ready text ok
 
     go : (b : Bool) → cond b (said (overStates d)) (Fail (startFailure d)) ≡ said (cond b (overStates d) (fail (startFailure d)))
     go true = refl

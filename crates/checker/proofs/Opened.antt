@@ -1,6 +1,6 @@
--- What a desk that holds a text's lines comes to, in the words of the text's design: the start, the number of states, the number of
--- the initial state, and a walk. From here on nothing speaks of arrays.
-use Prim.Native.Nat.{ℕ, _+_, _-_, _≤_, min}
+-- What the arrays that hold a text's lines come to, in the words of the text's design: the start, the number of states, the number of the
+-- initial state, and a walk. From here on nothing speaks of arrays.
+use Prim.Native.Nat.{ℕ, _+_, _≤_, min}
 use mathlib.Core.Path.{_≡_, ap, _∙_}
 use mathlib.Core.Bool.{true}
 use mathlib.Core.List.{List}
@@ -21,14 +21,6 @@ use Rattle.loader.proofs.Passed.{admitted, design-in, counts-allowed}
 use Rattle.walk.specs.Walk.{startIn, planOf, walkedBy}
 use Rattle.walk.proofs.Acceptance.{start-tried, states-walked}
 use Rattle.walk.specs.Told.{saidWalked}
-use Rattle.desk.specs.Desk.{HoldsText}
-use Rattle.desk.specs.declared.Desk.{Desk}
-
--- the text has no fault, the desk holds its lines, and its plan is that of its arrays
-pub record Ready (text : List ℕ) (desk : Desk) : Type 0 where
-  pub free : faultOf text ≡ 0
-  pub held : HoldsText text desk
-  pub plan-is : desk .plan ≡ planOf (desk .fields) (desk .starts) (desk .counts)
 
 -- ---- arrays that hold a design
 
@@ -56,41 +48,35 @@ module _ (f s : List ℕ) (c : Counts) (fit : countsFit c ≡ true) (d : Design)
       let same : states (designIn f s c) ≡ states d = ap states e in
       ap saidWalked (states-walked f s c fit (omega arith) n from (omega arith) ∙ ap (λ x. walk (examine x) n from) e)
 
--- ---- a desk that holds a text
+-- ---- arrays that hold a text
 
-module _ (text : List ℕ) (desk : Desk) (r : Ready text desk) where
-  abbrev lines : List (List ℕ)
-  lines = fieldsByLine text
-
+module _ (text : List ℕ) (ok : faultOf text ≡ 0) where
   abbrev d : Design
   d = designText text
 
-  h : HoldsText text desk
-  h = r .held
+  abbrev f : List ℕ
+  f = fieldsHeld (fieldsByLine text)
+
+  abbrev s : List ℕ
+  s = startsHeld (fieldsByLine text)
+
+  abbrev c : Counts
+  c = countsOf (fieldsByLine text)
 
   pub few : states d ≤ 65536
-  few = admitted text (r .free) .few-states
+  few = admitted text ok .few-states
 
-  pub start-is : startIn (desk .fields) (desk .starts) (desk .counts) ≡ holds1 d
-  start-is =
-      rw (h .fields-are, h .starts-are, h .counts-are)
-      (start-of (fieldsHeld lines) (startsHeld lines) (countsOf lines) (counts-allowed text (r .free)) d (design-in text (r .free)))
+  pub start-held : startIn f s c ≡ holds1 d
+  start-held = start-of f s c (counts-allowed text ok) d (design-in text ok)
 
-  pub total-is : stateCountIn (desk .fields) (desk .starts) (desk .counts) ≡ states d
-  total-is =
-      rw (h .fields-are, h .starts-are, h .counts-are)
-      (total-of (fieldsHeld lines) (startsHeld lines) (countsOf lines) (counts-allowed text (r .free)) d (design-in text (r .free)) few)
+  pub total-held : stateCountIn f s c ≡ states d
+  total-held = total-of f s c (counts-allowed text ok) d (design-in text ok) few
 
-  pub initial-is : initialNumberIn (desk .fields) (desk .starts) (desk .counts) ≡ stateNumber d (initialState (d .impl))
-  initial-is =
-      let f = few in
-      let b = number-below (sizes (d .impl)) (initialState (d .impl)) (initial-in-size (d .impl) (admitted text (r .free) .impl-sizes)) in
-      let small : stateNumber d (initialState (d .impl)) ≤ 65535 = omega arith in
-      rw (h .fields-are, h .starts-are, h .counts-are)
-      (initial-of (fieldsHeld lines) (startsHeld lines) (countsOf lines) (counts-allowed text (r .free)) d (design-in text (r .free)) small)
+  pub initial-held : initialNumberIn f s c ≡ stateNumber d (initialState (d .impl))
+  initial-held =
+      let most = few in
+      let b = number-below (sizes (d .impl)) (initialState (d .impl)) (initial-in-size (d .impl) (admitted text ok .impl-sizes)) in
+      initial-of f s c (counts-allowed text ok) d (design-in text ok) (omega arith)
 
-  pub walk-is : (n from : ℕ) → from + n ≤ states (designText text)
-      → walkedBy (desk .fields) (desk .starts) (desk .counts) (desk .plan) n from ≡ saidWalked (walk (examine (designText text)) n from)
-  walk-is n from l =
-      rw (r .plan-is, h .fields-are, h .starts-are, h .counts-are)
-      (walk-of (fieldsHeld lines) (startsHeld lines) (countsOf lines) (counts-allowed text (r .free)) d (design-in text (r .free)) n from l few)
+  pub walk-held : (n from : ℕ) → from + n ≤ states d → walkedBy f s c (planOf f s c) n from ≡ saidWalked (walk (examine d) n from)
+  walk-held n from l = walk-of f s c (counts-allowed text ok) d (design-in text ok) n from l few

@@ -21,8 +21,8 @@ use Rattle.answers.specs.declared.Done.the-variants as done
 use Rattle.desk.specs.declared.Desk.{Desk}
 use Rattle.desk.specs.declared.AfterLoad.{AfterLoad}
 use Rattle.checker.specs.OneCall.{designReport}
-use Rattle.checker.proofs.Stages.{Stage, fresh, going, accepts, fails}
-use Rattle.checker.proofs.Judging.{loaded-free}
+use Rattle.stages.proofs.Stages.{Stage, fresh, going, accepts, fails}
+use Rattle.stages.proofs.Judging.{loaded-free}
 use Rattle.claims.specs.Calls.{Called, load, advance, AcceptedIn, Walked, LoadThen}
 use Rattle.claims.specs.Calls as calls
 use Rattle.claims.specs.Contracts.{News, Loads, Checks, Calls, new, then-load, then-advance}

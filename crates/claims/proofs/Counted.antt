@@ -15,9 +15,9 @@ use Rattle.decision.specs.Tests.{holds1}
 use Rattle.decision.specs.Examine.{examine}
 use Rattle.decision.specs.Verdict.{verdictOf}
 use Rattle.decision.proofs.Progress.{Progress, begins, goes-on, ends-at-start, ends-well, ends-badly, fails-at, fails-later}
-use Rattle.checker.specs.Count.{stopOf}
-use Rattle.checker.proofs.Examined.{examined}
-use Rattle.checker.proofs.Stages.{stop-failed}
+use Rattle.stages.specs.Count.{stopOf}
+use Rattle.stages.proofs.Examined.{examined}
+use Rattle.stages.proofs.Stages.{stop-failed}
 
 module _ (d : Design) (a : Admitted d) (m : ℕ) where
   abbrev j : ℕ

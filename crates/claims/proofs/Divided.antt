@@ -14,7 +14,7 @@ use Rattle.answers.specs.declared.Advance.{Advance}
 use Rattle.desk.specs.declared.Desk.{Desk}
 use Rattle.desk.specs.declared.AfterLoad.{AfterLoad}
 use Rattle.desk.specs.declared.AfterAdvance.{AfterAdvance}
-use Rattle.checker.specs.Count.{Due}
+use Rattle.stages.specs.Count.{Due}
 use Rattle.claims.specs.Calls.{Called, load, advance, Walked}
 use Rattle.claims.specs.Contracts.{News, Loads, Advances, Calls, new, then-load, then-advance, then-verdict, then-drop}
 use Rattle.claims.specs.Demand2.{Comes}

@@ -21,8 +21,8 @@ use Rattle.desk.specs.declared.Desk.{Desk}
 use Rattle.desk.specs.declared.AfterAdvance.{AfterAdvance}
 use Rattle.desk.specs.Desk.{loadEmpty, loadBy, loadOf, notAdvanced, advanceOpen, advanceBy, advanceOf, tellBy, tellOf, dropBy, dropOf}
 use Rattle.design.specs.Lines.{designText}
-use Rattle.checker.proofs.Stages.{Stage, fresh, going, accepts, fails, AdvanceDue, advance-fresh, advance-going}
-use Rattle.checker.proofs.Judging.{opened-stage, loaded-free, loaded-fault}
+use Rattle.stages.proofs.Stages.{Stage, fresh, going, accepts, fails, AdvanceDue, advance-fresh, advance-going}
+use Rattle.stages.proofs.Judging.{opened-stage, loaded-free, loaded-fault}
 use Rattle.claims.specs.Calls.{Called, load, advance, verdict, drop, NoLoad, refused, advanced, told, dropped, LastLoad, here, before, AcceptedIn}
 use Rattle.claims.specs.Calls as calls
 use Rattle.claims.specs.Contracts.{Calls, new, then-load, then-advance, then-verdict, then-drop}

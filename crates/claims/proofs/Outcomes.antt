@@ -17,7 +17,7 @@ use Rattle.desk.specs.declared.AfterLoad.{AfterLoad}
 use Rattle.answers.specs.Answers.{Decided}
 use Rattle.answers.specs.Answers as answers
 use Rattle.desk.specs.Desk.{emptyDesk, notLoaded, notAdvanced, loadOf, advanceOf, tellBy, tellOf, dropBy, dropOf}
-use Rattle.checker.proofs.Judging.{loaded-free, loaded-fault}
+use Rattle.stages.proofs.Judging.{loaded-free, loaded-fault}
 use Rattle.claims.specs.Contracts.{Loads}
 use Rattle.claims.specs.Outcomes.{Opens, TurnsDown, Refusals}
 use Rattle.claims.proofs.Kept.{load-at, advance-at, by-none}

@@ -18,7 +18,7 @@ use Rattle.answers.specs.declared.Done.the-variants as done
 use Rattle.answers.specs.declared.Advance.{Advance}
 use Rattle.answers.specs.declared.Advance.the-variants as progress
 use Rattle.desk.specs.declared.Desk.{Desk}
-use Rattle.checker.specs.Count.{stopOf, dueOf}
+use Rattle.stages.specs.Count.{stopOf, dueOf}
 use Rattle.claims.specs.Calls.{Called, load, advance, Walked}
 use Rattle.claims.specs.Calls as calls
 use Rattle.claims.specs.Contracts.{Calls}

@@ -28,14 +28,14 @@ use Rattle.answers.specs.declared.Verdict.{Verdict}
 use Rattle.answers.specs.Answers.{countSaid, Decided, verdictNumbers}
 use Rattle.answers.specs.Answers as answers
 use Rattle.criteria.specs.Verdict as criteria
-use Rattle.checker.specs.Said.{saidVerdict}
+use Rattle.stages.specs.Said.{saidVerdict}
 use Rattle.checker.specs.OneCall.{designReport}
-use Rattle.checker.proofs.Examined.{examined}
+use Rattle.stages.proofs.Examined.{examined}
 use Rattle.desk.specs.Desk.{opened, loadEmpty, loadOf, advanceOf, tellOf}
 use Rattle.design.specs.Lines.{designText}
-use Rattle.checker.specs.Count.{Due}
-use Rattle.checker.proofs.Stages.{Stage, fresh, going, accepts, fails, AdvanceDue, advance-fresh, advance-going, some-states}
-use Rattle.checker.proofs.Judging.{opened-stage, loaded-free, loaded-fault, decided-answer, decided-report}
+use Rattle.stages.specs.Count.{Due}
+use Rattle.stages.proofs.Stages.{Stage, fresh, going, accepts, fails, AdvanceDue, advance-fresh, advance-going, some-states}
+use Rattle.stages.proofs.Judging.{opened-stage, loaded-free, loaded-fault, decided-answer, decided-report}
 use Rattle.claims.specs.Calls.{Called, load, advance, verdict, NoLoad, LastLoad, here, before, AcceptedIn, Walked}
 use Rattle.claims.specs.Calls as calls
 use Rattle.claims.specs.Outcomes.{Named, acceptance, failure}

@@ -17,8 +17,8 @@ use Rattle.answers.specs.declared.Phase.the-variants as phase
 use Rattle.desk.specs.declared.AfterAdvance.{AfterAdvance}
 use Rattle.desk.specs.declared.AfterVerdict.{AfterVerdict}
 use Rattle.answers.specs.Answers.{Decided, verdictNumbers}
-use Rattle.checker.specs.Said.{saidVerdict}
-use Rattle.checker.specs.Count.{stopOf, Due}
+use Rattle.stages.specs.Said.{saidVerdict}
+use Rattle.stages.specs.Count.{stopOf, Due}
 use Rattle.checker.specs.OneCall.{designReport}
 use Rattle.claims.specs.Calls.{Called, Walked}
 use Rattle.claims.specs.Contracts.{Advances, Tells, Checks, Calls}

@@ -7,6 +7,7 @@ use borrow.Author.Tests.{eqb-true}
 use lib.Dec.{eqb, leb}
 use Rattle.layout.specs.Sizes.{stateCountIn}
 use Rattle.loader.specs.Load.{faultOf, loadedOf}
+use Rattle.loader.proofs.Passed.{fault-kept}
 use Rattle.walk.specs.Walk.{startIn, walkedBy}
 use Rattle.verdicts.specs.declared.Outcome.{Outcome}
 use Rattle.verdicts.specs.declared.Outcome.the-variants.{Pass, Fail}
@@ -23,14 +24,6 @@ use Rattle.desk.specs.Answers.{loadNumber, countOpen, countBy, advanceCo
 use Rattle.desk.specs.Desk.{loadEmpty, loadBy, loadOf, afterWalk, walkedOn, failStart, ahead, examineNext, examineOpen, advanceOpen, advanceBy, advanceOf, tellBy, tellOf, dropBy, dropOf}
 
 -- ---- load
-
-pub fault-kept : (text : List ℕ) → loadedOf text .fault ≡ faultOf text
-unfolding loadedOf
-fault-kept text = go (eqb (faultOf text) 0) refl
-  where
-    go : (b : Bool) → eqb (faultOf text) 0 ≡ b → loadedOf text .fault ≡ faultOf text
-    go true e = rw e (sym (eqb-true (faultOf text) 0 e))
-    go false e = rw e
 
 empty-number : (d : Desk) (text : List ℕ) → doneNumber (loadEmpty d (loadedOf text) .answer) ≡ faultOf text
 unfolding loadEmpty

@@ -1,6 +1,6 @@
 -- Of a text that is loaded: its lines stand in order and are made of their terms, so the arrays hold its design (`design-in`).
 use Prim.Native.Nat.{ℕ}
-use mathlib.Core.Path.{_≡_, refl}
+use mathlib.Core.Path.{_≡_, refl, sym}
 use mathlib.Core.Bool.{Bool, true, false, cond}
 use mathlib.Core.List.{List}
 use native.Mathlib.Omega.{arith}
@@ -22,7 +22,7 @@ use Rattle.design.proofs.Held.{TermsFit, design-held}
 use Rattle.layout.specs.Sizes.{countsFit}
 use Rattle.line_check.proofs.LineFits.{by-line}
 use Rattle.action_check.specs.ActionsFit.{actionsFit}
-use Rattle.loader.specs.Load.{lineTest, termsFitAll, tableFault, faultOf}
+use Rattle.loader.specs.Load.{lineTest, termsFitAll, tableFault, faultOf, loadedOf}
 use Rattle.loader.proofs.Loading.{few-lines}
 use Rattle.loader.proofs.Lowest.{free-exactly}
 use Rattle.loader.proofs.Admitted.{text-admitted}
@@ -70,3 +70,12 @@ module _ (text : List ℕ) (ok : faultOf text ≡ 0) where
 
   pub counts-allowed : countsFit (countsOf lines) ≡ true
   counts-allowed = let q = counted lay in rw (le-leb _ 8 (q .kind1 .1), le-leb _ 8 (q .kind2 .1), le-leb _ 32 (q .kind3), le-leb _ 32 (q .kind4), le-leb _ 1 (q .kind8))
+
+-- the fault is told
+pub fault-kept : (text : List ℕ) → loadedOf text .fault ≡ faultOf text
+unfolding loadedOf
+fault-kept text = go (eqb (faultOf text) 0) refl
+  where
+    go : (b : Bool) → eqb (faultOf text) 0 ≡ b → loadedOf text .fault ≡ faultOf text
+    go true e = rw e (sym (eqb-true (faultOf text) 0 e))
+    go false e = rw e

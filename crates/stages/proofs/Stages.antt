@@ -33,10 +33,10 @@ use Rattle.desk.specs.declared.Desk.{Desk}
 use Rattle.desk.specs.declared.AfterAdvance.{AfterAdvance}
 use Rattle.answers.specs.Answers.{countSaid, Decided, answerAfter, phaseAfter}
 use Rattle.answers.specs.Answers as answers
-use Rattle.checker.specs.Count.{stopOf, decidedBy, dueOf, Due}
-use Rattle.checker.proofs.Examined.{examined}
+use Rattle.stages.specs.Count.{stopOf, decidedBy, dueOf, Due}
+use Rattle.stages.proofs.Examined.{examined}
 use Rattle.desk.specs.Desk.{placed, ahead, failStart, afterWalk, walkedOn, examineNext, examineOpen, advanceOpen, advanceBy, advanceOf}
-use Rattle.checker.proofs.Opened.{Ready, start-is, total-is, initial-is, walk-is}
+use Rattle.stages.proofs.Ready.{Ready, start-is, total-is, initial-is, walk-is}
 
 pub data Stage (text : List ℕ) (desk : Desk) : Type 0 where
   -- loaded, nothing tried

@@ -1,0 +1,4 @@
+pub mod Ready
+pub mod Examined
+pub mod Stages
+pub mod Judging
