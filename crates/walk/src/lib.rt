@@ -1,6 +1,6 @@
 // The walk over the states of the design in a desk's arrays: criterion 1 at the start, and criteria 2 to 9 at n states from a place on,
-// by a plan that is made once for the design; or both in one check. Every public function answers any arrays, any counts and any numbers. What a walk is, and
-// what the examination of a state, is in the crates foundation and decision.
+// by a plan that is made once for the design; or all of it in one check. Every public function answers any arrays, any counts and any
+// numbers. What a walk is, and what the examination of a state, is in the crates foundation and decision.
 use design::Counts;
 use design::Shape;
 use lowest_failure::Finding;
@@ -47,19 +47,6 @@ pub fn start_failure<'a>(
     }
 }
 
-// The whole check: criterion 1, then all states.
-pub fn check<'a>(fields: &'a limits::Fields, starts: &'a limits::Starts, counts: Counts) -> Outcome
-    ensures { λ r. ⌜ r ≡ checkedIn (now (fields .entry)) (now (starts .entry)) counts ⌝ }
-{
-    if !start_holds(fields, starts, counts) {
-        return Outcome::Fail(start_failure(fields, starts, counts));
-    }
-    let plan = plan(fields, starts, counts);
-    let total = layout::state_count(fields, starts, counts);
-    let walked = walk(fields, starts, counts, &plan, 0, total);
-    walked.outcome
-}
-
 // The plan for a walk: what does not change from state to state.
 pub fn plan<'a>(
     fields: &'a limits::Fields,
@@ -90,6 +77,19 @@ pub fn walk<'a>(
         return no_walk();
     }
     walk_on(fields, starts, layout::shape_of(counts), plan, from, n)
+}
+
+// The whole check: criterion 1, then all states.
+pub fn check<'a>(fields: &'a limits::Fields, starts: &'a limits::Starts, counts: Counts) -> Outcome
+    ensures { λ r. ⌜ r ≡ checkedIn (now (fields .entry)) (now (starts .entry)) counts ⌝ }
+{
+    if !start_holds(fields, starts, counts) {
+        return Outcome::Fail(start_failure(fields, starts, counts));
+    }
+    let plan = plan(fields, starts, counts);
+    let total = layout::state_count(fields, starts, counts);
+    let walked = walk(fields, starts, counts, &plan, 0, total);
+    walked.outcome
 }
 
 // How many states may be walked.
