@@ -18,8 +18,10 @@ use Rattle.design.specs.declared.Counts.{Counts}
 use Rattle.layout.specs.Sizes.{countsFit, stateCountIn, initialNumberIn}
 use Rattle.loader.specs.Load.{faultOf}
 use Rattle.loader.proofs.Passed.{admitted, design-in, counts-allowed}
-use Rattle.walk.specs.Walk.{startIn, planOf, walkedBy}
-use Rattle.walk.proofs.Acceptance.{start-tried, states-walked}
+use Rattle.start.specs.Start.{startIn}
+use Rattle.walk.specs.Walk.{planOf, walkedBy}
+use Rattle.start.proofs.Starting.{start-tried}
+use Rattle.walk.proofs.Acceptance.{states-walked}
 use Rattle.walk.specs.Told.{saidWalked}
 
 -- ---- arrays that hold a design

@@ -10,7 +10,8 @@ use lib.Dec.{eqb, leb}
 use Rattle.layout.specs.Sizes.{stateCountIn}
 use Rattle.loader.specs.declared.Loaded.{Loaded}
 use Rattle.loader.specs.Load.{loadedOf}
-use Rattle.walk.specs.Walk.{startIn, startFailureIn, planOf, walkedBy}
+use Rattle.start.specs.Start.{startIn, startFailureIn}
+use Rattle.walk.specs.Walk.{planOf, walkedBy}
 use Rattle.verdicts.specs.declared.Failure.{Failure}
 use Rattle.verdicts.specs.declared.Walked.{Walked}
 use Rattle.desk.specs.Answers.{loadNumber, advanceCount}

@@ -8,7 +8,8 @@ use lib.Dec.{eqb, leb}
 use Rattle.layout.specs.Sizes.{stateCountIn}
 use Rattle.loader.specs.Load.{faultOf, loadedOf}
 use Rattle.loader.proofs.Passed.{fault-kept}
-use Rattle.walk.specs.Walk.{startIn, walkedBy}
+use Rattle.start.specs.Start.{startIn}
+use Rattle.walk.specs.Walk.{walkedBy}
 use Rattle.verdicts.specs.declared.Outcome.{Outcome}
 use Rattle.verdicts.specs.declared.Outcome.the-variants.{Pass, Fail}
 use Rattle.verdicts.specs.declared.Walked.{Walked}

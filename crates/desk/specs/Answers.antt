@@ -6,7 +6,8 @@ use mathlib.Core.List.{List}
 use lib.Dec.{eqb}
 use Rattle.layout.specs.Sizes.{stateCountIn}
 use Rattle.loader.specs.Load.{faultOf}
-use Rattle.walk.specs.Walk.{startIn, walkedBy}
+use Rattle.start.specs.Start.{startIn}
+use Rattle.walk.specs.Walk.{walkedBy}
 use Rattle.answers.specs.declared.Phase.{Phase}
 use Rattle.answers.specs.declared.Phase.the-variants as phase
 use Rattle.desk.specs.declared.Desk.{Desk}

@@ -14,7 +14,8 @@ use Rattle.design.specs.Loaded.{fieldsHeld, startsHeld}
 use Rattle.layout.specs.Sizes.{stateCountIn}
 use Rattle.loader.specs.declared.Loaded.{Loaded}
 use Rattle.loader.specs.Load.{loadedOf}
-use Rattle.walk.specs.Walk.{startIn, startFailureIn, planOf, walkedBy}
+use Rattle.start.specs.Start.{startIn, startFailureIn}
+use Rattle.walk.specs.Walk.{planOf, walkedBy}
 use Rattle.verdicts.specs.declared.Walked.{Walked}
 use Rattle.verdicts.specs.declared.Outcome.{Outcome}
 use Rattle.answers.specs.declared.Phase.{Phase}

@@ -215,7 +215,7 @@ impl Desk {
         ensures { λ r. ⌜ r ≡ examineOpen self n ⌝ }
     {
         if self.next == 0 {
-            if walk::start_holds(&self.fields, &self.starts, self.counts) {
+            if start::holds(&self.fields, &self.starts, self.counts) {
                 return self.examine_next(n);
             }
             return self.fail_start();
@@ -227,7 +227,7 @@ impl Desk {
     fn fail_start(self) -> AfterAdvance
         ensures { λ r. ⌜ r ≡ failStart self ⌝ }
     {
-        let failure = walk::start_failure(&self.fields, &self.starts, self.counts);
+        let failure = start::failure(&self.fields, &self.starts, self.counts);
         AfterAdvance {
             answer: Advance::Failed(0),
             desk: self.placed(0, Phase::Failed(failure)),

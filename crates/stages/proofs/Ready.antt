@@ -9,7 +9,8 @@ use Rattle.decision.specs.Examine.{examine}
 use Rattle.design.specs.Lines.{designText}
 use Rattle.layout.specs.Sizes.{stateCountIn, initialNumberIn}
 use Rattle.loader.specs.Load.{faultOf}
-use Rattle.walk.specs.Walk.{startIn, planOf, walkedBy}
+use Rattle.start.specs.Start.{startIn}
+use Rattle.walk.specs.Walk.{planOf, walkedBy}
 use Rattle.walk.specs.Told.{saidWalked}
 use Rattle.desk.specs.Desk.{HoldsText}
 use Rattle.desk.specs.declared.Desk.{Desk}

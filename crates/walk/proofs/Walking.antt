@@ -1,7 +1,7 @@
 -- What the code returns, as specs/Examine and specs/Walk say it; the turns of the walk's loop; and that the examination of a number is
 -- that of the state with this number, so that the walk is the walk over the states of the design.
 use mathlib.Core.Path.{_≡_, refl, sym, _∙_, ap}
-use mathlib.Core.Bool.{Bool, true, false, not, _&&_, cond}
+use mathlib.Core.Bool.{Bool, true, false, not, cond}
 use mathlib.Core.List.{List}
 use Prim.Native.Nat.{ℕ, zero, suc, _+_, _-_, _≤_, _<_, min}
 use native.Mathlib.Omega.{arith}
@@ -12,9 +12,9 @@ use Rattle.foundation.specs.First.{Outcome, pass}
 use Rattle.foundation.specs.Walk as theWalk
 use Rattle.foundation.specs.Walk.{plus}
 use Rattle.foundation.proofs.Walk.{walk-goes, walk-stops}
-use Rattle.criteria.specs.Design.{Design, states, mapped, initialState}
+use Rattle.criteria.specs.Design.{Design, states}
 use Rattle.criteria.specs.Failure.{Failure}
-use Rattle.decision.specs.Tests.{invariantB, holds1}
+use Rattle.decision.specs.Tests.{invariantB}
 use Rattle.decision.specs.Quick.{stateHolds}
 use Rattle.decision.proofs.Quick.{quick-passes}
 use Rattle.decision.proofs.Alike.{failing-alike}
@@ -22,9 +22,9 @@ use Rattle.decision.specs.Examine.{named, stateAt, firstFailing, examine}
 use Rattle.design.specs.Loaded.{sections, designAt, designIn}
 use Rattle.design.specs.declared.Counts.{Counts}
 use Rattle.design.specs.declared.Shape.{Shape}
-use Rattle.layout.specs.Sizes.{countsFit, Fits, shapeOf, stateCountIn, initialNumberIn}
+use Rattle.layout.specs.Sizes.{countsFit, Fits, shapeOf, stateCountIn}
 use Rattle.layout.proofs.Sizes.{shape-fits, sections-kept}
-use Rattle.steps.specs.Arrays.{padded, initialIn, stateIn, invariantIn, mappedIn, sameIn}
+use Rattle.steps.specs.Arrays.{padded, stateIn, invariantIn, mappedIn}
 use Rattle.steps.proofs.States as held
 use Rattle.lowest_failure.specs.Search.{toldPlace}
 use Rattle.verdicts.specs.declared.Place.{Place}
@@ -35,7 +35,8 @@ use Rattle.state_passes.specs.Passes.{passesIn}
 use Rattle.state_passes.proofs.Decided.{quick-held}
 use Rattle.walk.specs.Told.{told, toldWalked, noWalk, namedBy}
 use Rattle.walk.specs.Examine.{examineAt, examineIn, walkOn}
-use Rattle.walk.specs.Walk.{startIn, startFailureIn, walkIn, statesThere, planOf, walkBy, walkedBy, checkedIn, startMeets}
+use Rattle.start.specs.Start.{startIn, startFailureIn}
+use Rattle.walk.specs.Walk.{walkIn, statesThere, planOf, walkBy, walkedBy, checkedIn}
 use Rattle.walk.proofs.Told.{walked-so}
 use Rattle.verdicts.specs.declared.Outcome.{Outcome as Answer}
 use Rattle.verdicts.specs.declared.Outcome.the-variants.{Pass, Fail}
@@ -158,36 +159,7 @@ module _ (f s : List ℕ) (h : Shape) (fits : Fits h) where
       go true y = rw (quick-passes d (padded x) y)
       go false y = refl
 
-  pub start-held : startMeets f s h ≡ holds1 (designAt f s h)
-  unfolding startMeets initialIn
-  start-held =
-      let d : Design = designAt f s h in
-      let x : List ℕ = initialState (d .impl) in
-      let short : length x ≤ 8 = rw (held.initial-length f s (h .implementation)) (fits .implementation .parameters) in
-      rw (
-        held.mapped-held f s h x short,
-        held.invariant-held f s h x short,
-        held.same-held (mapped d x) (initialState (d .spec)) (h .specification .parameters .count) (held.mapped-length f s h x)
-            (held.initial-length f s (h .specification)) (fits .specification .parameters),
-      )
-
 -- ---- what is returned
-
-module _ (f s : List ℕ) (c : Counts) (b : Bool) (said : b ≡ countsFit c) where
-  pub start-fits : (h : Shape) (r : Bool) → not b ≡ false → h ≡ shapeOf c → r ≡ startMeets f s h → r ≡ startIn f s c
-  unfolding startIn
-  start-fits h r so eh er =
-      let all : countsFit c ≡ true = sym said ∙ not-false b so in
-      er ∙ ap (startMeets f s) eh ∙ start-held f s (shapeOf c) (shape-fits c) ∙ ap (λ k. holds1 (designAt f s k)) (sections-kept c all) ∙ rw all
-
-  pub start-unfit : not b ≡ true → false ≡ startIn f s c
-  unfolding startIn
-  start-unfit no-fit = rw (← said, not-true b no-fit)
-
-pub start-is : (f s v t u : List ℕ) (h : Shape) (a b : Bool) → v ≡ initialIn f s (h .implementation) → t ≡ mappedIn f s h v → u ≡ initialIn f s (h .specification)
-    → a ≡ invariantIn f s h v → b ≡ sameIn (h .specification .parameters .count) t u → a && b ≡ startMeets f s h
-unfolding startMeets
-start-is f s v t u h a b ev et eu ea eb = rw (ea, eb, et, eu, ev)
 
 pub fits-of : (c : Counts) (h : Shape) → h ≡ shapeOf c → Fits h
 fits-of c h eh = rw eh (shape-fits c)
@@ -260,9 +232,6 @@ module _ (f s : List ℕ) (c : Counts) (n from : ℕ) where
       go true e = rw (sections-kept c e, e) (enough (fits-of c h (sym (sections-kept c e))) _ refl)
 
 -- ---- a whole check
-
-pub start-failed : (f s : List ℕ) (c : Counts) (n : ℕ) → n ≡ initialNumberIn f s c → record { criterion = 1; state = n; row = 0; sum = 0 } ≡ startFailureIn f s c
-start-failed f s c n e = rw e
 
 module _ (f s : List ℕ) (c : Counts) (b : Bool) (eb : b ≡ startIn f s c) where
   pub check-start : (x : Failure) → not b ≡ true → x ≡ startFailureIn f s c → Fail x ≡ checkedIn f s c

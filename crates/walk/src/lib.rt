@@ -1,6 +1,6 @@
-// The walk over the states of the design in a desk's arrays: criterion 1 at the start, and criteria 2 to 9 at n states from a place on,
-// by a plan that is made once for the design; or all of it in one check. Every public function answers any arrays, any counts and any
-// numbers. What a walk is, and what the examination of a state, is in the crates foundation and decision.
+// The walk over the states of the design in a desk's arrays: criteria 2 to 9 at n states from a place on, by a plan that is made once for
+// the design; and the whole check, criterion 1 before all states. Every public function answers any arrays, any counts and any numbers.
+// What a walk is, and what the examination of a state, is in the crates foundation and decision.
 use design::Counts;
 use design::Shape;
 use lowest_failure::Finding;
@@ -11,41 +11,11 @@ ghost use mathlib.Core.Path.{_≡_};
 ghost use Prim.Native.Nat.{_+_, _≤_, min};
 ghost use Rattle.layout.specs.Sizes.{Fits, stateCountIn};
 ghost use Rattle.walk.specs.Told.{told, toldWalked, noWalk, namedBy};
-ghost use Rattle.walk.specs.Walk.{startMeets, startIn, startFailureIn, planOf, walkedBy, checkedIn};
+ghost use Rattle.walk.specs.Walk.{planOf, walkedBy, checkedIn};
 ghost use Rattle.walk.specs.Examine.{examineIn, walkOn};
 
 // How many numbers a plan has.
 pub const PLAN_LENGTH: usize = plan::LENGTH;
-
-// Whether criterion 1 holds; not where the counts do not fit.
-pub fn start_holds<'a>(
-    fields: &'a limits::Fields,
-    starts: &'a limits::Starts,
-    counts: Counts,
-) -> bool
-    ensures { λ r. ⌜ r ≡ startIn (now (fields .entry)) (now (starts .entry)) counts ⌝ }
-{
-    if !layout::counts_fit(counts) {
-        return false;
-    }
-    start_meets(fields, starts, layout::shape_of(counts))
-}
-
-// The failure of criterion 1.
-pub fn start_failure<'a>(
-    fields: &'a limits::Fields,
-    starts: &'a limits::Starts,
-    counts: Counts,
-) -> Failure
-    ensures { λ r. ⌜ r ≡ startFailureIn (now (fields .entry)) (now (starts .entry)) counts ⌝ }
-{
-    Failure {
-        criterion: 1,
-        state: layout::initial_number(fields, starts, counts),
-        row: 0,
-        sum: 0,
-    }
-}
 
 // The plan for a walk: what does not change from state to state.
 pub fn plan<'a>(
@@ -83,8 +53,8 @@ pub fn walk<'a>(
 pub fn check<'a>(fields: &'a limits::Fields, starts: &'a limits::Starts, counts: Counts) -> Outcome
     ensures { λ r. ⌜ r ≡ checkedIn (now (fields .entry)) (now (starts .entry)) counts ⌝ }
 {
-    if !start_holds(fields, starts, counts) {
-        return Outcome::Fail(start_failure(fields, starts, counts));
+    if !start::holds(fields, starts, counts) {
+        return Outcome::Fail(start::failure(fields, starts, counts));
     }
     let plan = plan(fields, starts, counts);
     let total = layout::state_count(fields, starts, counts);
@@ -102,17 +72,6 @@ fn walkable<'a>(fields: &'a limits::Fields, starts: &'a limits::Starts, counts: 
     } else {
         limits::MAX_STATES
     }
-}
-
-// Criterion 1.
-fn start_meets<'a>(fields: &'a limits::Fields, starts: &'a limits::Starts, shape: Shape) -> bool
-    ensures { λ r. ⌜ r ≡ startMeets (now (fields .entry)) (now (starts .entry)) shape ⌝ }
-{
-    let v = steps::initial_state(fields, starts, shape.implementation);
-    let t = steps::mapped(fields, starts, shape, &v);
-    let u = steps::initial_state(fields, starts, shape.specification);
-    let n = shape.specification.parameters.count;
-    steps::invariant(fields, starts, shape, &v) & steps::same(n, &t, &u)
 }
 
 // A walk over no state.

@@ -1,11 +1,11 @@
 -- The invariant, and the mapped state against the specification's.
 use borrow.Author.Needs.{needs}
-use Rattle.walk.proofs.Walking as laws
-use Rattle.walk.proofs.start_meets.Statement.{statement}
-use Rattle.walk.proofs.start_meets.Tie as tie
+use Rattle.start.proofs.Starting as laws
+use Rattle.start.proofs.meets.Statement.{statement}
+use Rattle.start.proofs.meets.Tie as tie
 
-pub start-meets-spec : {M : Type 1} → statement M
-start-meets-spec =
+pub meets-spec : {M : Type 1} → statement M
+meets-spec =
     tie.close
     (tie.spec
     (λ c κs. search needs)

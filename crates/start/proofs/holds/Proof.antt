@@ -1,11 +1,11 @@
 -- Where the counts fit.
 use borrow.Author.Needs.{needs}
-use Rattle.walk.proofs.Walking as laws
-use Rattle.walk.proofs.start_holds.Statement.{statement}
-use Rattle.walk.proofs.start_holds.Tie as tie
+use Rattle.start.proofs.Starting as laws
+use Rattle.start.proofs.holds.Statement.{statement}
+use Rattle.start.proofs.holds.Tie as tie
 
-pub start-holds-spec : {M : Type 1} → statement M
-start-holds-spec =
+pub holds-spec : {M : Type 1} → statement M
+holds-spec =
     tie.close
     (tie.spec
     (λ c κs. search needs)
