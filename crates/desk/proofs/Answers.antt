@@ -7,6 +7,8 @@ use mathlib.Core.List.{List}
 use native.Mathlib.Omega.{arith}
 use borrow.Author.Tests.{eq-eqb, ne-eqb}
 use lib.Dec.{eqb, leb}
+use mir.Syntax.{w64}
+use mir.Val.{Fits}
 use Rattle.layout.specs.Sizes.{stateCountIn}
 use Rattle.loader.specs.declared.Loaded.{Loaded}
 use Rattle.loader.specs.Load.{loadedOf}
@@ -138,17 +140,10 @@ module _ (d : Desk) where
     unfolding examineOpen
     on-from-start h r e = rw (eq-eqb (d .next) 0 first, ← eb, h) e
 
-    pub start-fails : b ≡ false → (r : AfterAdvance) → r ≡ failStart d → r ≡ examineOpen d n
-    unfolding examineOpen
-    start-fails h r e = rw (eq-eqb (d .next) 0 first, ← eb, h) e
-
-  -- ---- after a walk
-
-  pub after-walk : (w : Walked) (total : ℕ) (b : Bool) → b ≡ leb total (d .next + w .count) → (a : Advance) → a ≡ answerAfter (w .outcome) b (w .count)
-      → (p : Phase) → p ≡ phaseAfter (w .outcome) b → (e : Desk) → e ≡ placed d (d .next + w .count) p
-      → record { answer = a; desk = e } ≡ walkedOn d w total
-  unfolding walkedOn
-  after-walk w total b eb a ea p ep e ee = rw (ee, ea, ep, eb)
+    pub start-fails : b ≡ false → (x : Failure) → x ≡ startFailureIn (d .fields) (d .starts) (d .counts) → (e : Desk) → e ≡ placed d 0 (phase.Failed x)
+        → record { answer = advance.Failed 0; desk = e } ≡ examineOpen d n
+    unfolding examineOpen failStart
+    start-fails h x ex e ee = rw (ee, ex, eq-eqb (d .next) 0 first, ← eb, h)
 
 -- ---- how many states are ahead
 
@@ -165,24 +160,19 @@ module _ (n next total : ℕ) where
   unfolding ahead
   ahead-rest h = omega arith
 
--- ---- the start fails; the next states are examined
+-- ---- the next states are examined
 
-module _ (d : Desk) where
-  pub start-failed : (x : Failure) → x ≡ startFailureIn (d .fields) (d .starts) (d .counts) → (e : Desk) → e ≡ placed d 0 (phase.Failed x)
-      → record { answer = advance.Failed 0; desk = e } ≡ failStart d
-  unfolding failStart
-  start-failed x ex e ee = rw (ee, ex)
+module _ (d : Desk) (n total k : ℕ) (et : total ≡ stateCountIn (d .fields) (d .starts) (d .counts)) (ek : k ≡ ahead n (d .next) total) where
+  -- wherever the walk starts
+  pub next-fits : (w : Walked) (from : ℕ) → w ≡ walkedBy (d .fields) (d .starts) (d .counts) (d .plan) k from → d .next < 2 ^ 64 → total < 2 ^ 64
+      → Fits w64 (d .next + w .count)
+  unfolding ahead
+  next-fits w from tw a b =
+      let most : w .count ≤ k = rw tw (count-within (d .fields) (d .starts) (d .counts) (d .plan) k from) in
+      record { fits = omega arith }
 
-  module _ (n total k : ℕ) (et : total ≡ stateCountIn (d .fields) (d .starts) (d .counts)) (ek : k ≡ ahead n (d .next) total) where
-    -- wherever the walk starts
-    pub next-fits : (w : Walked) (from : ℕ) → w ≡ walkedBy (d .fields) (d .starts) (d .counts) (d .plan) k from
-        → d .next < 2 ^ 64 → total < 2 ^ 64 → d .next + w .count < 18446744073709551616
-    unfolding ahead
-    next-fits w from tw a b =
-        let most : w .count ≤ k = rw tw (count-within (d .fields) (d .starts) (d .counts) (d .plan) k from) in
-        omega arith
-
-    pub examined : (w : Walked) → w ≡ walkedBy (d .fields) (d .starts) (d .counts) (d .plan) k (d .next)
-        → (r : AfterAdvance) → r ≡ walkedOn d w total → r ≡ examineNext d n
-    unfolding examineNext
-    examined w tw r e = rw (← et, ← ek, ← tw) e
+  pub examined : (w : Walked) → w ≡ walkedBy (d .fields) (d .starts) (d .counts) (d .plan) k (d .next) → (b : Bool) → b ≡ leb total (d .next + w .count)
+      → (a : Advance) → a ≡ answerAfter (w .outcome) b (w .count) → (p : Phase) → p ≡ phaseAfter (w .outcome) b → (e : Desk) → e ≡ placed d (d .next + w .count) p
+      → record { answer = a; desk = e } ≡ examineNext d n
+  unfolding examineNext walkedOn
+  examined w tw b eb a ea p ep e ee = rw (ee, ea, ep, eb, ← et, ← ek, ← tw)

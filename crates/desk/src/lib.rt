@@ -7,14 +7,12 @@ use answers::Done;
 use answers::Phase;
 use answers::Verdict;
 use design::Counts;
-use verdicts::Walked;
 ghost use mathlib.Core.Path.{_≡_};
-ghost use Prim.Native.Nat.{_+_, _<_};
 ghost use Rattle.loader.specs.Load.{loadedOf};
 ghost use Rattle.answers.specs.Answers.{doneNumber, refusalNumber, countSaid, verdictNumbers, advanceNumber, verdictNumbersBy, dropNumber};
 ghost use Rattle.desk.specs.Answers.{loadNumber, advanceCount};
 ghost use Rattle.desk.specs.Limits.{deskLimits};
-ghost use Rattle.desk.specs.Desk.{emptyDesk, loadEmpty, loadOf, failStart, examineNext, walkedOn, examineOpen, advanceOf, tellOf, dropOf, placed, ahead};
+ghost use Rattle.desk.specs.Desk.{emptyDesk, loadEmpty, loadOf, examineNext, examineOpen, advanceOf, tellOf, dropOf, placed, ahead};
 
 pub struct Desk {
     // The fields of the text's lines, and where each line starts.
@@ -210,7 +208,7 @@ impl Desk {
         }
     }
 
-    // Advance on an open desk. Criterion 1 comes before state 0, in the first advance.
+    // Advance on an open desk. Criterion 1 comes before state 0, in the first advance; if it fails, no state is examined.
     fn examine_open(self, n: u64) -> AfterAdvance
         ensures { λ r. ⌜ r ≡ examineOpen self n ⌝ }
     {
@@ -218,23 +216,16 @@ impl Desk {
             if start::holds(&self.fields, &self.starts, self.counts) {
                 return self.examine_next(n);
             }
-            return self.fail_start();
+            let failure = start::failure(&self.fields, &self.starts, self.counts);
+            return AfterAdvance {
+                answer: Advance::Failed(0),
+                desk: self.placed(0, Phase::Failed(failure)),
+            };
         }
         self.examine_next(n)
     }
 
-    // The start fails: no state is examined.
-    fn fail_start(self) -> AfterAdvance
-        ensures { λ r. ⌜ r ≡ failStart self ⌝ }
-    {
-        let failure = start::failure(&self.fields, &self.starts, self.counts);
-        AfterAdvance {
-            answer: Advance::Failed(0),
-            desk: self.placed(0, Phase::Failed(failure)),
-        }
-    }
-
-    // The next n states, or those that remain.
+    // The next n states, or those that remain: failed, accepted if the last state is done, or still open.
     fn examine_next(self, n: u64) -> AfterAdvance
         ensures { λ r. ⌜ r ≡ examineNext self n ⌝ }
     {
@@ -242,17 +233,9 @@ impl Desk {
         let next = self.next;
         let k = ahead(n, next, total);
         let walked = walk::walk(&self.fields, &self.starts, self.counts, &self.plan, next, k);
-        self.walked_on(walked, total)
-    }
-
-    // After a walk: failed, accepted if the last state is done, or still open.
-    fn walked_on(self, walked: Walked, total: usize) -> AfterAdvance
-        requires { ⌜ self .next + walked .count < 18446744073709551616 ⌝ }
-        ensures { λ r. ⌜ r ≡ walkedOn self walked total ⌝ }
-    {
         let outcome = walked.outcome;
         let count = walked.count;
-        let at = self.next + count;
+        let at = next + count;
         let ended = total <= at;
         AfterAdvance {
             answer: answers::answer_after(outcome, ended, count),

@@ -12,6 +12,7 @@ examine-open-spec =
     (λ c κs. search needs)
     (λ c. search answers.on-from-start)
     (λ c κs. search needs)
+    (λ c κs. search needs)
     (λ c. search answers.start-fails)
     (λ c κs. search needs)
     (λ c. search answers.on-from-later))
