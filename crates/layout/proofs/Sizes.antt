@@ -6,22 +6,19 @@ use mathlib.Core.Bool.{Bool, true, false, not, _&&_, cond}
 use mathlib.Core.List.{List, [], _∷_}
 use Prim.Native.Nat.{ℕ, zero, suc, _+_, _-_, _*_, _≤_, _<_, min}
 use native.Mathlib.Numerals.{add-one}
-use native.Mathlib.Nat.{zero-add, mul-zero, mul-assoc, le-mul-of-pos-right}
+use native.Mathlib.Nat.{mul-zero, mul-assoc, le-mul-of-pos-right}
 use native.Mathlib.Decide.{decLt}
 use native.Mathlib.Omega.{arith}
-use borrow.Author.Tests.{leb-true, not-true, not-false, eq-eqb, ne-eqb}
-use lib.Dec.{eqb, leb}
-use lib.ListN.{getD, drop}
+use borrow.Author.Tests.{leb-true, not-true, not-false}
+use lib.Dec.{leb}
+use lib.ListN.{getD}
 use Rattle.foundation.specs.Radix.{product, numberOf, numberFrom}
 use Rattle.terms.proofs.And.{and-left, and-right}
 use Rattle.criteria.specs.Design.{Parameter}
-use Rattle.criteria.specs.Step.{internalRows}
-use Rattle.design.specs.Line.{rowOf}
 use Rattle.design.specs.Loaded.{lineFrom, eachLine, sections}
 use Rattle.design.specs.declared.Counts.{Counts}
-use Rattle.design.specs.declared.Process.{Process}
 use Rattle.design.specs.declared.Shape.{Shape}
-use Rattle.layout.specs.Sizes.{countsFit, Fit, sectionsOf, shapeOf, Fits, parametersFrom, sizesOf, initialsOf, productUpTo, stateCountIn, numberUpTo, initialNumberIn, internalIn, countedIf}
+use Rattle.layout.specs.Sizes.{countsFit, Fit, sectionsOf, shapeOf, Fits, parametersFrom, sizesOf, initialsOf, productUpTo, stateCountIn, numberUpTo, initialNumberIn}
 
 pub fit : (c : Counts) (b : Bool) → b ≡ countsFit c → b ≡ true → Fit c
 fit c b said so =
@@ -209,55 +206,3 @@ module _ (f s : List ℕ) (c : Counts) (b : Bool) (said : b ≡ countsFit c) whe
 pub number-small : (f s : List ℕ) (n r : ℕ) → r ≡ numberUpTo f s n → r ≤ 65535
 unfolding numberUpTo
 number-small f s n r e = omega arith
-
--- ---- internal rows
-
-module _ (f s : List ℕ) (p : Process) (n i : ℕ) where
-  -- how many are still to be counted, from row i on
-  unfoldable pub internalLeft : ℕ
-  internalLeft = internalRows (eachLine (rowOf (p .parameters .count)) (lineFrom f s) (n - i) (p .rows .first + i))
-
-pub internal-starts : (f s : List ℕ) (p : Process) (n : ℕ) → 0 + internalLeft f s p n 0 ≡ internalIn f s p n
-unfolding internalLeft internalIn
-internal-starts f s p n = let e : n - 0 ≡ n = omega arith in let z : p .rows .first + 0 ≡ p .rows .first = omega arith in rw (e, z) (zero-add _)
-
-pub counted-yes : (count action : ℕ) → action ≡ 0 → count + 1 ≡ countedIf count action
-counted-yes count action e = rw (eq-eqb action 0 e)
-
-pub counted-no : (count action : ℕ) → (action ≡ 0 → ⊥) → count ≡ countedIf count action
-counted-no count action e = rw (ne-eqb action 0 e)
-
-pub counted-few : (i count action more : ℕ) → more ≡ countedIf count action → count ≤ i → more ≤ i + 1
-counted-few i count action more em few = go (eqb action 0) em
-  where
-    go : (b : Bool) → more ≡ cond b (count + 1) count → more ≤ i + 1
-    go true e = omega arith
-    go false e = omega arith
-
-pub internal-turns : (f s : List ℕ) (p : Process) (n i count line action more : ℕ) → i < n → line ≡ getD s (p .rows .first + i) 0 → action ≡ getD (drop line f) 1 0
-    → more ≡ countedIf count action → count + internalLeft f s p n i ≡ internalIn f s p n → more + internalLeft f s p n (i + 1) ≡ internalIn f s p n
-unfolding internalLeft internalRows
-internal-turns f s p n i count line action more l el ea em inv = go (eqb action 0) refl ∙ inv
-  where
-    rest : ℕ
-    rest = internalRows (eachLine (rowOf (p .parameters .count)) (lineFrom f s) (n - (i + 1)) (p .rows .first + (i + 1)))
-
-    one : internalLeft f s p n i ≡ cond (eqb action 0) (suc rest) rest
-    one = rw (each-on (rowOf (p .parameters .count)) (lineFrom f s) (p .rows .first) n i l, ea, el)
-
-    go : (b : Bool) → eqb action 0 ≡ b → more + rest ≡ count + internalLeft f s p n i
-    go true e =
-        let m : more ≡ count + 1 = em ∙ rw e in
-        let o : internalLeft f s p n i ≡ suc rest = one ∙ rw e in
-        omega arith
-    go false e =
-        let m : more ≡ count = em ∙ rw e in
-        let o : internalLeft f s p n i ≡ rest = one ∙ rw e in
-        omega arith
-
-pub internal-ends : (f s : List ℕ) (p : Process) (n i count : ℕ) → n ≤ i → count + internalLeft f s p n i ≡ internalIn f s p n → count ≡ internalIn f s p n
-unfolding internalLeft internalRows
-internal-ends f s p n i count l inv = end ∙ inv
-  where
-    end : count ≡ count + internalLeft f s p n i
-    end = rw (each-none (rowOf (p .parameters .count)) (lineFrom f s) (p .rows .first + i) n i l) (omega arith)

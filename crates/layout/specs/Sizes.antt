@@ -1,14 +1,13 @@
--- Which counts of lines fit, which shape they have, how many states the design in a desk's arrays has, which number its initial state
--- has, and how many rows are internal, each for any arrays and counts. The design itself is in design/specs/Loaded; that a loaded design
+-- Which counts of lines fit, which shape they have, how many states the design in a desk's arrays has, and which number its initial state
+-- has, each for any arrays and counts. The design itself is in design/specs/Loaded; that a loaded design
 -- has at most 65,536 states, and that its initial state is one of them, is no matter here: where it is so, nothing is cut off.
 use mathlib.Core.Bool.{Bool, _&&_, cond}
 use mathlib.Core.List.{List, []}
-use Prim.Native.Nat.{ℕ, _+_, _≤_, min}
-use lib.Dec.{eqb, leb}
+use Prim.Native.Nat.{ℕ, _≤_, min}
+use lib.Dec.{leb}
 use Rattle.foundation.specs.Radix.{product, numberOf}
 use Rattle.criteria.specs.Design.{Parameter, sizes, initialState, states, stateNumber}
-use Rattle.criteria.specs.Step.{internalRows}
-use Rattle.design.specs.Line.{parameterOf, rowOf}
+use Rattle.design.specs.Line.{parameterOf}
 use Rattle.design.specs.Loaded.{lineFrom, eachLine, sections, designIn}
 use Rattle.design.specs.declared.Counts.{Counts}
 use Rattle.design.specs.declared.Process.{Process}
@@ -69,11 +68,3 @@ unfoldable pub initialNumberIn : List ℕ → List ℕ → Counts → ℕ
 initialNumberIn fields starts c =
     let d = designIn fields starts c in
     cond (countsFit c) (min (stateNumber d (initialState (d .impl))) 65535) 0
-
--- ---- internal rows: how many of the first n of a process
-unfoldable pub internalIn : List ℕ → List ℕ → Process → ℕ → ℕ
-internalIn fields starts p n = internalRows (eachLine (rowOf (p .parameters .count)) (lineFrom fields starts) n (p .rows .first))
-
--- one more for a row of action 0
-abbrev pub countedIf : ℕ → ℕ → ℕ
-countedIf count action = cond (eqb action 0) (count + 1) count

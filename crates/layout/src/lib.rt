@@ -1,6 +1,6 @@
 // What is read off a desk's arrays before any state is looked at: whether the counts of lines fit, where the lines of a design stand
-// (`Shape`), where a line starts, the sizes and initial values of parameters, how many states there are, the number of the initial state,
-// and how many rows are internal. Every function answers any arrays and any counts. Which design the arrays hold is in the crate design.
+// (`Shape`), where a line starts, the sizes and initial values of parameters, how many states there are, and the number of the initial
+// state. Every function answers any arrays and any counts. Which design the arrays hold is in the crate design.
 use design::Counts;
 use design::Process;
 use design::Section;
@@ -9,7 +9,7 @@ ghost use mathlib.Core.Path.{_≡_};
 ghost use Prim.Native.Nat.{_+_, _*_, _≤_, _<_, min};
 ghost use lib.ListN.{getD, drop};
 ghost use Rattle.design.specs.Loaded.{lineFrom};
-ghost use Rattle.layout.specs.Sizes.{countsFit, sectionsOf, shapeOf, productUpTo, stateCountIn, numberUpTo, initialNumberIn, internalIn, countedIf};
+ghost use Rattle.layout.specs.Sizes.{countsFit, sectionsOf, shapeOf, productUpTo, stateCountIn, numberUpTo, initialNumberIn};
 
 // One more than the most states that a design may have: a count that says "too many".
 pub const TOO_MANY: u32 = limits::MAX_STATES as u32 + 1;
@@ -171,31 +171,4 @@ fn number<'a>(fields: &'a limits::Fields, starts: &'a limits::Starts, n: usize) 
         i += 1;
     }
     v
-}
-
-// How many of the first n rows of a process are internal.
-pub fn internal_rows<'a>(
-    fields: &'a limits::Fields,
-    starts: &'a limits::Starts,
-    process: Process,
-    n: u16,
-) -> u16
-    ensures { λ r. ⌜ r ≡ internalIn (now (fields .entry)) (now (starts .entry)) process n ⌝ }
-{
-    let mut count = 0;
-    let mut i = 0;
-    while i < n {
-        let line = line(starts, process.rows.first as usize + i as usize);
-        count = counted(count, field_of(fields, line, 1));
-        i += 1;
-    }
-    count
-}
-
-// One more for an internal row, by its action.
-fn counted(count: u16, action: u16) -> u16
-    requires { ⌜ count < 65535 ⌝ }
-    ensures { λ r. ⌜ r ≡ countedIf count action ⌝ }
-{
-    if action == 0 { count + 1 } else { count }
 }

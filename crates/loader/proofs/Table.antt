@@ -27,7 +27,8 @@ use Rattle.design.proofs.WholeText.{counted}
 use Rattle.design.proofs.Each.{by-each-line}
 use Rattle.design.proofs.Loaded.{lines-held}
 use Rattle.design.proofs.Held.{TermsFit, parameters1, internal3, design-held}
-use Rattle.layout.specs.Sizes.{countsFit, shapeOf, stateCountIn, internalIn}
+use Rattle.layout.specs.Sizes.{countsFit, shapeOf, stateCountIn}
+use Rattle.marks.specs.Marks.{internalIn}
 use Rattle.layout.proofs.Sizes.{sections-kept}
 use Rattle.line_check.proofs.LineFits.{by-line}
 use Rattle.action_check.specs.ActionsFit.{actionsFit, actionsFitIn}

@@ -15,7 +15,7 @@ use Rattle.design.specs.Loaded.{fieldsHeld, startsHeld}
 use Rattle.design.specs.Tests.{eachLineIs, layoutFits, boundsFit}
 use Rattle.design.specs.declared.Counts.{Counts}
 use Rattle.design.specs.declared.Shape.{Shape}
-use Rattle.layout.specs.Sizes.{internalIn}
+use Rattle.marks.specs.Marks.{internalIn}
 use Rattle.line_check.specs.LineFits.{lineFits}
 use Rattle.action_check.specs.ActionsFit.{actionsFit}
 use Rattle.loader.specs.declared.Loaded.{Loaded}

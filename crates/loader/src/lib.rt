@@ -105,7 +105,7 @@ fn internal_rows<'a>(fields: &'a limits::Fields, starts: &'a limits::Starts, cou
 {
     let shape = layout::shape_of(counts);
     let rows = shape.implementation.rows.count as u16;
-    layout::internal_rows(fields, starts, shape.implementation, rows)
+    marks::internal_rows(fields, starts, shape.implementation, rows)
 }
 
 // Whether each line is the terms of its kind, where n lines are of kind 1 and m of kind 2, and i rows are internal.

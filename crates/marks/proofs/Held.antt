@@ -21,8 +21,7 @@ use Rattle.design.specs.Loaded.{lineFrom, eachLine, processIn, designAt}
 use Rattle.design.specs.declared.Shape.{Shape}
 use Rattle.design.proofs.Loaded.{each-length, each-take}
 use Rattle.design.proofs.Marks.{formula-at}
-use Rattle.layout.specs.Sizes.{internalIn}
-use Rattle.marks.specs.Marks.{afterFormulas, markPlace, markedIn}
+use Rattle.marks.specs.Marks.{internalIn, afterFormulas, markPlace, markedIn}
 
 module _ (f s : List ℕ) (h : Shape) where
   abbrev rows : List Row

@@ -1,10 +1,12 @@
--- What the functions return, as specs/Marks says it, and the turns of the loop over formulas.
+-- What the functions return, as specs/Marks says it, and the turns of the loops over rows and formulas.
 use mathlib.Core.Path.{_≡_, refl, _∙_}
-use mathlib.Core.Bool.{true}
+use mathlib.Core.Bool.{Bool, true, false, cond}
 use mathlib.Core.List.{List}
 use Prim.Native.Nat.{ℕ, suc, _+_, _-_, _≤_, _<_}
+use native.Mathlib.Nat.{zero-add}
 use native.Mathlib.Omega.{arith}
 use borrow.Author.Tests.{eq-eqb, ne-eqb}
+use lib.Dec.{eqb}
 use lib.ListN.{getD, drop}
 use Rattle.terms.specs.Read.{readF}
 use Rattle.terms.proofs.Read.{place}
@@ -12,10 +14,67 @@ use Rattle.eval.specs.Answer.{answerF}
 use Rattle.eval.specs.declared.Held.{Held}
 use Rattle.sum_free.specs.SumFree.{foundF}
 use Rattle.sum_free.specs.declared.Found.{Found}
-use Rattle.design.specs.Line.{formulasUsed}
+use Rattle.criteria.specs.Step.{internalRows}
+use Rattle.design.specs.Line.{rowOf, formulasUsed}
+use Rattle.design.specs.Loaded.{lineFrom, eachLine}
+use Rattle.design.specs.declared.Process.{Process}
 use Rattle.design.specs.declared.Shape.{Shape}
-use Rattle.layout.specs.Sizes.{internalIn}
-use Rattle.marks.specs.Marks.{afterFormulas, markPlace, markedIn}
+use Rattle.layout.proofs.Sizes.{each-on, each-none}
+use Rattle.marks.specs.Marks.{internalIn, countedIf, afterFormulas, markPlace, markedIn}
+
+-- ---- internal rows
+
+module _ (f s : List ℕ) (p : Process) (n i : ℕ) where
+  -- how many are still to be counted, from row i on
+  unfoldable pub internalLeft : ℕ
+  internalLeft = internalRows (eachLine (rowOf (p .parameters .count)) (lineFrom f s) (n - i) (p .rows .first + i))
+
+pub internal-starts : (f s : List ℕ) (p : Process) (n : ℕ) → 0 + internalLeft f s p n 0 ≡ internalIn f s p n
+unfolding internalLeft internalIn
+internal-starts f s p n = let e : n - 0 ≡ n = omega arith in let z : p .rows .first + 0 ≡ p .rows .first = omega arith in rw (e, z) (zero-add _)
+
+pub counted-yes : (count action : ℕ) → action ≡ 0 → count + 1 ≡ countedIf count action
+counted-yes count action e = rw (eq-eqb action 0 e)
+
+pub counted-no : (count action : ℕ) → (action ≡ 0 → ⊥) → count ≡ countedIf count action
+counted-no count action e = rw (ne-eqb action 0 e)
+
+pub counted-few : (i count action more : ℕ) → more ≡ countedIf count action → count ≤ i → more ≤ i + 1
+counted-few i count action more em few = go (eqb action 0) em
+  where
+    go : (b : Bool) → more ≡ cond b (count + 1) count → more ≤ i + 1
+    go true e = omega arith
+    go false e = omega arith
+
+pub internal-turns : (f s : List ℕ) (p : Process) (n i count line action more : ℕ) → i < n → line ≡ getD s (p .rows .first + i) 0 → action ≡ getD (drop line f) 1 0
+    → more ≡ countedIf count action → count + internalLeft f s p n i ≡ internalIn f s p n → more + internalLeft f s p n (i + 1) ≡ internalIn f s p n
+unfolding internalLeft internalRows
+internal-turns f s p n i count line action more l el ea em inv = go (eqb action 0) refl ∙ inv
+  where
+    rest : ℕ
+    rest = internalRows (eachLine (rowOf (p .parameters .count)) (lineFrom f s) (n - (i + 1)) (p .rows .first + (i + 1)))
+
+    one : internalLeft f s p n i ≡ cond (eqb action 0) (suc rest) rest
+    one = rw (each-on (rowOf (p .parameters .count)) (lineFrom f s) (p .rows .first) n i l, ea, el)
+
+    go : (b : Bool) → eqb action 0 ≡ b → more + rest ≡ count + internalLeft f s p n i
+    go true e =
+        let m : more ≡ count + 1 = em ∙ rw e in
+        let o : internalLeft f s p n i ≡ suc rest = one ∙ rw e in
+        omega arith
+    go false e =
+        let m : more ≡ count = em ∙ rw e in
+        let o : internalLeft f s p n i ≡ rest = one ∙ rw e in
+        omega arith
+
+pub internal-ends : (f s : List ℕ) (p : Process) (n i count : ℕ) → n ≤ i → count + internalLeft f s p n i ≡ internalIn f s p n → count ≡ internalIn f s p n
+unfolding internalLeft internalRows
+internal-ends f s p n i count l inv = end ∙ inv
+  where
+    end : count ≡ count + internalLeft f s p n i
+    end = rw (each-none (rowOf (p .parameters .count)) (lineFrom f s) (p .rows .first + i) n i l) (omega arith)
+
+-- ---- marks
 
 module _ (f : List ℕ) (at n : ℕ) where
   pub formulas-begin : afterFormulas f at (n - 0) ≡ afterFormulas f at n

@@ -6,9 +6,19 @@ use lib.Dec.{eqb}
 use lib.ListN.{getD, drop}
 use Rattle.terms.specs.Tree.{evalF}
 use Rattle.terms.specs.Read.{readF}
-use Rattle.design.specs.Line.{formulasUsed}
+use Rattle.criteria.specs.Step.{internalRows}
+use Rattle.design.specs.Line.{rowOf, formulasUsed}
+use Rattle.design.specs.Loaded.{lineFrom, eachLine}
+use Rattle.design.specs.declared.Process.{Process}
 use Rattle.design.specs.declared.Shape.{Shape}
-use Rattle.layout.specs.Sizes.{internalIn}
+
+-- how many of the first n rows of a process are internal
+unfoldable pub internalIn : List ℕ → List ℕ → Process → ℕ → ℕ
+internalIn fields starts p n = internalRows (eachLine (rowOf (p .parameters .count)) (lineFrom fields starts) n (p .rows .first))
+
+-- one more for a row of action 0
+abbrev pub countedIf : ℕ → ℕ → ℕ
+countedIf count action = cond (eqb action 0) (count + 1) count
 
 -- the place after n formulas from a place on
 unfoldable pub afterFormulas : List ℕ → ℕ → ℕ → ℕ

@@ -1,9 +1,41 @@
-// Marks, from a desk's arrays: where that of a row stands in the line of marks, and whether it holds. Every function answers any arrays.
-// What each computes is in specs/Marks; that this is the mark of the design in the arrays is in proofs/Held.
+// Marks, from a desk's arrays: how many rows are internal, where the mark of one stands in the line of marks, and whether it holds. Every
+// public function answers any arrays. What each computes is in specs/Marks; that this is the mark of the design in the arrays is in proofs/Held.
+use design::Process;
 use design::Shape;
 ghost use mathlib.Core.Path.{_≡_};
-ghost use Prim.Native.Nat.{_-_};
-ghost use Rattle.marks.specs.Marks.{afterFormulas, markPlace, markedIn};
+ghost use Prim.Native.Nat.{_-_, _<_};
+ghost use Rattle.marks.specs.Marks.{internalIn, countedIf, afterFormulas, markPlace, markedIn};
+
+// ---- internal rows
+
+// How many of the first n rows of a process are internal.
+pub fn internal_rows<'a>(
+    fields: &'a limits::Fields,
+    starts: &'a limits::Starts,
+    process: Process,
+    n: u16,
+) -> u16
+    ensures { λ r. ⌜ r ≡ internalIn (now (fields .entry)) (now (starts .entry)) process n ⌝ }
+{
+    let mut count = 0;
+    let mut i = 0;
+    while i < n {
+        let line = layout::line(starts, process.rows.first as usize + i as usize);
+        count = counted(count, layout::field_of(fields, line, 1));
+        i += 1;
+    }
+    count
+}
+
+// One more for an internal row, by its action.
+fn counted(count: u16, action: u16) -> u16
+    requires { ⌜ count < 65535 ⌝ }
+    ensures { λ r. ⌜ r ≡ countedIf count action ⌝ }
+{
+    if action == 0 { count + 1 } else { count }
+}
+
+// ---- their marks
 
 // The place after n formulas that stand one after the other from a place on; whether they read the sum value is told beside it.
 fn after_formulas(fields: &limits::Fields, at: usize, n: u16) -> usize
@@ -36,7 +68,7 @@ pub fn place<'a>(
     ensures { λ r. ⌜ r ≡ markPlace (now (fields .entry)) (now (starts .entry)) shape k ⌝ }
 {
     let line = layout::line(starts, shape.marks.first as usize);
-    let earlier = layout::internal_rows(fields, starts, shape.implementation, rows_before(k));
+    let earlier = internal_rows(fields, starts, shape.implementation, rows_before(k));
     after_formulas(fields, line as usize + 1, earlier)
 }
 

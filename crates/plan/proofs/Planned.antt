@@ -25,12 +25,12 @@ use Rattle.decision.proofs.Find as finds
 use Rattle.design.specs.Loaded.{processIn}
 use Rattle.design.specs.Line.{rowOf, valuesIn, formulasUsed}
 use Rattle.design.proofs.Marks.{formulas-within}
-use Rattle.layout.specs.Sizes.{Fits as ShapeFits, internalIn}
+use Rattle.layout.specs.Sizes.{Fits as ShapeFits}
 use Rattle.steps.proofs.States.{rows-count}
 use Rattle.design.specs.declared.Process.{Process}
 use Rattle.design.specs.declared.Shape.{Shape}
 use Rattle.steps.specs.Arrays.{lineOf, rowBy, partnerBy, rowWith}
-use Rattle.marks.specs.Marks.{afterFormulas, markPlace}
+use Rattle.marks.specs.Marks.{internalIn, afterFormulas, markPlace}
 use Rattle.conjuncts.specs.Conjuncts.{frontOf}
 use Rattle.row_plan.specs.RowPlan.{noMark, noRowPlan, packedOf, rowPlanAt}
 use Rattle.row_plan.specs.declared.RowPlan.{RowPlan}

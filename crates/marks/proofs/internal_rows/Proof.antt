@@ -3,10 +3,10 @@ use borrow.Author.Needs.{needs}
 use Prim.Native.Nat.{_+_, _-_, _≤_}
 use mathlib.Core.Path.{_≡_}
 use native.Mathlib.Omega.{arith}
-use Rattle.layout.specs.Sizes.{internalIn}
-use Rattle.layout.proofs.Sizes as laws
-use Rattle.layout.proofs.internal_rows.Statement.{statement}
-use Rattle.layout.proofs.internal_rows.Tie as tie
+use Rattle.marks.specs.Marks.{internalIn}
+use Rattle.marks.proofs.Marks as laws
+use Rattle.marks.proofs.internal_rows.Statement.{statement}
+use Rattle.marks.proofs.internal_rows.Tie as tie
 
 abbrev Inv-loop : tie.InvT-loop
 Inv-loop fields starts process n count₀ i₀ count i = (count ≤ i) × (count + laws.internalLeft fields starts process n i ≡ internalIn fields starts process n)

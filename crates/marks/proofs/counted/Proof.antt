@@ -1,8 +1,8 @@
 -- One more, or as many.
 use borrow.Author.Needs.{needs}
-use Rattle.layout.proofs.Sizes as laws
-use Rattle.layout.proofs.counted.Statement.{statement}
-use Rattle.layout.proofs.counted.Tie as tie
+use Rattle.marks.proofs.Marks as laws
+use Rattle.marks.proofs.counted.Statement.{statement}
+use Rattle.marks.proofs.counted.Tie as tie
 
 pub counted-spec : {M : Type 1} → statement M
 counted-spec =
