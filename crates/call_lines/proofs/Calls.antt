@@ -7,7 +7,7 @@ use mathlib.Core.List.{List, _++_}
 use native.Mathlib.Omega.{arith}
 use lib.ListN.{length, take, drop, length-take, length-drop, take-append-drop}
 use lib.Seq.{take-all}
-use Rattle.reader.specs.Columns.{sameBytes}
+use Rattle.columns.specs.Columns.{sameBytes}
 use Rattle.call_lines.specs.Number.{IsNumber, numberOf, decimalOf}
 use Rattle.call_lines.specs.Calls.{loadWord, advanceWord, verdictWord, dropWord, IsCall, is-load, is-advance, is-verdict, is-drop, numberAfter, loadOr, advanceOr, callOf}
 use Rattle.call_lines.specs.declared.Number.{Number}

@@ -10,8 +10,8 @@ use borrow.Author.Tests.{eq-eqb, ne-eqb, eqb-true}
 use lib.Dec.{eqb}
 use lib.ListN.{length, drop, getD, drop-of-length-le}
 use lib.Seq.{drop-cons}
-use Rattle.reader.specs.Columns.{sameBytes}
-use Rattle.reader.proofs.Columns.{and-left, and-right}
+use Rattle.columns.specs.Columns.{sameBytes}
+use Rattle.columns.proofs.Columns.{and-left, and-right}
 
 pub same-bytes : (a b : List ℕ) → sameBytes a b ≡ true → a ≡ b
 unfolding sameBytes

@@ -8,7 +8,7 @@ use native.Mathlib.Omega.{arith}
 use borrow.Author.Tests.{ltb-true, ltb-false}
 use lib.Dec.{ltb}
 use lib.ListN.{length, length-append}
-use Rattle.reader.specs.Columns.{digitOf, shownAfter}
+use Rattle.columns.specs.Columns.{digitOf, shownAfter}
 use Rattle.call_lines.specs.Number.{IsDigit, Digits, none, more, IsNumber, decimalIn, decimalOf}
 use Rattle.call_lines.proofs.Digits.{digit-of}
 

@@ -10,8 +10,8 @@ use borrow.Author.Tests.{lt-ltb, le-ltb, ltb-true, ltb-false, not-true}
 use lib.Dec.{ltb}
 use lib.ListN.{length, drop, getD, drop-of-length-le}
 use lib.Seq.{drop-cons}
-use Rattle.reader.specs.Columns.{digitOf, shownAfter}
-use Rattle.reader.proofs.Columns.{and-left, and-right}
+use Rattle.columns.specs.Columns.{digitOf, shownAfter}
+use Rattle.columns.proofs.Columns.{and-left, and-right}
 use Rattle.call_lines.specs.Number.{IsDigit, Digits, none, more, IsNumber, isDigit, allDigits, fitting, withDigit, numberFrom, numberOf}
 use Rattle.call_lines.specs.declared.Number.{Number}
 use Rattle.call_lines.specs.declared.Number.the-variants as number

@@ -4,7 +4,7 @@ use Prim.Native.Nat.{ℕ}
 use mathlib.Core.Bool.{cond}
 use mathlib.Core.List.{List, [], _∷_, _++_}
 use lib.ListN.{length, take, drop}
-use Rattle.reader.specs.Columns.{sameBytes}
+use Rattle.columns.specs.Columns.{sameBytes}
 use Rattle.call_lines.specs.Number.{IsNumber, numberOf}
 use Rattle.call_lines.specs.declared.Number.{Number}
 use Rattle.call_lines.specs.declared.Number.the-variants as number

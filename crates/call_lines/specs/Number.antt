@@ -6,7 +6,7 @@ use mathlib.Core.Bool.{Bool, true, cond, not, _&&_}
 use mathlib.Core.List.{List, [], _∷_, _++_}
 use lib.Dec.{ltb}
 use lib.ListN.{length}
-use Rattle.reader.specs.Columns.{digitOf, shownAfter}
+use Rattle.columns.specs.Columns.{digitOf, shownAfter}
 use Rattle.call_lines.specs.declared.Number.{Number}
 use Rattle.call_lines.specs.declared.Number.the-variants as number
 

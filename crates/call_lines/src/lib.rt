@@ -2,7 +2,7 @@
 // line says is in specs/Calls, one equation for every line.
 ghost use Prim.Native.Nat.{_<_};
 ghost use mathlib.Core.Path.{_≡_};
-ghost use Rattle.reader.specs.Columns.{sameBytes};
+ghost use Rattle.columns.specs.Columns.{sameBytes};
 ghost use Rattle.call_lines.specs.Number.{withDigit, numberOf};
 ghost use Rattle.call_lines.specs.Calls.{numberAfter, callOf};
 

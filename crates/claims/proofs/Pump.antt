@@ -8,7 +8,7 @@ use lib.ListN.{drop}
 use Rattle.foundation.specs.First.{allIn}
 use Rattle.foundation.specs.Nth.{EachIs, first, later}
 use Rattle.foundation.proofs.Nth.{nth-nil, nth-cons}
-use Rattle.reader.specs.Columns.{columnOf, columnsOf, digitOf, shownAfter, sameBytes, fieldOf}
+use Rattle.columns.specs.Columns.{columnOf, columnsOf, digitOf, shownAfter, sameBytes, fieldOf}
 use Rattle.reader.specs.Line.{written, fieldsFrom, fieldsOf}
 use Rattle.reader.specs.Text.{linesOf, lastOf, countAll, textOf, isLine, anyLine, fault2, fault3, linesFault, columnsFault, fieldsByLine}
 use Rattle.writer.specs.Report as bytes

@@ -12,8 +12,8 @@ use Rattle.terms.specs.Tree as tree
 use Rattle.terms.specs.Tree.{okV, okF}
 use Rattle.terms.specs.Read.{readV, readF}
 use Rattle.reader.specs.Line.{fieldAt, fieldsOf}
-use Rattle.reader.specs.declared.Field.{Field}
-use Rattle.reader.specs.declared.Field.the-variants.{Number, Malformed}
+use Rattle.columns.specs.declared.Field.{Field}
+use Rattle.columns.specs.declared.Field.the-variants.{Number, Malformed}
 use Rattle.reader.proofs.Line.{first-field, no-field}
 use Rattle.term_check.specs.Checked.{checked, checkedV, checkedF}
 use Rattle.term_check.specs.declared.Checked.{Checked}

@@ -2,8 +2,8 @@
 //
 // Each term is checked where it starts (crate term_check), and the rest of the line after it is handed on as a part. Every function
 // answers any bytes. What is tested is in specs/LineFits; that it is the absence of fault 6, in proofs/LineFits.
+use columns::Field;
 use kinds::Follow;
-use reader::Field;
 use term_check::Checked;
 ghost use mathlib.Core.Path.{_≡_};
 ghost use mathlib.Core.List.{_∷_};

@@ -9,8 +9,8 @@ use lib.ListN.{length, getD, set, take, drop, length-drop}
 use lib.Seq.{sets, drop-drop}
 use Rattle.reader.specs.Line.{fieldAt, fieldsOf, nextAt}
 use Rattle.reader.specs.Text.{fieldsByLine, countAll, columnsFault}
-use Rattle.reader.specs.declared.Field.{Field}
-use Rattle.reader.specs.declared.Field.the-variants.{Number, Malformed}
+use Rattle.columns.specs.declared.Field.{Field}
+use Rattle.columns.specs.declared.Field.the-variants.{Number, Malformed}
 use Rattle.reader.proofs.Line.{first-field, no-field, next-moved}
 use Rattle.reader.proofs.Turns.{count-turn}
 use Rattle.reader.proofs.Faults.{columns-free, most-in-all}

@@ -5,8 +5,8 @@ use mathlib.Core.List.{List}
 use lib.ListN.{length, set}
 use lib.Seq.{sets}
 use Rattle.limits.specs.Limits.{maxLines, lineStarts}
-use Rattle.reader.specs.declared.Field.{Field}
-use Rattle.reader.specs.declared.Field.the-variants.{Number, Malformed}
+use Rattle.columns.specs.declared.Field.{Field}
+use Rattle.columns.specs.declared.Field.the-variants.{Number, Malformed}
 use Rattle.design.specs.Loaded.{joined, startsFrom}
 
 -- where there are not too many lines, they are held; else the number returned says so

@@ -1,8 +1,8 @@
 // From a text to a desk's arrays, or the lowest fault of the text. Without a heap, on the lent text: the columns, the fields into
 // the arrays, then kinds and counts, bounds, terms and actions, each ending the search. What a fault is, is in design/specs/Faults;
 // that the first one found so is the lowest anywhere in the text is in proofs/Lowest.
+use columns::Field;
 use design::Counts;
-use reader::Field;
 use reader::LineReader;
 ghost use mathlib.Core.Path.{_≡_};
 ghost use Prim.Native.Nat.{_+_, _<_, _≤_};
@@ -116,7 +116,7 @@ fn terms_fit(text: &[u8], n: u16, m: u16, i: u16) -> bool
     let mut at = 0;
     while at < text.len() {
         let count = reader::count(&text[at..]);
-        let end = at + reader::COLUMNS * count;
+        let end = at + columns::COLUMNS * count;
         if line_terms_fit(&text[at..end], n, m, i) {
             at = end + 1;
         } else {
@@ -159,7 +159,7 @@ fn fill(text: &[u8], fields: &mut limits::Fields, starts: &mut limits::Starts) -
         }
         starts[lines] = to as u16;
         let n = copy_fields(&text[at..], fields, to);
-        at = at + reader::COLUMNS * n + 1;
+        at = at + columns::COLUMNS * n + 1;
         to += n;
         lines += 1;
     }

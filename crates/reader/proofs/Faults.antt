@@ -12,7 +12,7 @@ use lib.ListN.{length}
 use lib.Seq.{take-all}
 use Rattle.reader.specs.Line.{written, Each16, IsLine, fieldsFrom, fieldsOf}
 use Rattle.reader.specs.Text.{linesOf, lastOf, fieldsByLine, countAll, Fault1, Fault2, broken, unended, Fault3, long-line, many, ColumnsFault, first, second, third, free, isLine, anyLine, fault2, fault3, linesFault, columnsFault}
-use Rattle.reader.proofs.Columns.{and-left, and-right}
+use Rattle.columns.proofs.Columns.{and-left, and-right}
 use Rattle.reader.proofs.Line.{fields-written, begins}
 use Rattle.reader.proofs.Text.{length-written}
 

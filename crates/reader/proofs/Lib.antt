@@ -1,5 +1,3 @@
-pub mod Columns
-pub mod Scan
 pub mod Turns
 pub mod Line
 pub mod Text

@@ -8,11 +8,11 @@ use mathlib.Core.List.{List, [], _∷_, _++_, append-assoc}
 use native.Mathlib.Omega.{arith}
 use lib.ListN.{length, take, drop, length-take, length-drop, drop-of-length-le}
 use lib.Seq.{take-all, drop-drop, take-at, drop-at, take-add}
-use Rattle.reader.specs.Columns.{columnsOf, fieldOf}
+use Rattle.columns.specs.Columns.{columnsOf, fieldOf}
 use Rattle.reader.specs.Line.{written, Each16, none, more, fieldAt, andThen, fieldsFrom, fieldsOf, after, nextAt, stepAt}
-use Rattle.reader.specs.declared.Field.{Field}
-use Rattle.reader.specs.declared.Field.the-variants.{Number, Malformed}
-use Rattle.reader.proofs.Columns.{is-field, six, read-back}
+use Rattle.columns.specs.declared.Field.{Field}
+use Rattle.columns.specs.declared.Field.the-variants.{Number, Malformed}
+use Rattle.columns.proofs.Columns.{is-field, six, read-back, length-columns}
 
 -- a part of a slice up to its end
 pub part-all : (bytes : List ℕ) (at : ℕ) → take (length bytes - at) (drop at bytes) ≡ drop at bytes
@@ -22,22 +22,6 @@ pub part-none : (bytes : List ℕ) (k : ℕ) → length bytes / 6 < k → take (
 part-none bytes k h =
     let e : length bytes - length bytes ≡ 0 = omega arith in
     rw (e, drop-of-length-le bytes {i = 6 * k} (omega arith))
-
--- six columns that are not all there are no field
-read-long : (columns : List ℕ) (f : Field) → fieldOf columns ≡ f → length columns ≢ 6 → f ≡ Malformed
-read-long columns Malformed e h = refl
-read-long columns (Number n) e h = absurd (h (six (is-field columns n e)))
-
-pub too-short : (columns : List ℕ) → length columns < 6 → fieldOf columns ≡ Malformed
-too-short columns h = read-long columns _ refl (omega arith)
-
-pub past-end : (bytes : List ℕ) (k : ℕ) → length bytes / 6 ≤ k → Malformed ≡ fieldAt bytes k
-past-end bytes k h =
-    sym (too-short (take 6 (drop (6 * k) bytes)) (rw (length-take 6 (drop (6 * k) bytes), length-drop (6 * k) bytes) (omega arith)))
-
--- what the function on the part that starts at the k-th six columns answers
-pub field-in : (bytes : List ℕ) (k : ℕ) (r : Field) → r ≡ fieldOf (take 6 (take (length bytes - 6 * k) (drop (6 * k) bytes))) → r ≡ fieldAt bytes k
-field-in bytes k r e = e ∙ rw (part-all bytes (6 * k))
 
 -- ---- the first field, and those after it
 
@@ -62,9 +46,16 @@ no-field bytes e = none-from (length bytes / 6) bytes e
 
 -- ---- a step of the reader
 
-module _ (bytes : List ℕ) (k : ℕ) (f : Field) (ef : f ≡ fieldAt bytes k) where
+pub field-inside : (bytes : List ℕ) (k n : ℕ) → fieldAt bytes k ≡ Number n → 6 * (k + 1) ≤ length bytes
+field-inside bytes k n e = omega (arith, field-here (drop (6 * k) bytes) n e, length-drop (6 * k) bytes)
+
+-- f is what stands in the first six columns of the part from the k-th field on
+module _ (bytes : List ℕ) (k : ℕ) (part : List ℕ) (ep : part ≡ drop (6 * k) bytes) (f : Field) (ef : f ≡ fieldOf (take 6 part)) where
+  here : f ≡ fieldAt bytes k
+  here = ef ∙ ap (λ (p : List ℕ). fieldOf (take 6 p)) ep
+
   step-by : record { field = f; at = after f k } ≡ stepAt bytes k
-  step-by = ap (λ (g : Field). record { field = g; at = after g k }) ef
+  step-by = ap (λ (g : Field). record { field = g; at = after g k }) here
 
   pub step-stays : f ≡ Malformed → record { field = f; at = k } ≡ stepAt bytes k
   step-stays e = rw (← step-by, e)
@@ -72,11 +63,8 @@ module _ (bytes : List ℕ) (k : ℕ) (f : Field) (ef : f ≡ fieldAt bytes k) w
   pub step-goes : (n : ℕ) → f ≡ Number n → record { field = f; at = k + 1 } ≡ stepAt bytes k
   step-goes n e = rw (← step-by, e)
 
-  pub field-inside : (n : ℕ) → f ≡ Number n → 6 * (k + 1) ≤ length bytes
-  field-inside n e = omega (arith, field-here (drop (6 * k) bytes) n (sym ef ∙ e), length-drop (6 * k) bytes)
-
   pub step-fits : (n : ℕ) → f ≡ Number n → length bytes < 2 ^ 64 → k + 1 < 2 ^ 64
-  step-fits n e h = omega (arith, field-inside n e)
+  step-fits n e h = omega (arith, field-inside bytes k n (sym here ∙ e))
 
 -- a field is passed, and where there is none the reader stands still
 module _ (bytes : List ℕ) (k : ℕ) where
@@ -99,7 +87,7 @@ module _ (bytes : List ℕ) (k : ℕ) where
 
   within-by : (f : Field) → f ≡ fieldAt bytes k → 6 * k ≤ length bytes → 6 * after f k ≤ length bytes
   within-by Malformed e h = h
-  within-by (Number n) e h = field-inside bytes k (Number n) e n refl
+  within-by (Number n) e h = field-inside bytes k n (sym e)
 
   -- it stays within the bytes
   pub next-within : 6 * k ≤ length bytes → 6 * nextAt bytes k ≤ length bytes
@@ -125,10 +113,6 @@ rest-fields zero bytes h = refl
 rest-fields (suc k) bytes h = rest-by k bytes _ refl h (rest-fields k (drop 6 bytes))
 
 -- ---- what is written has just these fields, and what has its fields as a whole was so written
-
-pub length-columns : (n : ℕ) → length (columnsOf n) ≡ 6
-unfolding columnsOf
-length-columns n = refl
 
 pub fields-written : (ns bytes : List ℕ) → Each16 ns → fieldsOf (written ns ++ bytes) ≡ ns ++ fieldsOf bytes
 unfolding written

@@ -29,11 +29,11 @@ use denote.Struct.Laws as LL
 use denote.Struct.Rest.{all-own, ownAt, rest, own-open, own-out}
 use denote.Struct.Values.{Values}
 use Rattle.reader.specs.declared.LineReader.{LineReader}
-use Rattle.reader.specs.declared.Field.{Field}
+use Rattle.columns.specs.declared.Field.{Field}
 use Rattle.reader.proofs.LineReader as T
 use Rattle.reader.proofs.LineReader.Laws as T′
-use Rattle.reader.proofs.Field as F
-use Rattle.reader.proofs.Field.Laws as F′
+use Rattle.columns.proofs.Field as F
+use Rattle.columns.proofs.Field.Laws as F′
 use Rattle.reader.proofs.Next as N
 use Rattle.reader.proofs.Next.Laws as N′
 

@@ -11,13 +11,13 @@ use borrow.Author.Tests.{lt-ltb, eq-eqb, ne-eqb}
 use lib.Dec.{eqb}
 use lib.ListN.{length, getD, take, drop, length-append, length-take, take-append-drop}
 use lib.Seq.{drop-length, drop-cons, take-take}
-use Rattle.reader.specs.Columns.{columnOf, columnsOf, fieldOf}
+use Rattle.columns.specs.Columns.{columnOf, columnsOf, fieldOf}
 use Rattle.reader.specs.Line.{written, fieldsFrom, fieldsOf}
 use Rattle.reader.specs.Text.{linesOf, lastOf, isLine}
-use Rattle.reader.specs.declared.Field.{Field}
-use Rattle.reader.specs.declared.Field.the-variants.{Number, Malformed}
-use Rattle.reader.proofs.Columns.{is-field, six, no-line-end}
-use Rattle.reader.proofs.Line.{first-field, no-field, rest-fields, fields-written, length-columns, begins}
+use Rattle.columns.specs.declared.Field.{Field}
+use Rattle.columns.specs.declared.Field.the-variants.{Number, Malformed}
+use Rattle.columns.proofs.Columns.{is-field, six, length-columns, no-line-end}
+use Rattle.reader.proofs.Line.{first-field, no-field, rest-fields, fields-written, begins}
 
 -- ---- the first line, up to a byte 10, and what follows that byte
 

@@ -1,4 +1,2 @@
-pub mod Columns
 pub mod Line
 pub mod Text
-pub mod Scan

@@ -7,13 +7,13 @@ use mathlib.Core.Path.{_≡_}
 use mathlib.Core.Logic.{_≢_}
 use mathlib.Core.List.{List, [], _∷_, _++_}
 use lib.ListN.{length, take, drop}
-use Rattle.reader.specs.Columns.{columnsOf, fieldOf}
+use Rattle.columns.specs.Columns.{columnsOf, fieldOf}
 use denote.Ref.{RefT, now}
 use Rattle.reader.specs.declared.LineReader.{LineReader}
 use Rattle.reader.specs.declared.Next.{Next}
 use Rattle.reader.specs.declared.Step.{Step}
-use Rattle.reader.specs.declared.Field.{Field}
-use Rattle.reader.specs.declared.Field.the-variants.{Number, Malformed}
+use Rattle.columns.specs.declared.Field.{Field}
+use Rattle.columns.specs.declared.Field.the-variants.{Number, Malformed}
 
 -- fields one after the other
 unfoldable pub written : List ℕ → List ℕ

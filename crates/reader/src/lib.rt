@@ -1,29 +1,13 @@
-// From bytes to fields: what six columns are a field, and the fields of a line. The lines of a text are in specs/Text, and whether its
-// columns are at fault is looked for in the crate text_check.
+// The fields of a line's bytes; what six columns are a field is in the crate columns. The lines of a text are in specs/Text, and whether
+// its columns are at fault is looked for in the crate text_check.
 // Every field is read through a `LineReader`, which goes over a line field by field. `field_at` and `rest` have plain parameters: a
 // function that has a reader in its hands is proved step by step, and a caller of theirs is not. Every public function answers any
-// bytes. The definitions are in specs/Columns and specs/Line.
+// bytes. The definitions are in specs/Line.
+use columns::Field;
 ghost use mathlib.Core.Path.{_≡_};
-ghost use Prim.Native.Nat.{_+_, _*_, _≤_};
-ghost use lib.ListN.{length, take, drop};
-ghost use Rattle.reader.specs.Columns.{fieldOf};
+ghost use Prim.Native.Nat.{_*_};
+ghost use lib.ListN.{length, drop};
 ghost use Rattle.reader.specs.Line.{fieldAt, fieldsOf, readerAt, nextOf, stepAt};
-ghost use Rattle.reader.specs.Scan.{blanksOf, digitsFrom};
-
-// What six columns are.
-pub enum Field {
-    Number(u16),
-    Malformed,
-}
-
-// The columns of a field.
-pub const COLUMNS: usize = 6;
-
-const BLANK: u8 = 32;
-
-const DIGIT_0: u8 = 48;
-
-const DIGIT_9: u8 = 57;
 
 // A read-only look at one line of the lent text, or at a part of one: its bytes, and the number of the field that is next.
 pub struct LineReader<'a> {
@@ -116,90 +100,21 @@ pub fn count(part: &[u8]) -> usize
 fn step_in(line: &[u8], k: usize) -> Step
     ensures { λ r. ⌜ r ≡ stepAt (now (line .entry)) k ⌝ }
 {
-    let field = field_in(line, k);
+    let field = columns::first(part_from(line, k));
     let Field::Number(_) = field else {
         return Step { field, at: k };
     };
     Step { field, at: k + 1 }
 }
 
-// The field in the k-th six columns of a line.
-fn field_in(line: &[u8], k: usize) -> Field
-    ensures { λ r. ⌜ r ≡ fieldAt (now (line .entry)) k ⌝ }
-{
-    if k < line.len() / COLUMNS {
-        let at = COLUMNS * k;
-        first_field(&line[at..])
-    } else {
-        Field::Malformed
-    }
-}
-
 // The bytes of a line from its k-th six columns on.
 fn part_from(line: &[u8], k: usize) -> &[u8]
     ensures { λ r. ⌜ now r ≡ drop (6 * k) (now (line .entry)) ⌝ }
 {
-    if k <= line.len() / COLUMNS {
-        let at = COLUMNS * k;
+    if k <= line.len() / columns::COLUMNS {
+        let at = columns::COLUMNS * k;
         &line[at..]
     } else {
         &line[line.len()..]
     }
-}
-
-// The field in the first six columns: blanks, then digits, of which only a single one may begin with 0.
-fn first_field(part: &[u8]) -> Field
-    requires { ⌜ 6 ≤ length (now part) ⌝ }
-    ensures { λ r. ⌜ r ≡ fieldOf (take 6 (now (part .entry))) ⌝ }
-{
-    let b = blanks(part);
-    if COLUMNS <= b {
-        return Field::Malformed;
-    }
-    if part[b] == DIGIT_0 {
-        if b + 1 == COLUMNS {
-            return Field::Number(0);
-        }
-        return Field::Malformed;
-    }
-    digits(part, b)
-}
-
-// The blanks that begin the first six columns.
-fn blanks(part: &[u8]) -> usize
-    requires { ⌜ 6 ≤ length (now part) ⌝ }
-    ensures { λ r. ⌜ r ≡ blanksOf (take 6 (now (part .entry))) ⌝ }
-{
-    let mut i = 0;
-    while i < COLUMNS {
-        if part[i] != BLANK {
-            return i;
-        }
-        i += 1;
-    }
-    i
-}
-
-// The number that the columns from one on to the sixth are the digits of.
-fn digits(part: &[u8], from: usize) -> Field
-    requires { ⌜ (6 ≤ length (now part)) × (from ≤ 6) ⌝ }
-    ensures { λ r. ⌜ r ≡ digitsFrom 0 (drop from (take 6 (now (part .entry)))) ⌝ }
-{
-    let mut n: u32 = 0;
-    let mut i = from;
-    while i < COLUMNS {
-        let b = part[i];
-        if b < DIGIT_0 {
-            return Field::Malformed;
-        }
-        if DIGIT_9 < b {
-            return Field::Malformed;
-        }
-        n = n * 10 + (b - DIGIT_0) as u32;
-        if 65535 < n {
-            return Field::Malformed;
-        }
-        i += 1;
-    }
-    Field::Number(n as u16)
 }

@@ -6,7 +6,7 @@ use native.Mathlib.Omega.{arith}
 use borrow.Author.Tests.{le-ltb}
 use lib.ListN.{length, take, drop, drop-of-length-le}
 use lib.Seq.{take-all}
-use Rattle.reader.specs.Columns.{columnsOf}
+use Rattle.columns.specs.Columns.{columnsOf}
 use Rattle.reader.specs.Line.{written}
 use Rattle.reader.specs.Text.{textOf}
 use Rattle.writer.specs.Report.{reportBytes}

@@ -26,8 +26,8 @@ use Rattle.terms.specs.declared.FormulaMark.{FormulaMark}
 use Rattle.terms.specs.declared.FormulaMark.the-variants as fm
 use Rattle.reader.specs.Line.{fieldAt, fieldsOf}
 use Rattle.reader.proofs.Line.{first-field, no-field, rest-fields, fields-within}
-use Rattle.reader.specs.declared.Field.{Field}
-use Rattle.reader.specs.declared.Field.the-variants.{Number, Malformed}
+use Rattle.columns.specs.declared.Field.{Field}
+use Rattle.columns.specs.declared.Field.the-variants.{Number, Malformed}
 use Rattle.term_check.specs.Checked.{checked, checkedV, checkedF}
 use Rattle.term_check.specs.declared.Checked.{Checked}
 use Rattle.term_check.specs.declared.Checked.the-variants.{Next, Wrong}

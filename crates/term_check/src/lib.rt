@@ -2,7 +2,7 @@
 //
 // Each works on the part of the line that starts at its term. The rest of the line after a term is handed on as a part that starts in
 // the middle of the line's bytes. What a term is and which are well formed is in the crate terms, what a field is in reader.
-use reader::Field;
+use columns::Field;
 use terms::FormulaMark;
 use terms::ValueMark;
 ghost use mathlib.Core.Path.{_≡_};

@@ -24,7 +24,7 @@ fn lines_fault(text: &[u8]) -> u16
     let mut long = false;
     while at < text.len() {
         let n = reader::count(&text[at..]);
-        let end = at + reader::COLUMNS * n;
+        let end = at + columns::COLUMNS * n;
         if n == 0 {
             return 2;
         }

@@ -8,7 +8,7 @@ use native.Mathlib.Omega.{arith}
 use borrow.Author.Tests.{lt-ltb, le-leb, lt-leb}
 use lib.ListN.{length, set, drop}
 use lib.Seq.{sets, sets-eq}
-use Rattle.reader.specs.Columns.{columnOf, columnsOf}
+use Rattle.columns.specs.Columns.{columnOf, columnsOf}
 use Rattle.reader.specs.Line.{written, Each16, none, more}
 use Rattle.reader.specs.Text.{textOf, fieldsByLine}
 use Rattle.reader.specs.Text as text

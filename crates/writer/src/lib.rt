@@ -6,7 +6,7 @@ ghost use mathlib.Core.Path.{_≡_};
 ghost use Prim.Native.Nat.{_+_, _<_, _≤_};
 ghost use lib.ListN.{length};
 ghost use lib.Seq.{sets};
-ghost use Rattle.reader.specs.Columns.{columnOf, columnsOf};
+ghost use Rattle.columns.specs.Columns.{columnOf, columnsOf};
 ghost use Rattle.writer.specs.Put.{put, putLength};
 ghost use Rattle.writer.specs.Report.{reportBytes};
 

@@ -3,7 +3,7 @@ use borrow.Author.Needs.{needs}
 use Prim.Native.Nat.{_≤_, _-_}
 use mathlib.Core.Path.{_≡_}
 use lib.ListN.{length, drop}
-use Rattle.reader.specs.Columns.{sameBytes}
+use Rattle.columns.specs.Columns.{sameBytes}
 use Rattle.call_lines.proofs.Compared as compared
 use Rattle.call_lines.proofs.same.Statement.{statement}
 use Rattle.call_lines.proofs.same.Tie as tie

@@ -51,8 +51,8 @@ use denote.Triple.Clauses.{ensured, lasts}
 use Rattle.reader.specs.Line.{fieldAt, fieldsOf, nextAt, readerAt, nextOf}
 use Rattle.reader.specs.declared.LineReader.{LineReader}
 use Rattle.reader.specs.declared.Next.{Next as Answer}
-use Rattle.reader.specs.declared.Field.{Field}
-use Rattle.reader.specs.declared.Field.the-variants.{Number}
+use Rattle.columns.specs.declared.Field.{Field}
+use Rattle.columns.specs.declared.Field.the-variants.{Number}
 use Rattle.reader.proofs.Line as line
 use Rattle.reader.proofs.Turns as turns
 use Rattle.reader.proofs.Look.{Reader, Decl, Laws, NextRow, NextDecl, NextLaws, Bytes, OwnBytes, OwnField, OwnReader, bytesVal, fieldVal, inBody}
@@ -62,8 +62,8 @@ use Rattle.reader.proofs.LineReader as T
 use Rattle.reader.proofs.LineReader.Laws as T′
 use Rattle.reader.proofs.Next as N
 use Rattle.reader.proofs.Next.Laws as N′
-use Rattle.reader.proofs.Field as F
-use Rattle.reader.proofs.Field.Laws as F′
+use Rattle.columns.proofs.Field as F
+use Rattle.columns.proofs.Field.Laws as F′
 use Rattle.reader.proofs.LineReader.new as new
 use Rattle.reader.proofs.LineReader.new.Symbol as new-def
 use Rattle.reader.proofs.LineReader.new.Symbol.{name as #new}

@@ -46,7 +46,7 @@ use denote.Triple.Clauses.{ensured}
 use Rattle.reader.specs.Line.{fieldAt, fieldsOf, nextAt, readerAt, nextOf}
 use Rattle.reader.specs.declared.LineReader.{LineReader}
 use Rattle.reader.specs.declared.Next.{Next as Answer}
-use Rattle.reader.specs.declared.Field.the-variants.{Number}
+use Rattle.columns.specs.declared.Field.the-variants.{Number}
 use Rattle.reader.proofs.Line as line
 use Rattle.reader.proofs.Turns as turns
 use Rattle.reader.proofs.Look.{Reader, Decl, Laws, NextRow, NextDecl, NextLaws, Bytes, OwnBytes, OwnReader, bytesVal, inBody}

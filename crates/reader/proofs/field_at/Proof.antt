@@ -40,7 +40,7 @@ use denote.Triple.Clauses.{ensured}
 use Rattle.reader.specs.Line.{fieldAt, readerAt, nextOf}
 use Rattle.reader.specs.declared.LineReader.{LineReader}
 use Rattle.reader.specs.declared.Next.{Next as Answer}
-use Rattle.reader.specs.declared.Field.{Field}
+use Rattle.columns.specs.declared.Field.{Field}
 use Rattle.reader.proofs.Look.{Reader, NextRow, NextDecl, NextLaws, Bytes, OwnBytes, OwnNumber, OwnField, bytesVal, twoVals, fieldVal, inBody}
 use Rattle.reader.proofs.Made as made
 use Rattle.reader.proofs.Made.{New, Moved, Next}
@@ -48,8 +48,8 @@ use Rattle.reader.proofs.LineReader as T
 use Rattle.reader.proofs.LineReader.Laws as T′
 use Rattle.reader.proofs.Next as N
 use Rattle.reader.proofs.Next.Laws as N′
-use Rattle.reader.proofs.Field as F
-use Rattle.reader.proofs.Field.Laws as F′
+use Rattle.columns.proofs.Field as F
+use Rattle.columns.proofs.Field.Laws as F′
 use Rattle.reader.proofs.LineReader.new as new
 use Rattle.reader.proofs.LineReader.new.Symbol as new-def
 use Rattle.reader.proofs.LineReader.new.Symbol.{name as #new}

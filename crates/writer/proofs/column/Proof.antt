@@ -1,7 +1,7 @@
 -- `writer::column` is the byte in the column of a weight.
 use borrow.Author.Needs.{needs}
 use borrow.Author.Tests.{lt-ltb, le-ltb}
-use Rattle.reader.specs.Columns.{columnOf}
+use Rattle.columns.specs.Columns.{columnOf}
 use Rattle.writer.proofs.column.Statement.{statement}
 use Rattle.writer.proofs.column.Tie as tie
 

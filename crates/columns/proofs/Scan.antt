@@ -10,11 +10,11 @@ use native.Mathlib.Nat.{div-eq-of-lt, div-div-eq-div-mul, pow-suc, div-lt-iff-lt
 use borrow.Author.Tests.{lt-ltb, le-ltb, ne-eqb, eqb-true, eqb-false, ltb-true, ltb-false}
 use lib.Dec.{eqb, ltb}
 use lib.ListN.{length}
-use Rattle.reader.specs.Columns.{columnOf, columnsOf, IsField, fieldOf}
-use Rattle.reader.specs.Scan.{blanksOf, digitsFrom, alone, afterBlanks, scanned}
-use Rattle.reader.specs.declared.Field.{Field}
-use Rattle.reader.specs.declared.Field.the-variants.{Number, Malformed}
-use Rattle.reader.proofs.Columns.{is-field, field-is, tens}
+use Rattle.columns.specs.Columns.{columnOf, columnsOf, IsField, fieldOf}
+use Rattle.columns.specs.Scan.{blanksOf, digitsFrom, alone, afterBlanks, scanned}
+use Rattle.columns.specs.declared.Field.{Field}
+use Rattle.columns.specs.declared.Field.the-variants.{Number, Malformed}
+use Rattle.columns.proofs.Columns.{is-field, field-is, tens}
 
 never : {n : ℕ} → Malformed ≡ Number n → ⊥
 never e = let z : _≡_ {A = ℕ} 0 1 = cc in omega arith

@@ -1,12 +1,12 @@
--- `reader::blanks` counts the blanks that begin six columns: those passed and those still ahead are all of them.
+-- `columns::blanks` counts the blanks that begin six columns: those passed and those still ahead are all of them.
 use Prim.Native.Nat.{_+_, _-_, _≤_}
 use mathlib.Core.Path.{_≡_}
 use native.Mathlib.Omega.{arith}
 use lib.ListN.{take, drop}
-use Rattle.reader.specs.Scan.{blanksOf}
-use Rattle.reader.proofs.Turns as turns
-use Rattle.reader.proofs.blanks.Statement.{statement}
-use Rattle.reader.proofs.blanks.Tie as tie
+use Rattle.columns.specs.Scan.{blanksOf}
+use Rattle.columns.proofs.Turns as turns
+use Rattle.columns.proofs.blanks.Statement.{statement}
+use Rattle.columns.proofs.blanks.Tie as tie
 
 abbrev Inv-loop : tie.InvT-loop
 Inv-loop part i₀ i = (i ≤ 6) × (i + blanksOf (drop i (take 6 part)) ≡ blanksOf (take 6 part))

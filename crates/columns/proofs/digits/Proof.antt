@@ -1,13 +1,13 @@
--- `reader::digits` reads columns as the digits of a number: those still ahead, after the number so far, give the whole.
+-- `columns::digits` reads columns as the digits of a number: those still ahead, after the number so far, give the whole.
 use Prim.Native.Nat.{_-_, _≤_, _<_}
 use mathlib.Core.Path.{_≡_, refl}
 use native.Mathlib.Omega.{arith}
 use borrow.Author.Needs.{needs}
 use lib.ListN.{take, drop}
-use Rattle.reader.specs.Scan.{digitsFrom}
-use Rattle.reader.proofs.Turns as turns
-use Rattle.reader.proofs.digits.Statement.{statement}
-use Rattle.reader.proofs.digits.Tie as tie
+use Rattle.columns.specs.Scan.{digitsFrom}
+use Rattle.columns.proofs.Turns as turns
+use Rattle.columns.proofs.digits.Statement.{statement}
+use Rattle.columns.proofs.digits.Tie as tie
 
 abbrev Inv-loop : tie.InvT-loop
 Inv-loop part from n₀ i₀ n i =

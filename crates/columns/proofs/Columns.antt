@@ -10,8 +10,9 @@ use native.Mathlib.Nat.{div-eq-of-lt, mod-lt, div-div-eq-div-mul, div-add-mod'}
 use borrow.Author.Tests.{lt-ltb, le-ltb, eq-eqb, eqb-true, ltb-true}
 use lib.Dec.{eqb, ltb}
 use lib.ListN.{length}
-use Rattle.reader.specs.Columns.{columnOf, columnsOf, IsField, digitOf, shownAfter, sameBytes, fieldOf}
-use Rattle.reader.specs.declared.Field.the-variants.{Number, Malformed}
+use Rattle.columns.specs.Columns.{columnOf, columnsOf, IsField, digitOf, shownAfter, sameBytes, fieldOf}
+use Rattle.columns.specs.declared.Field.{Field}
+use Rattle.columns.specs.declared.Field.the-variants.{Number, Malformed}
 
 -- ---- tests
 
@@ -101,6 +102,18 @@ exactly columns n = (is-field columns n, field-is)
 pub six : {columns : List ℕ} {n : ℕ} → IsField columns n → length columns ≡ 6
 unfolding columnsOf
 six f = rw (f .written)
+
+read-long : (columns : List ℕ) (f : Field) → fieldOf columns ≡ f → length columns ≢ 6 → f ≡ Malformed
+read-long columns Malformed e h = refl
+read-long columns (Number n) e h = absurd (h (six (is-field columns n e)))
+
+-- fewer than six columns are no field
+pub too-short : (columns : List ℕ) → length columns < 6 → fieldOf columns ≡ Malformed
+too-short columns h = read-long columns _ refl (omega arith)
+
+pub length-columns : (n : ℕ) → length (columnsOf n) ≡ 6
+unfolding columnsOf
+length-columns n = refl
 
 pub no-line-end : (n weight : ℕ) → columnOf n weight ≢ 10
 unfolding columnOf
