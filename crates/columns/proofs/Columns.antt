@@ -1,7 +1,7 @@
 -- Laws of specs/Columns: what is written is read back as the same number (`read-back`), what is read was written so (`is-field`), so
 -- a number is found exactly where the columns are its field (`exactly`). No column is a byte 10.
-use Prim.Native.Nat.{ℕ, _+_, _-_, _*_, _/_, _%_, _<_}
-use mathlib.Core.Path.{_≡_, refl, sym}
+use Prim.Native.Nat.{ℕ, _+_, _-_, _*_, _/_, _%_, _<_, _≤_}
+use mathlib.Core.Path.{_≡_, refl, sym, _∙_}
 use mathlib.Core.Logic.{_≢_, _↔_}
 use mathlib.Core.Bool.{Bool, true, false, cond, _&&_}
 use mathlib.Core.List.{List, [], _∷_}
@@ -9,7 +9,8 @@ use native.Mathlib.Omega.{arith}
 use native.Mathlib.Nat.{div-eq-of-lt, mod-lt, div-div-eq-div-mul, div-add-mod'}
 use borrow.Author.Tests.{lt-ltb, le-ltb, eq-eqb, eqb-true, ltb-true}
 use lib.Dec.{eqb, ltb}
-use lib.ListN.{length}
+use lib.ListN.{length, take, drop, length-take, length-drop}
+use lib.Seq.{take-all}
 use Rattle.columns.specs.Columns.{columnOf, columnsOf, IsField, digitOf, shownAfter, sameBytes, fieldOf}
 use Rattle.columns.specs.declared.Field.{Field}
 use Rattle.columns.specs.declared.Field.the-variants.{Number, Malformed}
@@ -107,9 +108,17 @@ read-long : (columns : List ℕ) (f : Field) → fieldOf columns ≡ f → lengt
 read-long columns Malformed e h = refl
 read-long columns (Number n) e h = absurd (h (six (is-field columns n e)))
 
--- fewer than six columns are no field
-pub too-short : (columns : List ℕ) → length columns < 6 → fieldOf columns ≡ Malformed
-too-short columns h = read-long columns _ refl (omega arith)
+-- past a line's last six columns there is no field
+pub past-end : (bytes : List ℕ) (k : ℕ) → length bytes / 6 ≤ k → Malformed ≡ fieldOf (take 6 (drop (6 * k) bytes))
+past-end bytes k h =
+    let columns = take 6 (drop (6 * k) bytes) in
+    sym (read-long columns _ refl (rw (length-take 6 (drop (6 * k) bytes), length-drop (6 * k) bytes) (λ e. omega arith)))
+
+-- what the part that starts at the k-th six columns begins with
+pub field-in : (bytes : List ℕ) (k : ℕ) (r : Field) → r ≡ fieldOf (take 6 (take (length bytes - 6 * k) (drop (6 * k) bytes)))
+    → r ≡ fieldOf (take 6 (drop (6 * k) bytes))
+field-in bytes k r e =
+    e ∙ rw (take-all (length bytes - 6 * k) (drop (6 * k) bytes) (rw (length-drop (6 * k) bytes) (omega arith)))
 
 pub length-columns : (n : ℕ) → length (columnsOf n) ≡ 6
 unfolding columnsOf

@@ -1,22 +1,18 @@
 -- What a turn of each loop over a field's columns keeps: what is still to be done, from here, gives the whole.
 use Prim.Native.Nat.{ℕ, _+_, _-_, _*_, _<_, _≤_}
-use mathlib.Core.Path.{_≡_, sym, _∙_}
+use mathlib.Core.Path.{_≡_, _∙_}
 use mathlib.Core.Logic.{_≢_}
 use mathlib.Core.List.{List, [], _∷_}
 use native.Mathlib.Omega.{arith}
 use native.Mathlib.Numerals.{add-one}
 use borrow.Author.Tests.{lt-ltb, le-ltb, ne-eqb}
-use lib.ListN.{length, getD, take, drop, length-take, drop-of-length-le}
+use lib.ListN.{length, getD, take, drop, drop-of-length-le}
 use lib.Seq.{drop-cons, getD-take, length-take-le}
 use Rattle.columns.specs.Columns.{fieldOf}
 use Rattle.columns.specs.Scan.{blanksOf, digitsFrom, alone, afterBlanks, scanned}
 use Rattle.columns.specs.declared.Field.{Field}
 use Rattle.columns.specs.declared.Field.the-variants.{Number, Malformed}
-use Rattle.columns.proofs.Columns.{too-short}
 use Rattle.columns.proofs.Scan.{scan-field}
-
-pub too-few : (part : List ℕ) → length part < 6 → Malformed ≡ fieldOf (take 6 part)
-too-few part h = sym (too-short (take 6 part) (rw (length-take 6 part) (omega arith)))
 
 module _ (part : List ℕ) (long : 6 ≤ length part) where
   -- the columns from the i-th on

@@ -1,7 +1,7 @@
 // The columns of a field: which six bytes are a field, and of which number (specs/Columns). A field is found column by column, which
 // specs/Scan says; that this finds the same is proved in proofs/Scan.
 ghost use mathlib.Core.Path.{_≡_};
-ghost use Prim.Native.Nat.{_≤_};
+ghost use Prim.Native.Nat.{_*_, _≤_};
 ghost use lib.ListN.{length, take, drop};
 ghost use Rattle.columns.specs.Columns.{fieldOf};
 ghost use Rattle.columns.specs.Scan.{blanksOf, digitsFrom};
@@ -21,14 +21,23 @@ const DIGIT_0: u8 = 48;
 
 const DIGIT_9: u8 = 57;
 
-// The field in the first six columns: blanks, then digits, of which only a single one may begin with 0. Malformed also where there are
-// fewer columns.
-pub fn first(part: &[u8]) -> Field
+// The field in the k-th six columns of a line, counted from 0; malformed also where the line has no k-th six columns.
+pub fn field_in(line: &[u8], k: usize) -> Field
+    ensures { λ r. ⌜ r ≡ fieldOf (take 6 (drop (6 * k) (now (line .entry)))) ⌝ }
+{
+    if k < line.len() / COLUMNS {
+        let at = COLUMNS * k;
+        first_field(&line[at..])
+    } else {
+        Field::Malformed
+    }
+}
+
+// The field in the first six columns: blanks, then digits, of which only a single one may begin with 0.
+fn first_field(part: &[u8]) -> Field
+    requires { ⌜ 6 ≤ length (now part) ⌝ }
     ensures { λ r. ⌜ r ≡ fieldOf (take 6 (now (part .entry))) ⌝ }
 {
-    if part.len() < COLUMNS {
-        return Field::Malformed;
-    }
     let b = blanks(part);
     if COLUMNS <= b {
         return Field::Malformed;

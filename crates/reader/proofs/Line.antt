@@ -49,13 +49,9 @@ no-field bytes e = none-from (length bytes / 6) bytes e
 pub field-inside : (bytes : List ℕ) (k n : ℕ) → fieldAt bytes k ≡ Number n → 6 * (k + 1) ≤ length bytes
 field-inside bytes k n e = omega (arith, field-here (drop (6 * k) bytes) n e, length-drop (6 * k) bytes)
 
--- f is what stands in the first six columns of the part from the k-th field on
-module _ (bytes : List ℕ) (k : ℕ) (part : List ℕ) (ep : part ≡ drop (6 * k) bytes) (f : Field) (ef : f ≡ fieldOf (take 6 part)) where
-  here : f ≡ fieldAt bytes k
-  here = ef ∙ ap (λ (p : List ℕ). fieldOf (take 6 p)) ep
-
+module _ (bytes : List ℕ) (k : ℕ) (f : Field) (ef : f ≡ fieldAt bytes k) where
   step-by : record { field = f; at = after f k } ≡ stepAt bytes k
-  step-by = ap (λ (g : Field). record { field = g; at = after g k }) here
+  step-by = ap (λ (g : Field). record { field = g; at = after g k }) ef
 
   pub step-stays : f ≡ Malformed → record { field = f; at = k } ≡ stepAt bytes k
   step-stays e = rw (← step-by, e)
@@ -64,7 +60,7 @@ module _ (bytes : List ℕ) (k : ℕ) (part : List ℕ) (ep : part ≡ drop (6 *
   step-goes n e = rw (← step-by, e)
 
   pub step-fits : (n : ℕ) → f ≡ Number n → length bytes < 2 ^ 64 → k + 1 < 2 ^ 64
-  step-fits n e h = omega (arith, field-inside bytes k n (sym here ∙ e))
+  step-fits n e h = omega (arith, field-inside bytes k n (sym ef ∙ e))
 
 -- a field is passed, and where there is none the reader stands still
 module _ (bytes : List ℕ) (k : ℕ) where

@@ -5,12 +5,10 @@ use mathlib.Core.Logic.{_≢_}
 use mathlib.Core.Bool.{Bool, true, false, cond, not, _||_, or-true}
 use mathlib.Core.List.{List, [], _∷_, append-nil}
 use native.Mathlib.Omega.{arith}
-use native.Mathlib.Numerals.{add-one}
 use borrow.Author.Tests.{lt-ltb, le-ltb, ne-eqb}
 use lib.Dec.{T, ltb, eqb, eqb→eq, eqb-refl, T-not}
 use lib.ListN.{length, getD, take, drop, length-drop, drop-of-length-le}
-use lib.Seq.{drop-cons, drop-drop, getD-take, getD-drop, length-take-le}
-use Rattle.columns.specs.Columns.{fieldOf}
+use lib.Seq.{drop-drop, getD-drop}
 use Rattle.reader.specs.Line.{written, fieldAt, fieldsOf, nextAt}
 use Rattle.reader.specs.Text.{linesOf, lastOf, fieldsByLine, countAll, isLine, anyLine, fault2, fault3, linesFault}
 use Rattle.columns.specs.declared.Field.{Field}

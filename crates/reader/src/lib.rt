@@ -100,7 +100,7 @@ pub fn count(part: &[u8]) -> usize
 fn step_in(line: &[u8], k: usize) -> Step
     ensures { λ r. ⌜ r ≡ stepAt (now (line .entry)) k ⌝ }
 {
-    let field = columns::first(part_from(line, k));
+    let field = columns::field_in(line, k);
     let Field::Number(_) = field else {
         return Step { field, at: k };
     };

@@ -13,9 +13,6 @@ ghost use Rattle.writer.specs.Report.{reportBytes};
 // Five fields and byte 10.
 pub const REPORT_BYTES: usize = 31;
 
-// The columns of a field.
-const COLUMNS: usize = 6;
-
 const BLANK: u8 = 32;
 
 const DIGIT_0: u8 = 48;
@@ -27,14 +24,14 @@ pub fn put_field(buffer: &mut [u8], at: usize, n: u16) -> usize
     ensures { λ r. ⌜ r ≡ putLength (now (buffer .entry)) at (columnsOf n) ⌝ }
     ensures { λ _. ⌜ now (buffer .exit) ≡ put (now (buffer .entry)) at (columnsOf n) ⌝ }
 {
-    if buffer.len() < COLUMNS {
+    if buffer.len() < columns::COLUMNS {
         return 0;
     }
-    if buffer.len() - COLUMNS < at {
+    if buffer.len() - columns::COLUMNS < at {
         return 0;
     }
     put_columns(buffer, at, n);
-    COLUMNS
+    columns::COLUMNS
 }
 
 // The report in the first 31 bytes; later bytes keep their content.
