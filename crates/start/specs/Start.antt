@@ -1,4 +1,4 @@
--- Criterion 1 of the design in the arrays, for every arrays and counts; where the counts do not fit it does not hold.
+-- Criterion 1 of the design in the arrays, for any arrays and counts; where the counts do not fit it does not hold.
 use mathlib.Core.Bool.{Bool, false, _&&_, cond}
 use mathlib.Core.List.{List}
 use Prim.Native.Nat.{ℕ}
