@@ -1,5 +1,6 @@
-// Compares the checker with the reference over the texts of texts.h: check_design with buffers of five lengths, every byte of them. Writes
-// lists of desk calls for desk_calls to CALLS, and what the reference answers to them, in desk_calls' words, to DUE.
+// Compares the checker with the reference over the texts of texts.h: check_design with buffers of five lengths, mark_design and
+// unmark_design with two each, every byte of them. Writes lists of desk calls for desk_calls to CALLS, and what the reference answers to
+// them, in desk_calls' words, to DUE.
 //
 //   fuzz COUNT SEED CALLS DUE TABLE..
 //
@@ -28,15 +29,34 @@ static void read_text(const char *path, struct text *t) {
     fclose(f);
 }
 
-// The one-call check.
+// A call with text i and a buffer.
+struct call {
+    const char *function;
+    int i;
+    const struct text *t;
+    size_t room;
+};
 
-static void differ(const char *what, int i, const struct text *t) {
+static void differ(const char *what, struct call c) {
     FILE *f = opened("target/differs.txt", "wb");
-    fwrite(t->bytes, 1, t->len, f);
+    fwrite(c.t->bytes, 1, c.t->len, f);
     fclose(f);
-    fprintf(stderr, "fuzz: text %d, in target/differs.txt: %s\n", i, what);
+    fprintf(stderr, "fuzz: text %d, in target/differs.txt: %s with a buffer of %zu bytes: %s\n", c.i, c.function, c.room, what);
     exit(1);
 }
+
+// The text's bytes as they are lent to a function, and whether they still are as they were.
+
+static uint8_t lent[ROOM];
+
+static const uint8_t *lend(const struct text *t) {
+    memcpy(lent, t->bytes, t->len);
+    return t->len ? lent : NULL;
+}
+
+static int is_changed(const struct text *t) { return memcmp(lent, t->bytes, t->len) != 0; }
+
+// The one-call check.
 
 // How many texts came to what: accepted, failed by criterion 1 to 9, turned down by number 1 to 7.
 enum { SORTS = 17 };
@@ -80,18 +100,93 @@ static void print_counts(const char *what, const unsigned *seen) {
 }
 
 static void check_one(int i, const struct text *t, struct counts *seen) {
-    static uint8_t copy[ROOM];
     for (int k = 0; k < LENGTHS; k++) {
+        const struct call call = {"check_design", i, t, lengths[k]};
         uint8_t due[BUFFER], got[BUFFER];
         for (size_t b = 0; b < BUFFER; b++) due[b] = got[b] = (uint8_t)(b * 7 + i);
-        memcpy(copy, t->bytes, t->len);
         uint32_t want = reference_check(t->bytes, t->len, due + 8, lengths[k]);
-        uint32_t answer = check_design(t->len ? copy : NULL, t->len, lengths[k] ? got + 8 : NULL, lengths[k]);
-        if (answer != want) differ("another answer", i, t);
-        if (memcmp(got, due, sizeof got)) differ("another buffer", i, t);
-        if (memcmp(copy, t->bytes, t->len)) differ("the text was written", i, t);
+        uint32_t answer = check_design(lend(t), t->len, lengths[k] ? got + 8 : NULL, lengths[k]);
+        if (answer != want) differ("another answer", call);
+        if (memcmp(got, due, sizeof got)) differ("another buffer", call);
+        if (is_changed(t)) differ("the text was written", call);
         if (lengths[k] == REPORT) count(seen, t, got + 8);
     }
+}
+
+// The two writers.
+
+// No result has as many as MORE bytes more than its text.
+enum { GUARD = 256, MORE = 256, NUMBERS = 17 };
+
+typedef size_t writer(const uint8_t *text, size_t text_len, uint8_t *buffer, size_t buffer_len, uint32_t *number);
+
+// How long a buffer is beside the result that a long one gets.
+enum fit { EMPTY, SHORTER, ONE_SHORT, EXACT, LONGER, FITS };
+
+// A writer, ours and the reference's, and what came of its calls.
+struct sort {
+    const char *name;
+    writer *ours, *reference;
+    unsigned by_number[NUMBERS], copies, by_fields, by_fit[FITS];
+};
+
+// Both writers with a buffer of so many bytes, among bytes that they must leave alone. Gives the length of the result, and the number.
+static size_t write_both(int i, const struct text *t, const struct sort *s, size_t room, uint32_t *number) {
+    static uint8_t due[GUARD + ROOM + 2 * MORE + GUARD], got[sizeof due];
+    const struct call call = {s->name, i, t, room};
+    const size_t area = GUARD + room + GUARD;
+    uint32_t due_number = 0;
+    for (size_t b = 0; b < area; b++) due[b] = got[b] = (uint8_t)(b * 7 + i);
+    size_t due_length = s->reference(t->bytes, t->len, due + GUARD, room, &due_number);
+    *number = UINT32_MAX;
+    size_t length = s->ours(lend(t), t->len, room ? got + GUARD : NULL, room, number);
+    if (*number != due_number) differ("another number", call);
+    if (length != due_length) differ("another length", call);
+    if (memcmp(got, due, area)) differ("another buffer", call);
+    if (is_changed(t)) differ("the text was written", call);
+    return length;
+}
+
+static size_t room_for(size_t result) {
+    switch (rnd(5)) {
+    case 0: return 0;
+    case 1: return rnd(result + 1);
+    case 2: return result ? result - 1 : 0;
+    case 3: return result;
+    default: return result + 1 + rnd(MORE);
+    }
+}
+
+static enum fit fit_of(size_t room, size_t result) {
+    if (room == 0) return EMPTY;
+    if (room < result) return room + 1 == result ? ONE_SHORT : SHORTER;
+    return room == result ? EXACT : LONGER;
+}
+
+// First with a buffer that is long enough, then with one of about the length of the result, or of the text if there is none.
+static void write_one(int i, const struct text *t, struct sort *s) {
+    uint32_t number;
+    const size_t result = write_both(i, t, s, t->len + MORE, &number), room = room_for(result ? result : t->len);
+    s->by_number[number]++;
+    s->by_fields += number == MARK_TOO_LONG;
+    if (number == MARK_DONE) {
+        s->copies += result == t->len;
+        s->by_fit[fit_of(room, result)]++;
+    }
+    write_both(i, t, s, room, &number);
+    s->by_number[number]++;
+}
+
+static void print_sort(const struct sort *s) {
+    unsigned calls = 0, results = 0;
+    for (int n = 0; n < NUMBERS; n++) calls += s->by_number[n];
+    for (int f = 0; f < FITS; f++) results += s->by_fit[f];
+    printf("fuzz: %u calls of %s: done %u; turned down by number", calls, s->name, s->by_number[MARK_DONE]);
+    for (int n = 1; n <= 7; n++) printf(" %u", s->by_number[n]);
+    printf(", 15: %u, 16: %u; %u texts have too many fields for it\n", s->by_number[MARK_OTHER_FORMULA], s->by_number[MARK_TOO_LONG],
+           s->by_fields);
+    printf("fuzz: %u results of it, %u of them copies, with a buffer that is empty %u, shorter %u, one byte short %u, exact %u, longer %u\n",
+           results, s->copies, s->by_fit[EMPTY], s->by_fit[SHORTER], s->by_fit[ONE_SHORT], s->by_fit[EXACT], s->by_fit[LONGER]);
 }
 
 // Lists of desk calls.
@@ -167,11 +262,16 @@ int main(int n, char **words) {
     static struct pool pool;
     static struct text t;
     static struct counts seen;
+    static struct sort sorts[] = {
+        {.name = "mark_design", .ours = mark_design, .reference = reference_mark},
+        {.name = "unmark_design", .ours = unmark_design, .reference = reference_unmark},
+    };
     read_pool(&pool, n - 5, words + 5);
     struct reference_desk *desk = reference_desk();
     for (int i = 0; i < texts; i++) {
         make_text(&t, &pool);
         check_one(i, &t, &seen);
+        for (int k = 0; k < 2; k++) write_one(i, &t, &sorts[k]);
         desk_one(desk, &t, calls, due);
     }
     reference_free(desk);
@@ -180,4 +280,5 @@ int main(int n, char **words) {
     print_counts("texts", seen.all);
     print_counts("of them with marks", seen.marked);
     printf("fuzz: %u of these get another report without the line of kind 8\n", seen.by_marks);
+    for (int k = 0; k < 2; k++) print_sort(&sorts[k]);
 }

@@ -411,13 +411,24 @@ static void odd_mark(struct text *t, unsigned params) {
     }
 }
 
-// A formula for each internal row: all true, mostly so, or any; now and then one of them is odd, or one more stands at the end.
+// One formula that is not `10`, though most of these always hold.
+static void other_than_true(struct text *t) {
+    static const unsigned other[][3] = {{14, 11}, {16, 10, 10}, {15, 10, 10}, {11}};
+    static const int count[] = {2, 3, 3, 1};
+    unsigned pick = rnd(4);
+    fields(t, count[pick], other[pick]);
+}
+
+// A formula for each internal row: `10` for all, for all but one, for most, or any; now and then one of them is odd, or one more stands at
+// the end.
 static void marks_line(struct text *t, unsigned params, unsigned internal) {
-    unsigned any = rnd(3), odd = rnd(4) ? internal : rnd(internal + 1);
+    enum { BUT_ONE = 2, MOST }; // what is lower is all
+    unsigned how = rnd(5), one = rnd(internal + 1), odd = rnd(4) ? internal : rnd(internal + 1);
     field(t, 8);
     for (unsigned r = 0; r < internal; r++) {
         if (r == odd) odd_mark(t, params);
-        else if (any == 0 || (any == 1 && rnd(4))) field(t, 10);
+        else if (how == BUT_ONE && r == one) other_than_true(t);
+        else if (how <= BUT_ONE || (how == MOST && rnd(4))) field(t, 10);
         else formula(t, 1 + rnd(4), params, 1);
     }
     if (odd == internal && rnd(16) == 0) odd_mark(t, params);
@@ -527,15 +538,16 @@ static void long_row(struct text *t, unsigned n) {
     line_end(t);
 }
 
-// About as many fields as a text may have; its last row makes them up.
+// About as many fields as a text may have, or so many less that the line of marks which it hasn't makes them up; its last row has the rest.
 static void full(struct text *t) {
-    enum { MOST_FIELDS = 4096, LONGEST = 256, LONG_ROWS = 15, FEWEST = 8, HEAD = 6 };
+    enum { MOST_FIELDS = 4096, LONGEST = 256, LONG_ROWS = 15, FEWEST = 8, HEAD = 6, MARK_FIELDS = LONG_ROWS + 2 };
     struct text end = {.len = 0};
+    unsigned sort = rnd(4);
     fields(&end, 2, (unsigned[]){5, 10}); line_end(&end);
     fields(&end, 3, (unsigned[]){6, 0, 0}); line_end(&end);
     fields(&end, 3, (unsigned[]){7, 0, 0}); line_end(&end);
-    if (rnd(4)) marks_line(&end, 1, LONG_ROWS + 1);
-    int left = MOST_FIELDS - 2 + (int)rnd(5) - HEAD - LONG_ROWS * LONGEST - (int)(end.len / 6);
+    if (sort > 1) marks_line(&end, 1, LONG_ROWS + 1);
+    int left = MOST_FIELDS - 2 + (int)rnd(5) - HEAD - LONG_ROWS * LONGEST - (int)(end.len / 6) - (sort ? 0 : MARK_FIELDS);
     t->len = 0;
     fields(t, 3, (unsigned[]){1, 2, rnd(2)}); line_end(t);
     fields(t, 3, (unsigned[]){2, 1, 0}); line_end(t);
@@ -569,7 +581,7 @@ static void make_text(struct text *t, const struct pool *p) {
     case 20: from_pool(t, p); for (int i = 1 + rnd(2); i > 0; i--) damage(t); break;
     case 21: from_pool(t, p); mark_text(t); if (rnd(2)) mutate(t); break;
     case 22: from_pool(t, p); mutate(t); damage(t); break;
-    default: if (rnd(8)) { made(t); for (int i = 1 + rnd(6); i > 0; i--) mutate(t); } else if (rnd(2)) filled(t); else full(t);
+    default: if (rnd(4)) { made(t); for (int i = 1 + rnd(6); i > 0; i--) mutate(t); } else if (rnd(2)) filled(t); else full(t);
     }
 }
 

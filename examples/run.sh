@@ -1,6 +1,6 @@
 #!/usr/bin/env bash
 # Checks every table of examples/ with ./check and with the C program buy, and compares with reports.tsv, byte for byte, and the exit status
-# of ./check with the verdict. Ends with 1 if any differs.
+# of ./check with the verdict; and gives each table marks by the C program marks. Ends with 1 if any differs.
 set -euo pipefail
 cd "$(dirname "$0")/.."
 program=target/bin/check_table
@@ -10,7 +10,7 @@ library=target/staticlib/libchecker.a
 tools/library.sh checker
 work=$(mktemp -d)
 trap 'rm -rf "$work"' EXIT
-${CC:-cc} -std=c11 -Wall -Wextra -Iinclude examples/buy.c "$library" -o "$work/buy"
+for example in buy marks; do ${CC:-cc} -std=c11 -Wall -Wextra -Iinclude "examples/$example.c" "$library" -o "$work/$example"; done
 count=0
 differ=0
 for file in examples/*.txt; do
@@ -23,17 +23,24 @@ for file in examples/*.txt; do
         differ=1
     fi
     { "$work/buy" "$file" || true; } | sed 's/.*: //' | cmp -s - "$work/want" || { echo "examples: $name: buy writes another report"; differ=1; }
+    case $(tail -n 1 "$file") in
+    "     8"*) due="the same report; marks other than 10 stay" ;;
+    *) due="the same report; the same text again" ;;
+    esac
+    [ "$("$work/marks" "$file")" = "$due" ] || { echo "examples: $name: marks doesn't write \"$due\""; differ=1; }
     count=$((count + 1))
 done
-# A report that can't be written is no verdict.
+# What can't be written is an error, and no verdict.
 if [ -c /dev/full ]; then
-    status=0
-    "$work/buy" examples/pump.txt > /dev/full 2> /dev/null || status=$?
-    [ "$status" = 65 ] || { echo "examples: buy ends with $status on a full disk"; differ=1; }
+    for example in buy marks; do
+        status=0
+        "$work/$example" examples/pump.txt > /dev/full 2> /dev/null || status=$?
+        [ "$status" = 65 ] || { echo "examples: $example ends with $status on a full disk"; differ=1; }
+    done
 fi
 # Each report has its table.
 while IFS=$'\t' read -r name _; do
     [ -f "examples/$name.txt" ] || { echo "examples: $name: a report without a table"; differ=1; }
 done < examples/reports.tsv
 [ "$differ" = 0 ] || exit 1
-echo "examples: $count tables, by ./check and by buy: no difference"
+echo "examples: $count tables, by ./check, buy and marks: no difference"

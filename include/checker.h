@@ -1,4 +1,5 @@
-/* The price link checker's one-call check. Link with libchecker.a, which `rt staticlib checker` writes to target/staticlib. */
+/* The price link checker for C: its one-call check, and the two writers that give a design text a line of kind 8 and take it away. Link with
+ * libchecker.a, which `rt staticlib checker` writes to target/staticlib. */
 #ifndef CHECKER_H
 #define CHECKER_H
 
@@ -11,7 +12,7 @@ extern "C" {
 
 /* The version, as in the file VERSION: the first number changes if a call that there was answers otherwise, the second if calls or kinds
  * of lines are added. */
-#define CHECKER_VERSION "1.1.0"
+#define CHECKER_VERSION "1.2.0"
 
 /* What check_design returns. */
 #define CHECK_ACCEPTED 0
@@ -55,6 +56,44 @@ extern "C" {
  * How long it takes depends on the design, which has up to 65,536 states, 64 rows and 256 sum values for each row.
  */
 uint32_t check_design(const uint8_t *text, size_t text_len, uint8_t *report, size_t report_len);
+
+/* The number that mark_design and unmark_design give, beside 1 to 7 for a fault of the text. */
+#define MARK_DONE 0
+#define MARK_OTHER_FORMULA 15
+#define MARK_TOO_LONG 16
+
+/* The most bytes that a result of theirs has: 4,096 fields of six columns, and the byte 10 of 84 lines. */
+#define MARK_RESULT_BYTES 24660
+
+/*
+ * Write a design text with a line of kind 8, or without one. mark_design writes the text of text_len bytes at text with such a line at its
+ * end, which has the formula `10` for each internal row, that is, for each line of kind 3 with action 0: all internal steps are marked, as
+ * they are without the line. unmark_design writes the text without the line. A text that is of the wanted sort already is copied as it is,
+ * by mark_design whatever its formulas. The result comes to the first of the buffer_len bytes at buffer.
+ *
+ * Return the length of the result, which is never 0, or 0 if the call is turned down. *number is written in any case:
+ *   0       done: the result is written
+ *   1 to 7  turned down: the text is no design text; this is the number of its lowest fault
+ *   15      turned down by unmark_design: a formula of the line of kind 8 is other than `10`, by its fields: `14 11` is other
+ *   16      turned down: the result is longer than buffer_len, or has over 4,096 fields
+ * Of several reasons the lowest is given. A buffer of MARK_RESULT_BYTES is long enough for every result: with it 16 comes from mark_design
+ * alone, for too many fields.
+ *
+ * check_design has the same report for the text and for the result. unmark_design makes the text again, byte for byte, of what mark_design
+ * made of a text without a line of kind 8.
+ *
+ * A call that is turned down writes nothing to the buffer. The bytes of the buffer after the result keep their content. There is no byte 0
+ * at the end.
+ *
+ * Any bytes may be in the text. It is only read, and nothing of it is kept. The text, the buffer and *number must not overlap, and number
+ * must not be NULL. An area of length 0 may have any address, NULL among them.
+ *
+ * The functions have no state, allocate nothing, make no system call and always return; threads may call them at the same time, each with a
+ * buffer and a number of its own. They use less than 128 KiB of stack. They don't go over the design's states: a call takes
+ * about as long as check_design takes to read the text.
+ */
+size_t mark_design(const uint8_t *text, size_t text_len, uint8_t *buffer, size_t buffer_len, uint32_t *number);
+size_t unmark_design(const uint8_t *text, size_t text_len, uint8_t *buffer, size_t buffer_len, uint32_t *number);
 
 #ifdef __cplusplus
 }

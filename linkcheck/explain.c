@@ -9,6 +9,7 @@ static const char *const criteria[] = {
 };
 static const char *const faults[] = {
     "", "length of the text", "columns", "number of fields", "kinds of lines", "sizes, initial values, spans", "terms", "actions",
+    [MARK_OTHER_FORMULA] = "marks", [MARK_TOO_LONG] = "length of the result",
 };
 
 const char *criterion_word(unsigned criterion) {
@@ -16,7 +17,7 @@ const char *criterion_word(unsigned criterion) {
 }
 
 const char *fault_word(unsigned number) {
-    return number < sizeof faults / sizeof *faults ? faults[number] : "";
+    return number < sizeof faults / sizeof *faults && faults[number] ? faults[number] : "";
 }
 
 /* ---- the place ---- */
@@ -157,6 +158,12 @@ void print_difference(struct output *out, const struct verdict *v) {
     difference[v->criterion](out, &h);
 }
 
+void print_turned_down(struct output *out, const struct fault *f) {
+    print(out, "turned down %u (%s)", f->number, fault_word(f->number));
+    if (f->line) print(out, ", line %zu", f->line);
+    if (f->words[0]) print(out, ": %s", f->words);
+}
+
 void print_verdict(struct output *out, const struct verdict *v) {
     switch (v->outcome) {
     case CHECK_ACCEPTED: put(out, "accepted"); break;
@@ -166,9 +173,6 @@ void print_verdict(struct output *out, const struct verdict *v) {
         put(out, ": ");
         print_difference(out, v);
         break;
-    default:
-        print(out, "turned down %u (%s)", v->criterion, fault_word(v->criterion));
-        if (v->fault.line) print(out, ", line %zu", v->fault.line);
-        if (v->fault.words[0]) print(out, ": %s", v->fault.words);
+    default: print_turned_down(out, &v->fault);
     }
 }

@@ -8,7 +8,7 @@
 /* The criteria by what they ask for. */
 enum { START = 1, MAPPED_VALUES, KEEPS_INVARIANT, KEEPS_MAPPING, SMALLER_MEASURE, ALLOWED, OFFERED, DATA, NEXT };
 
-/* What a criterion, 1 to 9, or a turned-down number, 1 to 7, is about. */
+/* What a criterion, 1 to 9, or a turned-down number, 1 to 7, 15 or 16, is about. */
 const char *criterion_word(unsigned criterion);
 const char *fault_word(unsigned number);
 
@@ -19,7 +19,8 @@ const struct row *failing_row(const struct verdict *v);
 /* What differs, in words, for a failed table. */
 void print_difference(struct output *out, const struct verdict *v);
 
-/* The verdict as one line's words, without byte 10. */
+/* Why a text is turned down, and the verdict: one line's words, without byte 10. */
+void print_turned_down(struct output *out, const struct fault *f);
 void print_verdict(struct output *out, const struct verdict *v);
 
 #endif

@@ -37,6 +37,11 @@ static const char help[] =
     "  linkcheck --columns [FILE]\n"
     "      Lines of numbers with any blanks between them as six-column text. Empty lines and leading zeros go, so\n"
     "      what is checked then is the text that comes out, not the one that went in.\n"
+    "  linkcheck --mark FILE\n"
+    "  linkcheck --unmark FILE\n"
+    "      The text with a line of kind 8 at its end, which marks all internal steps, as a text without it does; and\n"
+    "      the text without the line, if each of its formulas is 10. A text that is so already is copied. The\n"
+    "      verdict stays the same.\n"
     "  linkcheck --aut [impl|spec] FILE\n"
     "      The transition system of the implementation, of the specification, or of both one after the other (a\n"
     "      tool that reads it wants one), in the Aldebaran format: the states that the initial state reaches\n"
@@ -50,8 +55,8 @@ static const char help[] =
     "\n"
     "Exit status: 0 all accepted, 1 some failed, 2 some turned down, 3 something could not be read, checked or\n"
     "written, as a folder without a table, and a message says what; the highest of these; 64 wrong arguments.\n"
-    "With --columns, --aut and --dot 0 is done, 2 is a text that is no table, and 1 is a system that cannot be\n"
-    "written.\n";
+    "With --columns, --mark, --unmark, --aut and --dot 0 is done, 2 is a text that is no table, or by --mark and\n"
+    "--unmark one that has no such result, and 1 is a system that cannot be written.\n";
 
 /* The exit status once all is written; another if it could not be. */
 static int finished(int status) {
@@ -59,7 +64,7 @@ static int finished(int status) {
     return error ? complain(STATUS_UNREAD, "cannot write", strerror(error)) : status;
 }
 
-enum mode { CHECK, SHOW, TYPED_COLUMNS, AUT, DOT };
+enum mode { CHECK, SHOW, TYPED_COLUMNS, MARK, UNMARK, AUT, DOT };
 
 struct arguments {
     enum mode mode;
@@ -108,6 +113,8 @@ static void take_option(struct arguments *a, const char *option) {
     else if (strcmp(option, "--json") == 0) set_format(a, JSON);
     else if (strcmp(option, "--show") == 0) set_mode(a, SHOW, option);
     else if (strcmp(option, "--columns") == 0) set_mode(a, TYPED_COLUMNS, option);
+    else if (strcmp(option, "--mark") == 0) set_mode(a, MARK, option);
+    else if (strcmp(option, "--unmark") == 0) set_mode(a, UNMARK, option);
     else if (strcmp(option, "--aut") == 0) set_mode(a, AUT, option);
     else if (strcmp(option, "--dot") == 0) set_mode(a, DOT, option);
     else usage("unknown option", option);
@@ -214,6 +221,10 @@ static int perform(const struct arguments *a) {
     case TYPED_COLUMNS:
         expect_operands(a, 0, 1);
         return write_columns(&standard_output, a->operands ? a->operand[0] : "-");
+    case MARK:
+    case UNMARK:
+        expect_operands(a, 1, 1);
+        return write_sort(&standard_output, a->operand[0], a->mode == MARK ? MARKED : UNMARKED);
     case AUT:
     case DOT:
         expect_operands(a, 1, 2);

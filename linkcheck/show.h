@@ -1,4 +1,4 @@
-/* Other looks at one table: for a person, as transition systems, and typed fields as columns. */
+/* Other looks at one table: for a person, as transition systems, typed fields as columns, and the text with and without marks. */
 #ifndef SHOW_H
 #define SHOW_H
 
@@ -19,5 +19,11 @@ const char *write_dot(struct output *out, const struct table *t, enum side side)
  * left out. Nothing is written before the end is read. Gives the exit status, after a message unless it is 0: 2 for what is no table, 3 if
  * it could not be read. */
 int write_columns(struct output *out, const char *name);
+
+enum sort { MARKED, UNMARKED };
+
+/* Writes the text in a file, or in standard input for "-", with a line of kind 8 or without it. Gives the exit status, after a message unless
+ * it is 0: 2 for a text that is turned down, of which nothing is written, 3 if it could not be read. */
+int write_sort(struct output *out, const char *name, enum sort sort);
 
 #endif

@@ -1,6 +1,7 @@
 #!/usr/bin/env bash
-# Builds linkcheck and tries it: reports against compare/reports.tsv, exit statuses, the stored outputs of expected/, and every look at every
-# table and at damaged ones with the sanitizers and valgrind, where they are there. Ends with 1 at the first fault.
+# Builds linkcheck and tries it: reports against compare/reports.tsv, exit statuses, the stored outputs of expected/, texts with and without
+# a line of kind 8, and every look at every table and at damaged ones with the sanitizers and valgrind, where they are there. Ends with 1 at
+# the first fault.
 # Usage: test.sh [COUNT [SEED]] for the damaged texts; test.sh --remake stores the outputs of expected/ anew.
 set -euo pipefail
 cd "$(dirname "$0")/.."
@@ -30,6 +31,7 @@ while read -r name change; do
 done << 'END'
 given
 all-marked $s/.*/8 10 10 10/
+all-marked-not-by-10 $s/.*/8 10 14 11 16 10 10/
 none-marked $s/.*/8 11 11 11/
 garbling-marked $s/ 12 2 0 3 / 14 12 2 0 0 /
 one-price-unmarked $s/ 12 2 0 3 / 15 12 2 0 3 14 12 1 1 0 2 /
@@ -153,6 +155,88 @@ status 64 --report --json "$good"
 status 64 --show --json "$good"
 if [ -c /dev/full ]; then "$linkcheck" "$good" > /dev/full 2> "$work/error" && fail "a full disk is not noticed"; fi
 
+# ---- texts with and without a line of kind 8 ----
+
+# gives FILE ARGUMENTS...: the bytes of the file are written, and no message.
+gives() {
+    local due=$1
+    shift
+    status 0 "$@"
+    cmp "$due" "$work/out" || fail "$*: other bytes than those of $due"
+    if [ -s "$work/error" ]; then fail "$*: $(< "$work/error")"; fi
+}
+# turned_down WORDS OPTION FILE: nothing is written, and the message has these words.
+turned_down() {
+    status 2 "$2" "$3"
+    if [ -s "$work/out" ]; then fail "$2 $3: written, though it is turned down"; fi
+    [ "$(< "$work/error")" = "linkcheck: $3: $1" ] || fail "$2 $3: \"$1\" is due, not \"$(< "$work/error")\""
+}
+with_line() { awk '{ print } /^     3     0/ { formulas = formulas "    10" } END { print "     8" formulas }' "$1"; }
+# A table without the line gets it, unless the fields are too many, and loses it again.
+try_unmarked() {
+    local marked=$work/marked/${1##*/} fields
+    with_line "$1" > "$work/due_text"
+    fields=$(($(tr -d '\n' < "$work/due_text" | wc -c) / 6))
+    gives "$1" --unmark "$1"
+    if [ "$fields" -gt 4096 ]; then
+        turned_down "turned down 16 (length of the result): $fields fields with the line of kind 8, at most 4096 in all" --mark "$1"
+        return
+    fi
+    gives "$work/due_text" --mark "$1"
+    cp "$work/out" "$marked"
+    gives "$1" --unmark "$marked"
+    printf '%s\n' "$2" >> "$work/due_reports"
+}
+# A table with the line keeps it, and loses it if its formulas are 10.
+try_marked() {
+    local last
+    last=$(tail -n 1 "$1")
+    gives "$1" --mark "$1"
+    if [ "${last//"    10"/}" = "     8" ]; then
+        gives <(sed '$d' "$1") --unmark "$1"
+    else
+        status 2 --unmark "$1"
+        [[ $(< "$work/error") =~ ": turned down 15 (marks), line $(wc -l < "$1"): the formula of row "[1-9][0-9]*" is not 10"$ ]] ||
+            fail "--unmark $1: 15 is due, not \"$(< "$work/error")\""
+    fi
+}
+# What is turned down by the check is so here, with the same words.
+mkdir "$work/marked"
+tried=0
+while IFS= read -r line <&3 && IFS= read -r report <&4; do
+    table=${line%%  *} words=${line#*  }
+    if [[ $table =~ /[cs][0-9]*_ ]]; then continue; fi
+    if [[ $words == "turned down "* ]]; then for look in --mark --unmark; do turned_down "$words" $look "$table"; done
+    elif tail -n 1 "$table" | grep -q '^     8'; then try_marked "$table"
+    else try_unmarked "$table" "$report"; fi
+    tried=$((tried + 1))
+done 3< "$work/words" 4< "$work/due"
+[ "$tried" -ge 500 ] || fail "only $tried tables tried with --mark and --unmark"
+"$linkcheck" --report "$work/marked" > "$work/reports" || [ $? = 1 ] || fail "a text with a line of kind 8 is turned down"
+cmp "$work/due_reports" "$work/reports" || fail "the line of kind 8 changes a report"
+gives "$tables/m_P_given.txt" --mark "$good"
+input=$good gives "$tables/m_P_given.txt" --mark -
+input=$tables/m_P_given.txt gives "$good" --unmark -
+turned_down "turned down 15 (marks), line 15: the formula of row 3 is not 10" --unmark "$work/marks/all-marked-not-by-10.txt"
+# With the last of its 15 marks as its invariant, a table of so many fields has as many again once its marks are 10.
+for fields in 4096 4097; do
+    awk 'NR == FNR { last = $0; next } /^     5/ { $0 = "     5" substr(last, 91) } !/^     8/' \
+        "$tables/m_t3_fields_$fields.txt" "$tables/m_t3_fields_$fields.txt" > "$work/with_$fields"
+done
+gives <(with_line "$work/with_4096") --mark "$work/with_4096"
+turned_down "turned down 16 (length of the result): 4097 fields with the line of kind 8, at most 4096 in all" --mark "$work/with_4097"
+turned_down "turned down 4 (kinds of lines): no line of kind 7" --mark "$none"
+for look in --mark --unmark; do
+    status 2 $look /dev/zero
+    status 3 $look "$work/missing"
+    status 3 $look "$work"
+    status 64 $look
+    status 64 $look "$good" "$bad"
+    status 64 $look --json "$good"
+    status 64 $look -j 2 "$good"
+    status 64 $look --show "$good"
+done
+
 # Too many states.
 "$linkcheck" --columns linkcheck/test/wide.txt > "$work/wide.txt"
 status 1 --dot spec "$work/wide.txt"
@@ -208,7 +292,7 @@ looks() {
 looks_at_each() {
     local look file
     for file in "${few[@]}"; do
-        for look in "--show" "--aut" "--aut spec" "--dot" "--columns"; do
+        for look in "--show" "--aut" "--aut spec" "--dot" "--columns" "--mark" "--unmark"; do
             # shellcheck disable=SC2086
             "$@" $look "$file" > /dev/null 2> "$work/error" || [ $? -le 2 ] || fail "$* $look $file: $(cat "$work/error")"
         done

@@ -18,6 +18,7 @@ compile linkcheck/test/nonblocking.c -o "$work/nonblocking"
 
 tables=compare/tables
 good=$tables/P_given.txt bad=$tables/P_data_row3.txt none=$tables/t45.txt
+marked=$tables/m_P_given.txt other=examples/retry.txt full=$tables/m_t3_fields_4096_without.txt
 EIO=5 EINTR=4 EAGAIN=11 ENOMEM=12 EACCES=13 EMFILE=24 ENOSPC=28 ECHILD=10 ECONNRESET=104
 
 fail() {
@@ -53,13 +54,13 @@ faulty() {
 # A whole table has come when reading fails: no verdict, and no columns. The pipe stays open for writing, so that its end is never told.
 mkfifo "$work/pipe"
 exec 9<> "$work/pipe"
-for arguments in "-" "--json -" "-j 2 - $good" "--show -" "--aut -" "--columns" "--columns -"; do
+for arguments in "-" "--json -" "-j 2 - $good" "--show -" "--aut -" "--columns" "--columns -" "--mark -" "--unmark -"; do
     cat "$good" >&9
     # shellcheck disable=SC2086
     due 3 "linkcheck: -: Resource temporarily unavailable" "$work/nonblocking" "$linkcheck" $arguments <&9
     if grep -v -e unreadable -e 'not read$' -e "^$good  accepted" "$work/out"; then fail "$arguments: written after a read error"; fi
 done
-for look in --columns --show --aut --dot; do
+for look in --columns --show --aut --dot --mark --unmark; do
     due 3 "linkcheck: -: Connection reset by peer" faulty read 2 $ECONNRESET "$linkcheck" $look - < "$good"
     written "" "$look after a read error"
     due 3 "linkcheck: $good: Input/output error" faulty read 2 $EIO "$linkcheck" $look "$good"
@@ -126,6 +127,7 @@ done
 # A message that can't be written.
 closed '2>&-' 3 --columns README.md
 closed '2>&-' 3 --columns "$work/missing"
+closed '2>&-' 3 --unmark "$other"
 
 # What a process sends is looked at: if any byte of its first header is another, its four tables are not checked, named and counted.
 four=("$good" "$good" "$good" "$good")
@@ -136,7 +138,8 @@ for ((place = 0; place < 32; place++)); do
 4 tables: 4 accepted, 0 failed, 0 turned down; 4 not read" "byte $place of a header"
 done
 
-# A library that was made for other rules: another verdict, a report that says something else, a text that is no table.
+# A library that was made for other rules: another verdict, a report that says something else, a text that is no table; a result that can't
+# be, a number without or beside one, another number than is due.
 if [ $# = 0 ]; then
     compile linkcheck/*.c linkcheck/test/other_rules.c -o "$work/other"
     while read -r returns verdict table; do
@@ -153,15 +156,32 @@ if [ $# = 0 ]; then
 4294967295 0 $good
 0 0 $none
 END
+    while read -r returns number arguments; do
+        # shellcheck disable=SC2086
+        OTHER_RETURNS=$returns OTHER_VERDICT=$number due 3 "libchecker.a was built for other rules" "$work/other" $arguments
+        written "" "$arguments by other rules"
+    done << END
+0 0 --mark $good
+24661 0 --mark $good
+800 16 --mark $good
+0 8 --mark $good
+0 15 --mark $other
+0 4 --unmark $good
+800 0 --unmark $none
+800 0 --unmark $other
+800 0 --mark $full
+END
 fi
 
 # ---- writing ----
 
 # A full disk, and one that tells so when the output is closed.
-due 3 "linkcheck: cannot write: Input/output error" faulty close 1 $EIO "$linkcheck" --show - < "$good"
+for look in --show --mark --unmark; do
+    due 3 "linkcheck: cannot write: Input/output error" faulty close 1 $EIO "$linkcheck" $look - < "$good"
+done
 if [ -c /dev/full ]; then
     for arguments in "$good" "-j 2 $good $bad" "--report $good" "--json $good" "--show $good" "--aut $good" "--dot $good" \
-        "--columns $good" "--help"; do
+        "--columns $good" "--mark $good" "--unmark $marked" "--help"; do
         got=0
         # shellcheck disable=SC2086
         "$linkcheck" $arguments > /dev/full 2> "$work/error" || got=$?
@@ -186,14 +206,14 @@ named error 64 "linkcheck: unknown option: --$shown" "--$odd"
 named error 64 "linkcheck: -j takes a number from 1 to 256: $shown" -j "$odd" "$good"
 named error 64 "linkcheck: impl or spec is due, not: $shown" --aut "$odd" "$good"
 named error 64 "linkcheck: too many arguments: $shown" --show "$good" "$odd"
-for look in "" --json --report --show --columns --aut --dot; do
+for look in "" --json --report --show --columns --aut --dot --mark --unmark; do
     named error 3 "linkcheck: $work/$shown: No such file or directory" $look "$work/$odd"
 done
 escaped="\\u001b[31m\\u000a\\ufffd\\u009b\\u007f"$'\303\251\342\202\254'"\\ufffd\\ufffd\\ufffd"
 named out 3 "{\"file\":\"$work/$escaped\",\"verdict\":\"unreadable\",\"why\":\"No such file or directory\"}" --json "$work/$odd"
 echo x > "$work/$odd"
 named error 2 "linkcheck: $work/$shown: line 1, field 1: not a number from 0 to 65535" --columns "$work/$odd"
-for look in --aut --dot; do
+for look in --aut --dot --mark --unmark; do
     named error 2 "linkcheck: $work/$shown: turned down 2 (columns), line 1: 1 bytes are not whole fields of six columns" $look "$work/$odd"
 done
 named out 2 "$work/$shown  turned down 2 (columns), line 1: 1 bytes are not whole fields of six columns" "$work/$odd"
@@ -288,6 +308,9 @@ with_every_fault --show "$bad"
 with_every_fault --aut "$good"
 with_every_fault --dot spec "$good"
 with_every_fault --aut "$none"
+with_every_fault --mark "$good"
+input=$marked with_every_fault --unmark -
+with_every_fault --unmark "$other"
 sanitized="no sanitizer"
 export ASAN_OPTIONS=exitcode=99:verify_asan_link_order=0 UBSAN_OPTIONS=print_stacktrace=1
 if [ $# = 0 ] && linkcheck/build.sh "$work/sanitized" -g -fsanitize=address,undefined -fno-sanitize-recover=all 2> "$work/error" &&
@@ -296,6 +319,7 @@ if [ $# = 0 ] && linkcheck/build.sh "$work/sanitized" -g -fsanitize=address,unde
     with_every_fault --json -j 2 "$good" "$work/missing" "$work/store/within"
     input=$good with_every_fault --columns
     with_every_fault --dot spec "$good"
+    with_every_fault --mark "$good"
     linkcheck=$plain
 fi
 unset FAULT_REACHED MALLOC_PERTURB_

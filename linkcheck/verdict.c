@@ -20,11 +20,11 @@ static unsigned report_number(const uint8_t *report, int field) {
     return number;
 }
 
-/* A library that gives another verdict than these three, or takes a text which can't be taken apart here, was made for other rules. */
-static _Noreturn void other_rules(void) {
+_Noreturn void other_rules(void) {
     give_up("libchecker.a was built for other rules than linkcheck; build both anew");
 }
 
+/* A library that gives another verdict than these three, or takes a text which can't be taken apart here, was made for other rules. */
 void verdict_of(struct verdict *v, const struct text *t) {
     v->outcome = check_design(t->bytes, t->len, v->report, sizeof v->report);
     if (v->outcome > CHECK_TURNED_DOWN || report_number(v->report, 0) != v->outcome) other_rules();

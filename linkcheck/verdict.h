@@ -28,4 +28,7 @@ struct verdict {
 /* Checks the text. Everything that decides comes from check_design. */
 void verdict_of(struct verdict *v, const struct text *t);
 
+/* Ends the program, as the library was made for other rules than linkcheck. */
+_Noreturn void other_rules(void);
+
 #endif

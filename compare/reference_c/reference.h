@@ -7,6 +7,10 @@
 /* As check_design. */
 uint32_t reference_check(const uint8_t *text, size_t text_len, uint8_t *report, size_t report_len);
 
+/* As mark_design and unmark_design. */
+size_t reference_mark(const uint8_t *text, size_t text_len, uint8_t *buffer, size_t buffer_len, uint32_t *number);
+size_t reference_unmark(const uint8_t *text, size_t text_len, uint8_t *buffer, size_t buffer_len, uint32_t *number);
+
 /* A new desk, and its end. */
 struct reference_desk *reference_desk(void);
 void reference_free(struct reference_desk *desk);

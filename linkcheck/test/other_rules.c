@@ -1,5 +1,5 @@
-/* A check_design by other rules, in place of the library's: it accepts every text, but returns OTHER_RETURNS and has OTHER_VERDICT in the
- * report's first field. */
+/* Functions by other rules, in place of the library's. check_design accepts every text, but returns OTHER_RETURNS and has OTHER_VERDICT in
+ * the report's first field. mark_design and unmark_design return OTHER_RETURNS, give the number OTHER_VERDICT, and write nothing. */
 #include "../../include/checker.h"
 
 #include <stdio.h>
@@ -12,4 +12,14 @@ uint32_t check_design(const uint8_t *text, size_t text_len, uint8_t *report, siz
     snprintf(made, sizeof made, "%6s     0     0     0     0\n", getenv("OTHER_VERDICT"));
     memcpy(report, made, report_len < CHECK_REPORT_BYTES ? report_len : CHECK_REPORT_BYTES);
     return (uint32_t)atoi(getenv("OTHER_RETURNS"));
+}
+
+size_t mark_design(const uint8_t *text, size_t text_len, uint8_t *buffer, size_t buffer_len, uint32_t *number) {
+    (void)text, (void)text_len, (void)buffer, (void)buffer_len;
+    *number = (uint32_t)strtoul(getenv("OTHER_VERDICT"), NULL, 10);
+    return strtoul(getenv("OTHER_RETURNS"), NULL, 10);
+}
+
+size_t unmark_design(const uint8_t *text, size_t text_len, uint8_t *buffer, size_t buffer_len, uint32_t *number) {
+    return mark_design(text, text_len, buffer, buffer_len, number);
 }

@@ -1,7 +1,8 @@
-//! The reference checker for C programs: its one-call check and its desk. reference.h says what each function does.
+//! The reference checker for C programs: its one-call check, its two writers and its desk. reference.h says what each function does.
 
 use reference_checker::desk::{Advanced, Desk, Standing};
 use reference_checker::level::Level;
+use reference_checker::sorts::{to_marked, to_unmarked};
 use std::slice;
 use std::sync::LazyLock;
 
@@ -19,6 +20,14 @@ unsafe fn lent<'a>(bytes: *const u8, len: usize) -> &'a [u8] {
     }
 }
 
+unsafe fn lent_to_write<'a>(bytes: *mut u8, len: usize) -> &'a mut [u8] {
+    if len == 0 {
+        &mut []
+    } else {
+        slice::from_raw_parts_mut(bytes, len)
+    }
+}
+
 fn done(answer: Result<(), u8>) -> u32 {
     answer.map_or_else(u32::from, |()| 0)
 }
@@ -27,8 +36,27 @@ fn done(answer: Result<(), u8>) -> u32 {
 /// The text's bytes are there, and so is the report's area, which nothing else uses.
 #[no_mangle]
 pub unsafe extern "C" fn reference_check(text: *const u8, text_len: usize, report: *mut u8, report_len: usize) -> u32 {
-    let buffer = if report_len == 0 { &mut [] } else { slice::from_raw_parts_mut(report, report_len) };
-    u32::from(reference_checker::check_at(*LEVEL, lent(text, text_len), buffer))
+    u32::from(reference_checker::check_at(*LEVEL, lent(text, text_len), lent_to_write(report, report_len)))
+}
+
+/// The length of a writer's result, with the number 0; or 0, with the number by which it is turned down.
+unsafe fn written(result: Result<usize, u8>, number: *mut u32) -> usize {
+    *number = result.map_or_else(u32::from, |_| 0);
+    result.unwrap_or(0)
+}
+
+/// # Safety
+/// The text's bytes are there, and so are the buffer and the number, which nothing else uses.
+#[no_mangle]
+pub unsafe extern "C" fn reference_mark(text: *const u8, text_len: usize, buffer: *mut u8, buffer_len: usize, number: *mut u32) -> usize {
+    written(to_marked(*LEVEL, lent(text, text_len), lent_to_write(buffer, buffer_len)), number)
+}
+
+/// # Safety
+/// As for `reference_mark`.
+#[no_mangle]
+pub unsafe extern "C" fn reference_unmark(text: *const u8, text_len: usize, buffer: *mut u8, buffer_len: usize, number: *mut u32) -> usize {
+    written(to_unmarked(*LEVEL, lent(text, text_len), lent_to_write(buffer, buffer_len)), number)
 }
 
 #[no_mangle]

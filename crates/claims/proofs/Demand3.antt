@@ -8,7 +8,7 @@ use Rattle.reader.specs.Text.{fieldsByLine}
 use Rattle.criteria.specs.Bisimilar.{Demand3}
 use Rattle.criteria.specs.Unmarked.{Unmarked}
 use Rattle.criteria.proofs.Demand3.{demand3}
-use Rattle.criteria.proofs.Unmarked.{meets-same, lowest-same, demand3-plain}
+use Rattle.criteria.proofs.Unmarked.{unmarked-all, meets-same, lowest-same, demand3-plain}
 use Rattle.decision.proofs.Demand2.{demand2}
 use Rattle.design.specs.Lines.{ofKind, countOf, designOf, designText}
 use Rattle.design.specs.Faults.{DesignText}
@@ -44,6 +44,7 @@ claim3 = record {
   keeps = keeps;
   all-good = among;
   without-marks = λ text none.
-      let u = unmarked text none in
-      record { criteria = meets-same (designText text) u; failure = lowest-same (designText text) u; keeps = λ a. demand3-plain (designText text) u (keeps text a .1) };
+      let d = designText text in
+      let all = unmarked-all d (unmarked text none) in
+      record { criteria = meets-same d all; failure = lowest-same d all; keeps = λ a. demand3-plain d all (keeps text a .1) };
 }

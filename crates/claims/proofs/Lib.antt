@@ -12,3 +12,4 @@ pub mod Divided
 pub mod Pump
 pub mod PumpByFive
 pub mod Text
+pub mod Writers

@@ -13,9 +13,11 @@ use Rattle.desk.specs.declared.Desk.{Desk}
 use Rattle.desk.specs.declared.AfterLoad.{AfterLoad}
 use Rattle.desk.specs.Desk.{emptyDesk, loadOf, advanceOf, tellOf, dropOf}
 use Rattle.desk.proofs.Numbers.{load-number, advance-number, advance-count, verdict-numbers, drop-number}
+use Rattle.conversion.specs.Result.{Way, there, back}
+use Rattle.conversion.specs.Answer as writer
 use Rattle.checker.specs.OneCall.{answerOf, bufferAfter}
 use Rattle.claims.specs.Calls.{Called, load, advance, verdict, drop}
-use Rattle.claims.specs.Contracts.{Loads, loads, Checks, checks, AsksNothing, Answered}
+use Rattle.claims.specs.Contracts.{Loads, loads, Checks, checks, Writes, marks, unmarks, AsksNothing, Answered}
 
 -- ---- one call
 
@@ -28,6 +30,19 @@ answered (checks κs text report after r p) = p .0
 pub written : {text report after : List ℕ} {r : ℕ} → Checks text report r after → after ≡ bufferAfter text report
 written (checks κs text report after r p) = p .1
 
+-- the number, the length and the buffer of a writer's call
+pub writer-number : {way : Way} {text buffer after : List ℕ} {n r : ℕ} → Writes way text buffer n r after → n ≡ writer.answerOf way text buffer .number
+writer-number (marks κs text buffer after before number r p) = p .1 .1
+writer-number (unmarks κs text buffer after before number r p) = p .1 .1
+
+pub writer-length : {way : Way} {text buffer after : List ℕ} {n r : ℕ} → Writes way text buffer n r after → r ≡ writer.answerOf way text buffer .length
+writer-length (marks κs text buffer after before number r p) = p .0
+writer-length (unmarks κs text buffer after before number r p) = p .0
+
+pub writer-buffer : {way : Way} {text buffer after : List ℕ} {n r : ℕ} → Writes way text buffer n r after → after ≡ writer.bufferAfter way text buffer
+writer-buffer (marks κs text buffer after before number r p) = p .1 .0
+writer-buffer (unmarks κs text buffer after before number r p) = p .1 .0
+
 -- ---- nothing is asked, and every call has an answer
 
 pub asks-nothing : AsksNothing
@@ -38,11 +53,17 @@ asks-nothing = record {
   of-verdict = λ d. tt;
   of-drop = λ d. tt;
   of-check = λ κs text report. tt;
+  of-mark = λ κs text buffer number. tt;
+  of-unmark = λ κs text buffer number. tt;
 }
 
--- bytes lent from anywhere
-abbrev lent : List ℕ → RefT (List ℕ)
-lent bytes = record { ptr = (0, 0); name = 0; now = bytes }
+-- bytes, or a number, lent from anywhere
+abbrev lent : {A : Type 0} → A → RefT A
+lent x = record { ptr = (0, 0); name = 0; now = x }
+
+answer-writer : (way : Way) (text buffer : List ℕ) → Writes way text buffer (writer.answerOf way text buffer .number) (writer.answerOf way text buffer .length) (writer.bufferAfter way text buffer)
+answer-writer there text buffer = marks ([], ([], ([], tt))) (lent text) (lent buffer) (lent (writer.bufferAfter there text buffer)) (lent 0) (lent (writer.answerOf there text buffer .number)) _ (refl, (refl, refl))
+answer-writer back text buffer = unmarks ([], ([], ([], tt))) (lent text) (lent buffer) (lent (writer.bufferAfter back text buffer)) (lent 0) (lent (writer.answerOf back text buffer .number)) _ (refl, (refl, refl))
 
 pub answered-all : Answered
 answered-all = record {
@@ -56,6 +77,7 @@ answered-all = record {
     bufferAfter text report,
     checks ([], ([], tt)) (lent text) (lent report) (lent (bufferAfter text report)) (answerOf text report) (refl, refl),
   );
+  writer = λ way text buffer. (writer.answerOf way text buffer .number, writer.answerOf way text buffer .length, writer.bufferAfter way text buffer, answer-writer way text buffer);
 }
 
 -- ---- lists

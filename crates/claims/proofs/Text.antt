@@ -3,23 +3,13 @@
 use Prim.Native.Nat.{ℕ}
 use mathlib.Core.Path.{_≡_, ap, _∙_}
 use mathlib.Core.List.{List}
-use Rattle.reader.specs.Text.{textOf, fieldsByLine}
+use Rattle.reader.specs.Text.{textOf}
 use Rattle.reader.proofs.Written.{text-written}
-use Rattle.kinds.specs.Kinds.{wholeText}
 use Rattle.design.specs.Lines.{designText}
-use Rattle.design.specs.Faults.{DesignText, second, fourth, sixth}
+use Rattle.design.specs.Faults.{DesignText, second}
 use Rattle.design.specs.Print.{printLines}
-use Rattle.design.proofs.Fault4.{layout-of}
-use Rattle.design.proofs.Held.{TermsFit}
-use Rattle.design.proofs.Reprinted.{lines-again}
-use Rattle.line_check.proofs.LineFits.{made-of}
+use Rattle.loader.proofs.Lowest.{free-exactly}
+use Rattle.loader.proofs.Passed.{lines-printed}
 
-module _ (text : List ℕ) (is : DesignText text) where
-  abbrev lines : List (List ℕ)
-  lines = fieldsByLine text
-
-  made : TermsFit lines
-  made line m h = made-of lines (λ f. is 6 (sixth f)) m h
-
-  pub printed-again : textOf (printLines (designText text)) ≡ text
-  printed-again = ap textOf (lines-again lines (layout-of wholeText lines (λ f. is 4 (fourth f))) made) ∙ text-written text (λ f. is 2 (second f))
+pub printed-again : (text : List ℕ) → DesignText text → textOf (printLines (designText text)) ≡ text
+printed-again text is = ap textOf (lines-printed text (free-exactly text .1 is)) ∙ text-written text (λ f. is 2 (second f))

@@ -16,6 +16,9 @@ use Rattle.desk.proofs.Desk.advance.Reads as advance-reads
 use Rattle.desk.proofs.Desk.verdict.Reads as verdict-reads
 use Rattle.desk.proofs.Desk.drop.Reads as drop-reads
 use Rattle.checker.proofs.check_design.Reads as check-reads
+use Rattle.checker.proofs.mark_design.Reads as mark-reads
+use Rattle.checker.proofs.unmark_design.Reads as unmark-reads
+use Rattle.conversion.specs.Result.{Way, there, back}
 use Rattle.claims.specs.Calls.{Called, load, advance, verdict, drop}
 
 -- ---- one call
@@ -42,6 +45,16 @@ pub data Checks : List ℕ → List ℕ → ℕ → List ℕ → Type 0 where
   checks : (κs : Lfts 2) (text report after : RefT (List ℕ)) (r : ℕ) → check-reads.Post κs (text, (report, tt)) r (text, (after, tt))
       → Checks (now text) (now report) r (now after)
 
+-- a writer's call, there or back, on this text with this buffer gives this number and this length, and leaves the buffer so; what its place
+-- for the number held before does not matter
+pub data Writes : Way → List ℕ → List ℕ → ℕ → ℕ → List ℕ → Type 0 where
+  marks : (κs : Lfts 3) (text buffer after : RefT (List ℕ)) (before number : RefT ℕ) (r : ℕ)
+      → mark-reads.Post κs (text, (buffer, (before, tt))) r (text, (after, (number, tt)))
+      → Writes there (now text) (now buffer) (now number) r (now after)
+  unmarks : (κs : Lfts 3) (text buffer after : RefT (List ℕ)) (before number : RefT ℕ) (r : ℕ)
+      → unmark-reads.Post κs (text, (buffer, (before, tt))) r (text, (after, (number, tt)))
+      → Writes back (now text) (now buffer) (now number) r (now after)
+
 -- ---- a list of desk calls
 
 -- after these calls, the latest first, the desk is this
@@ -64,6 +77,8 @@ pub record AsksNothing : Type 0 where
   pub of-verdict : (desk : Desk) → verdict-reads.Pre tt (desk, tt)
   pub of-drop : (desk : Desk) → drop-reads.Pre tt (desk, tt)
   pub of-check : (κs : Lfts 2) (text report : RefT (List ℕ)) → check-reads.Pre κs (text, (report, tt))
+  pub of-mark : (κs : Lfts 3) (text buffer : RefT (List ℕ)) (number : RefT ℕ) → mark-reads.Pre κs (text, (buffer, (number, tt)))
+  pub of-unmark : (κs : Lfts 3) (text buffer : RefT (List ℕ)) (number : RefT ℕ) → unmark-reads.Pre κs (text, (buffer, (number, tt)))
 
 pub record Answered : Type 0 where
   pub new : (desk : Desk) × News desk
@@ -72,3 +87,4 @@ pub record Answered : Type 0 where
   pub verdict : (desk : Desk) → (r : AfterVerdict) × Tells desk r
   pub drop : (desk : Desk) → (r : AfterDrop) × Drops desk r
   pub check : (text report : List ℕ) → (r : ℕ) × (after : List ℕ) × Checks text report r after
+  pub writer : (way : Way) (text buffer : List ℕ) → (number r : ℕ) × (after : List ℕ) × Writes way text buffer number r after

@@ -1,25 +1,43 @@
--- A design without marks means what 01 says of it: every internal step is marked, so criteria, focus points and runs are those of
--- specs/Unmarked.
-use mathlib.Core.Path.{_≡_, refl}
+-- A design in which all steps are marked (it has no marks, or each formula is `10`) means what 01 says of it: criteria, focus points and
+-- runs are those of specs/Unmarked. And these read no marks.
+use mathlib.Core.Path.{_≡_, refl, _∙_}
 use mathlib.Core.Logic.{_↔_}
-use mathlib.Core.List.{_∷_}
-use Prim.Native.Nat.{ℕ}
-use Rattle.criteria.specs.Design.{Design, State}
-use Rattle.criteria.specs.Step.{Internal, Marked, all-marked, MarkedStep, FocusPoint, Chain, Run, none, more, statesOf}
+use mathlib.Core.Bool.{true}
+use mathlib.Core.List.{List, [], _∷_}
+use Prim.Native.Nat.{ℕ, _-_}
+use native.Mathlib.Omega.{arith}
+use lib.ListN.{take, replicate, getD-replicate}
 use Rattle.foundation.specs.Trial.{Place}
-use Rattle.criteria.specs.Criteria.{Criteria, Meets}
+use Rattle.foundation.proofs.Nth.{nth-positive}
+use Rattle.terms.specs.Tree.{Formula, const, noFormula, evalF}
+use Rattle.criteria.specs.Design.{Design, State, InvariantState, withMarks}
+use Rattle.criteria.specs.Step.{Internal, all-marked, internalRows, MarkedStep, FocusPoint, Chain, Run, none, more, statesOf}
+use Rattle.criteria.specs.Criteria.{Criterion1, Criteria, Meets}
 use Rattle.criteria.specs.Failure.{Failure, FailsAt, second, third, fourth, fifth, sixth, seventh, eighth, ninth, Fails, start, at, LowestFailure}
 use Rattle.criteria.specs.Bisimilar.{Promised, Demand3}
 use Rattle.criteria.specs.Unmarked as plain
-use Rattle.criteria.specs.Unmarked.{Unmarked}
+use Rattle.criteria.specs.Unmarked.{Unmarked, AllMarked}
+use Rattle.criteria.proofs.Rows.{is-row-at, is-row-below, internal-below, holds-marked}
 
-module _ (d : Design) (unmarked : Unmarked d) where
-  -- "Without the line all steps are marked."
-  pub marked-all : (k : ℕ) (s : State) (e : ℕ) → Marked d k s e
-  marked-all k s e = all-marked unmarked
+-- "Without the line all steps are marked."
+pub unmarked-all : (d : Design) → Unmarked d → AllMarked d
+unmarked-all d unmarked k r is z s e = all-marked unmarked
 
+-- and so they are if each formula is `10`
+pub tens-all : (d : Design) → d .marks ≡ replicate (internalRows (d .impl .rows)) (const true) ∷ [] → AllMarked d
+unfolding evalF
+tens-all d tens k r is z s e =
+    let rows = d .impl .rows in
+    let from = nth-positive is in
+    let to = is-row-below is in
+    let fewer = internal-below rows k (omega arith) (omega arith) (rw (is-row-at is) z) in
+    holds-marked d k s e is z (rw (tens, getD-replicate (internalRows rows) (internalRows (take (k - 1) rows)) (const true) noFormula fewer))
+
+module _ (d : Design) (all : AllMarked d) where
   pub marked-step : {s s′ : State} → Internal (d .impl) s s′ → MarkedStep d s s′
-  marked-step {s} t = record { internal = t; marked = marked-all (t .step .at) s (t .step .sum) }
+  marked-step {s} t =
+      let p = t .step in
+      record { internal = t; marked = all (p .at) (p .row) (p .is-row) (p .action ∙ t .zero) s (p .sum) }
 
   pub chain-run : {s s′ : State} {n : ℕ} → Chain d s n s′ → Run d s n s′
   chain-run none = none
@@ -31,7 +49,7 @@ module _ (d : Design) (unmarked : Unmarked d) where
   same-states (more {s = s} t c) = λ i. s ∷ same-states c i
 
   pub focus-same : (s : State) → FocusPoint d s ↔ plain.FocusPoint d s
-  focus-same s = (λ f k r e is z on. f k r e is z on (marked-all k s e), λ f k r e is z on mark. f k r e is z on)
+  focus-same s = (λ f k r e is z on. f k r e is z on (all k r is z s e), λ f k r e is z on mark. f k r e is z on)
 
   pub criteria-same : (s : State) → Criteria d s ↔ plain.Criteria d s
   criteria-same s = (there, back)
@@ -41,7 +59,7 @@ module _ (d : Design) (unmarked : Unmarked d) where
         second = c .second;
         third = c .third;
         fourth = c .fourth;
-        fifth = λ k r e is on z. c .fifth k r e is on z (marked-all k s e);
+        fifth = λ k r e is on z. c .fifth k r e is on z (all k r is z s e);
         sixth = c .sixth;
         seventh = λ k q e is f. c .seventh k q e is (focus-same s .1 f);
         eighth = c .eighth;
@@ -80,7 +98,7 @@ module _ (d : Design) (unmarked : Unmarked d) where
   back (plain.second n) = second n
   back (plain.third is n) = third is n
   back (plain.fourth is n) = fourth is n
-  back {s} (plain.fifth {k = k} {e = e} is n) = fifth is (λ c. n (λ on z. c on z (marked-all k s e)))
+  back {s} (plain.fifth {k = k} {e = e} {r = r} is n) = fifth is (λ c. n (λ on z. c on z (all k r is z s e)))
   back (plain.sixth is n) = sixth is n
   back {s} (plain.seventh is n) = seventh is (λ c. n (λ f. c (focus-same s .1 f)))
   back (plain.eighth is n) = eighth is n
@@ -115,3 +133,51 @@ module _ (d : Design) (unmarked : Unmarked d) where
   -- and demand 3 gives 00's
   pub demand3-plain : Demand3 d → plain.Demand3 d
   demand3-plain q = record { each = λ s i. promised-plain s (q .each s i); initial-among = q .initial-among; initial-mapped = q .initial-mapped }
+
+-- ---- with other marks 01's criteria and lowest failure stay the same (d is the design with its own marks)
+
+module _ (d : Design) where
+  invariant-any : {ms ns : List (List Formula)} {s : State} → InvariantState (withMarks d ms) s → InvariantState (withMarks d ns) s
+  invariant-any i = record { in-size = i .in-size; invariant = i .invariant }
+
+  start-any : {ms ns : List (List Formula)} → Criterion1 (withMarks d ms) → Criterion1 (withMarks d ns)
+  start-any c = record { invariant = c .invariant; mapping = c .mapping }
+
+  criteria-any : {ms ns : List (List Formula)} {s : State} → plain.Criteria (withMarks d ms) s → plain.Criteria (withMarks d ns) s
+  criteria-any c = record {
+    second = c .second;
+    third = λ k r e is on. invariant-any (c .third k r e is on);
+    fourth = c .fourth;
+    fifth = c .fifth;
+    sixth = c .sixth;
+    seventh = c .seventh;
+    eighth = c .eighth;
+    ninth = c .ninth;
+  }
+
+  pub meets-any : (ms : List (List Formula)) → plain.Meets d ↔ plain.Meets (withMarks d ms)
+  meets-any ms = (go, go)
+    where
+      go : {ms ns : List (List Formula)} → plain.Meets (withMarks d ms) → plain.Meets (withMarks d ns)
+      go m = record { start = start-any (m .start); others = λ s i. criteria-any (m .others s (invariant-any i)) }
+
+  fails-at-any : {ms ns : List (List Formula)} {s : State} {x : Place}
+      → plain.FailsAt (withMarks d ms) s x → plain.FailsAt (withMarks d ns) s x
+  fails-at-any (plain.second n) = plain.second n
+  fails-at-any (plain.third is n) = plain.third is (λ c. n (λ on. invariant-any (c on)))
+  fails-at-any (plain.fourth is n) = plain.fourth is n
+  fails-at-any (plain.fifth is n) = plain.fifth is n
+  fails-at-any (plain.sixth is n) = plain.sixth is n
+  fails-at-any (plain.seventh is n) = plain.seventh is n
+  fails-at-any (plain.eighth is n) = plain.eighth is n
+  fails-at-any (plain.ninth is n) = plain.ninth is n
+
+  fails-any : {ms ns : List (List Formula)} (x : Failure) → plain.Fails (withMarks d ms) x → plain.Fails (withMarks d ns) x
+  fails-any x (plain.start n) = plain.start (λ c. n (start-any c))
+  fails-any x (plain.at i f) = plain.at (invariant-any i) (fails-at-any f)
+
+  pub lowest-any : (ms : List (List Formula)) (x : Failure) → plain.LowestFailure d x ↔ plain.LowestFailure (withMarks d ms) x
+  lowest-any ms x = (go, go)
+    where
+      go : {ms ns : List (List Formula)} → plain.LowestFailure (withMarks d ms) x → plain.LowestFailure (withMarks d ns) x
+      go l = record { fails = fails-any x (l .fails); none-before = λ y b f. l .none-before y b (fails-any y f) }

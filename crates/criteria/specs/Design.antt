@@ -39,6 +39,10 @@ pub record Design : Type 0 where
   -- row, in row order". `MarkIs` in Step says which formula is whose.
   pub marks : List (List Formula)
 
+-- the design with other marks
+abbrev pub withMarks : Design → List (List Formula) → Design
+withMarks d ms = record { impl = d .impl; spec = d .spec; invariant = d .invariant; mapping = d .mapping; measure = d .measure; marks = ms }
+
 -- row number k of these rows is r: "rows count from 1 within their process"
 abbrev pub RowIs : List Row → ℕ → Row → Type 0
 RowIs = Nth

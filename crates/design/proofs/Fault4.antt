@@ -31,7 +31,7 @@ pub data Climbs (table : Table) : ℕ → List (List ℕ) → Type 0 where
 abbrev CountFits : Entry → ℕ → Type 0
 CountFits e n = e .most ≢ 0 → Allowed e n
 
-abbrev LengthFits : Entry → ℕ → Type 0
+abbrev pub LengthFits : Entry → ℕ → Type 0
 LengthFits e n = (hasTerms (e .terms) ≡ false → n ≡ e .fixed) × (hasTerms (e .terms) ≡ true → e .fixed ≤ n)
 
 by-count : (e : Entry) (n : ℕ) → Reflects (CountFits e n) (countFitsBy e n)
@@ -105,12 +105,12 @@ module _ (table : Table) (lines : List (List ℕ)) where
       (by-each-line _ (lengthFits table) (λ line. by-length (entryOf table line) (length line)) lines)))
 
   -- no fault 4 is that layout
-  free : Layout table lines → Fault4 table lines → ⊥
-  free l (unknown {line = line} m e) = let k = known table (l .kinds) line m in omega arith
-  free l (falling f) = rising table f (l .kinds)
-  free l (wrong-count k z n) = n (l .counts k z)
-  free l (not-exactly {line = line} m e n) = n (l .lengths line m .0 e)
-  free l (too-few {line = line} m e n) = let h = l .lengths line m .1 e in omega arith
+  pub layout-free : Layout table lines → Fault4 table lines → ⊥
+  layout-free l (unknown {line = line} m e) = let k = known table (l .kinds) line m in omega arith
+  layout-free l (falling f) = rising table f (l .kinds)
+  layout-free l (wrong-count k z n) = n (l .counts k z)
+  layout-free l (not-exactly {line = line} m e n) = n (l .lengths line m .0 e)
+  layout-free l (too-few {line = line} m e n) = let h = l .lengths line m .1 e in omega arith
 
   -- what is decided is so if it can't be otherwise
   by-test : {P : Type 0} {b : Bool} → Reflects P b → ((P → ⊥) → ⊥) → P
@@ -129,7 +129,7 @@ module _ (table : Table) (lines : List (List ℕ)) where
       }
 
   pub by-layout : Reflects (Fault4 table lines → ⊥) (layoutFits table lines)
-  by-layout = by-iff free layout-of by-parts
+  by-layout = by-iff layout-free layout-of by-parts
 
 -- ---- and where the test says no, the fault is there
 

@@ -49,12 +49,12 @@ by-parts lines =
     (by-each-line _ numbersFit (λ line. by-numbers (entryOf wholeText line .role) line) lines)
     (by-leb _ 65536))
 
-free : (lines : List (List ℕ)) → Bounds lines → Fault5 lines → ⊥
-free lines b (size {line = line} m p e) = let h = b .numbers line m .0 p in let g = h .0 in omega arith
-free lines b (initial {line = line} m p l) = let h = b .numbers line m .0 p in let g = h .1 in omega arith
-free lines b (span {line = line} m r (inl e)) = let h = b .numbers line m .1 r in let g = h .0 in omega arith
-free lines b (span {line = line} m r (inr e)) = let h = b .numbers line m .1 r in let g = h .1 in omega arith
-free lines b (states l) = let h = b .few-states in omega arith
+pub bounds-free : (lines : List (List ℕ)) → Bounds lines → Fault5 lines → ⊥
+bounds-free lines b (size {line = line} m p e) = let h = b .numbers line m .0 p in let g = h .0 in omega arith
+bounds-free lines b (initial {line = line} m p l) = let h = b .numbers line m .0 p in let g = h .1 in omega arith
+bounds-free lines b (span {line = line} m r (inl e)) = let h = b .numbers line m .1 r in let g = h .0 in omega arith
+bounds-free lines b (span {line = line} m r (inr e)) = let h = b .numbers line m .1 r in let g = h .1 in omega arith
+bounds-free lines b (states l) = let h = b .few-states in omega arith
 
 pub bounds-of : (lines : List (List ℕ)) → (Fault5 lines → ⊥) → Bounds lines
 bounds-of lines f =
@@ -73,7 +73,7 @@ bounds-of lines f =
         (omega arith, omega arith)
 
 pub by-bounds : (lines : List (List ℕ)) → Reflects (Fault5 lines → ⊥) (boundsFit lines)
-by-bounds lines = by-iff (free lines) (bounds-of lines) (by-parts lines)
+by-bounds lines = by-iff (bounds-free lines) (bounds-of lines) (by-parts lines)
 
 -- and where the test says no, the fault is there
 numbers-fault : (lines : List (List ℕ)) → SomeLine numbersFit lines → Fault5 lines

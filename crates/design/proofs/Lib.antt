@@ -8,3 +8,5 @@ pub mod Held
 pub mod Printed
 pub mod Reprinted
 pub mod Marks
+pub mod Faultless
+pub mod LastLine

@@ -1,18 +1,19 @@
 -- What a desk's arrays hold is what was put there: line i is the i-th line (`line-held`, `line-from`), so the lines that they hold
--- are those given (`lines-held`).
+-- are those given (`lines-held`), and the first of them the first of those (`first-held`). And what is stored for one line more
+-- (`fields-more`, `starts-more`).
 use Prim.Native.Nat.{ℕ, zero, suc, _+_, _-_, _≤_, _<_}
-use mathlib.Core.Path.{_≡_, refl, ap, _∙_}
-use mathlib.Core.List.{List, [], _∷_, _++_, map, append-assoc}
+use mathlib.Core.Path.{_≡_, refl, sym, ap, _∙_}
+use mathlib.Core.List.{List, [], _∷_, _++_, map, append-assoc, append-nil}
 use native.Mathlib.Omega.{arith}
 use native.Mathlib.Numerals.{add-one}
-use lib.ListN.{length, getD, take, drop, replicate, length-replicate, length-append, List·getD-append}
-use lib.Seq.{sets-eq, drop-append-add, drop-cons, take-append-seam, take-length}
+use lib.ListN.{length, getD, set, take, drop, replicate, length-replicate, length-append, List·getD-append}
+use lib.Seq.{sets, sets-eq, drop-append-add, drop-cons, take-append-seam, take-length}
 use Rattle.reader.specs.Text.{countAll}
 use Rattle.design.specs.Loaded.{lineFrom, lineAt, eachLine, heldLines, joined, startsFrom, fieldsHeld, startsHeld}
 
 -- ---- lists of lines
 
-length-joined : (lines : List (List ℕ)) → length (joined lines) ≡ countAll lines
+pub length-joined : (lines : List (List ℕ)) → length (joined lines) ≡ countAll lines
 unfolding joined countAll
 length-joined [] = refl
 length-joined (line ∷ lines) = rw (length-append line (joined lines), length-joined lines)
@@ -39,6 +40,41 @@ drop-joined (line ∷ lines) zero more = refl
 drop-joined (line ∷ lines) (suc i) more =
     rw (append-assoc line (joined lines) more, drop-append-add line (joined lines ++ more) (countAll (take i lines))) (drop-joined lines i more)
 
+-- ---- storing one list after another, and one line more
+
+pub sets-append : (l xs ys : List ℕ) (to : ℕ) → sets (sets l to xs) (to + length xs) ys ≡ sets l to (xs ++ ys)
+sets-append l [] ys to = let e : to + 0 ≡ to = omega arith in rw e
+sets-append l (x ∷ xs) ys to =
+    let e : to + suc (length xs) ≡ suc to + length xs = omega arith in
+    rw e (sets-append (set l to x) xs ys (suc to))
+
+joined-more : (lines : List (List ℕ)) (line : List ℕ) → joined (lines ++ line ∷ []) ≡ joined lines ++ line
+unfolding joined
+joined-more [] line = append-nil line
+joined-more (l ∷ lines) line = ap (λ r. l ++ r) (joined-more lines line) ∙ sym (append-assoc l (joined lines) line)
+
+starts-then : (at : ℕ) (lines : List (List ℕ)) (line : List ℕ)
+    → startsFrom at (lines ++ line ∷ []) ≡ startsFrom at lines ++ (at + countAll lines + length line) ∷ []
+unfolding startsFrom countAll
+starts-then at [] line = let e : at + 0 + length line ≡ at + length line = omega arith in rw e
+starts-then at (l ∷ lines) line =
+    let e : at + length l + countAll lines + length line ≡ at + (length l + countAll lines) + length line = omega arith in
+    ap (λ r. at ∷ r) (starts-then (at + length l) lines line ∙ rw e)
+
+pub fields-more : (lines : List (List ℕ)) (line : List ℕ) → sets (fieldsHeld lines) (countAll lines) line ≡ fieldsHeld (lines ++ line ∷ [])
+unfolding fieldsHeld
+fields-more lines line =
+    let e : 0 + length (joined lines) ≡ countAll lines = omega (arith, length-joined lines) in
+    rw (← e, joined-more lines line) (sets-append (replicate 4096 0) (joined lines) line 0)
+
+pub starts-more : (lines : List (List ℕ)) (line : List ℕ)
+    → set (startsHeld lines) (length lines + 1) (countAll lines + length line) ≡ startsHeld (lines ++ line ∷ [])
+unfolding startsHeld
+starts-more lines line =
+    let e : 0 + length (startsFrom 0 lines) ≡ length lines + 1 = omega (arith, length-starts 0 lines) in
+    let n : 0 + countAll lines + length line ≡ countAll lines + length line = omega arith in
+    rw (← e, starts-then 0 lines line, n) (sets-append (replicate 85 0) (startsFrom 0 lines) ((countAll lines + length line) ∷ []) 0)
+
 -- ---- what the arrays hold
 
 -- what follows the last line's fields
@@ -54,7 +90,8 @@ module _ (lines : List (List ℕ)) (few : length lines ≤ 84) (fit : countAll l
       let all : 0 + length (joined lines) ≡ length (joined lines) = omega arith in
       sets-eq (joined lines) (replicate 4096 0) 0 (omega arith) ∙ rw all
 
-  starts-are : (i : ℕ) → i ≤ length lines → getD (startsHeld lines) i 0 ≡ countAll (take i lines)
+  -- where line i starts
+  pub starts-are : (i : ℕ) → i ≤ length lines → getD (startsHeld lines) i 0 ≡ countAll (take i lines)
   unfolding startsHeld
   starts-are i h =
       let long : length (replicate {A = ℕ} 85 0) ≡ 85 = length-replicate {A = ℕ} 85 0 in
@@ -133,3 +170,7 @@ module _ (lines : List (List ℕ)) (few : length lines ≤ 84) (fit : countAll l
       map-same : (ls : List (List ℕ)) → map (λ line. line) ls ≡ ls
       map-same [] = refl
       map-same (l ∷ ls) = rw (map-same ls)
+
+  pub first-held : (n : ℕ) → n ≤ length lines → heldLines (fieldsHeld lines) (startsHeld lines) n ≡ take n lines
+  first-held n h =
+      sym (each-take (λ line. line) (lineAt (fieldsHeld lines) (startsHeld lines)) (length lines) n 0 h) ∙ ap (take n) lines-held

@@ -1,8 +1,8 @@
--- What is printed of a design says it again (`printed`).
+-- What is printed of a design says it again (`printed`), and the line of its marks is printed last (`marks-last`).
 use Prim.Native.Nat.{ℕ, suc}
 use mathlib.Core.Path.{_≡_, refl, sym, ap, _∙_}
 use mathlib.Core.Bool.{Bool, true, false, cond}
-use mathlib.Core.List.{List, [], _∷_, _++_, map, append-nil}
+use mathlib.Core.List.{List, [], _∷_, _++_, map, append-nil, append-assoc}
 use lib.Dec.{eqb}
 use lib.ListN.{length}
 use lib.Seq.{drop-append-seam}
@@ -11,7 +11,7 @@ use Rattle.terms.specs.Print.{printV, printF}
 use Rattle.terms.specs.Read.{leaf}
 use Rattle.terms.proofs.Printing.{print-read-v, print-read-f}
 use Rattle.foundation.specs.Nth.{EachIs, first, later}
-use Rattle.criteria.specs.Design.{Design, Parameter, Row}
+use Rattle.criteria.specs.Design.{Design, Parameter, Row, withMarks}
 use Rattle.criteria.specs.Step.{internalRows}
 use Rattle.design.specs.Line.{valueIn, formulaIn, valuesIn, formulasIn, parameterOf, rowOf, marksOf}
 use Rattle.design.specs.Lines.{kindOf, ofKind, theLine, designOf}
@@ -58,7 +58,7 @@ rows-back : (k n : ℕ) (rows : List Row) → RowsFit n rows → map (rowOf n) (
 rows-back k n [] print.none = refl
 rows-back k n (r ∷ rows) (print.then-row f fs) = rw (row-back k n r f, rows-back k n rows fs)
 
-marks-back : (n i : ℕ) (marks : List (List Formula)) → EachIs marks (MarksFit n i) → map (marksOf i) (map marksLine marks) ≡ marks
+pub marks-back : (n i : ℕ) (marks : List (List Formula)) → EachIs marks (MarksFit n i) → map (marksOf i) (map marksLine marks) ≡ marks
 marks-back n i [] f = refl
 marks-back n i (fs ∷ marks) f =
     let g = f 1 fs first in
@@ -68,13 +68,13 @@ parameters-back : (k : ℕ) (ps : List Parameter) → map parameterOf (map (para
 parameters-back k [] = refl
 parameters-back k (p ∷ ps) = ap (λ qs. p ∷ qs) (parameters-back k ps)
 
-length-map : {A B : Type 0} (f : A → B) (xs : List A) → length (map f xs) ≡ length xs
+pub length-map : {A B : Type 0} (f : A → B) (xs : List A) → length (map f xs) ≡ length xs
 length-map f [] = refl
 length-map f (x ∷ xs) = ap suc (length-map f xs)
 
 -- ---- the lines of a kind
 
-of-append : (k : ℕ) (xs ys : List (List ℕ)) → ofKind k (xs ++ ys) ≡ ofKind k xs ++ ofKind k ys
+pub of-append : (k : ℕ) (xs ys : List (List ℕ)) → ofKind k (xs ++ ys) ≡ ofKind k xs ++ ofKind k ys
 unfolding ofKind
 of-append k [] ys = refl
 of-append k (x ∷ xs) ys = go (eqb (kindOf x) k) (of-append k xs ys)
@@ -90,7 +90,7 @@ module _ {A : Type 0} (f : A → List ℕ) (k : ℕ) where
   of-same h [] = refl
   of-same h (x ∷ xs) = rw (h x, of-same h xs)
 
-  of-other : ((a : A) → eqb (kindOf (f a)) k ≡ false) → (xs : List A) → ofKind k (map f xs) ≡ []
+  pub of-other : ((a : A) → eqb (kindOf (f a)) k ≡ false) → (xs : List A) → ofKind k (map f xs) ≡ []
   unfolding ofKind
   of-other h [] = refl
   of-other h (x ∷ xs) = rw (h x, of-other h xs)
@@ -127,7 +127,7 @@ module _ (d : Design) where
         of-append k (lastLines d) (map marksLine (d .marks)),
       )
 
-  of-1 : ofKind 1 (printLines d) ≡ map (parameterLine 1) ps
+  pub of-1 : ofKind 1 (printLines d) ≡ map (parameterLine 1) ps
   unfolding ofKind
   of-1 =
       rw (parts 1, of-same (parameterLine 1) 1 (λ _. refl) ps, of-other (parameterLine 2) 1 (λ _. refl) qs, of-other (rowLine 3) 1 (λ _. refl) rs, of-other (rowLine 4) 1 (λ _. refl) ss, of-other marksLine 1 (λ _. refl) (d .marks))
@@ -164,7 +164,7 @@ module _ (d : Design) where
       )
       (append-nil (ofKind k (lastLines d)))
 
-  of-8 : ofKind 8 (printLines d) ≡ map marksLine (d .marks)
+  pub of-8 : ofKind 8 (printLines d) ≡ map marksLine (d .marks)
   unfolding ofKind
   of-8 =
       rw (
@@ -215,3 +215,15 @@ module _ (d : Design) where
           values-back (length ps) false (d .mapping) (p .mapping),
           marks-back (length ps) (internalRows rs) (d .marks) (p .marks),
         )
+
+-- ---- the line of marks
+
+module _ (a b c e f : List (List ℕ)) where
+  ended : (more : List (List ℕ)) → (a ++ (b ++ (c ++ (e ++ (f ++ []))))) ++ more ≡ a ++ (b ++ (c ++ (e ++ (f ++ more))))
+  ended more =
+      rw (append-nil f, append-assoc a (b ++ (c ++ (e ++ f))) more, append-assoc b (c ++ (e ++ f)) more, append-assoc c (e ++ f) more, append-assoc e f more)
+
+-- the lines of a design without marks, and that of the marks, if there is one
+pub marks-last : (d : Design) (ms : List (List Formula)) → printLines (withMarks d ms) ≡ printLines (withMarks d []) ++ map marksLine ms
+marks-last d ms =
+    sym (ended (map (parameterLine 1) (ps d)) (map (parameterLine 2) (qs d)) (map (rowLine 3) (rs d)) (map (rowLine 4) (ss d)) (lastLines d) (map marksLine ms))

@@ -27,10 +27,10 @@ module _ {n : ℕ} {row : Bool} {sorts : List Sort} {fields : List ℕ} where
   value-next : (v : FirstValue n row sorts fields) → drop (length (printV (v .tree))) fields ≡ v .later
   value-next v = ap (drop (length (printV (v .tree)))) (sym (append-nil fields)) ∙ value-after n row [] v ∙ append-nil (v .later)
 
-  formula-at : (f : FirstFormula n row sorts fields) → formulaIn fields ≡ leaf (f .tree) (length (printF (f .tree)))
+  pub formula-at : (f : FirstFormula n row sorts fields) → formulaIn fields ≡ leaf (f .tree) (length (printF (f .tree)))
   formula-at f = ap formulaIn (sym (append-nil fields)) ∙ formula-read n row [] f
 
-  formula-next : (f : FirstFormula n row sorts fields) → drop (length (printF (f .tree))) fields ≡ f .later
+  pub formula-next : (f : FirstFormula n row sorts fields) → drop (length (printF (f .tree))) fields ≡ f .later
   formula-next f = ap (drop (length (printF (f .tree)))) (sym (append-nil fields)) ∙ formula-after n row [] f ∙ append-nil (f .later)
 
 values-print : {n : ℕ} {row : Bool} (k : ℕ) {fields : List ℕ} → Terms n row (nValues k) fields → printValues (valuesIn k fields) ≡ fields
@@ -147,7 +147,7 @@ module _ (lines : List (List ℕ)) (lay : Layout wholeText lines) (made : TermsF
   last7 : (7 ∷ printV (measureOf (theLine 7 lines))) ∷ [] ≡ k 7
   last7 = let e = one .kind7 in last-line 7 e _ (omega arith) (value-print (measure-terms lines made (theLine 7 lines) (among 7 e)))
 
-  marks8 : map marksLine (map (marksOf (internalOf lines)) (k 8)) ≡ k 8
+  pub marks8 : map marksLine (map (marksOf (internalOf lines)) (k 8)) ≡ k 8
   marks8 = again-each (marksOf (internalOf lines)) marksLine (k 8) marks-line
     where
       marks-line : EachLine (λ line. marksLine (marksOf (internalOf lines) line) ≡ line) (k 8)

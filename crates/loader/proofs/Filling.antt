@@ -16,6 +16,7 @@ use Rattle.reader.proofs.Turns.{count-turn}
 use Rattle.reader.proofs.Faults.{columns-free, most-in-all}
 use Rattle.design.specs.Loaded.{joined, startsFrom}
 use Rattle.design.specs.Tests.{eachLineIs}
+use Rattle.design.proofs.Loaded.{sets-append}
 use Rattle.loader.specs.Filled.{Filled, stored}
 use Rattle.loader.proofs.Places.{AtLine, at-first, at-end, at-next, more-lines, these, part-fields, line-fields, next-within}
 
@@ -44,14 +45,6 @@ module _ (bytes into whole : List ℕ) (to k : ℕ) (inv : sets into (to + k) (f
 pub copy-place : (bytes : List ℕ) (to k : ℕ) → k + length (fieldsOf (drop (6 * k) bytes)) ≡ length (fieldsOf bytes) → to + length (fieldsOf bytes) ≤ 4096
     → (n : ℕ) → fieldAt bytes k ≡ Number n → to + k < 4096
 copy-place bytes to k inv fit n e = omega (arith, count-turn bytes k inv n e, next-moved bytes k n e)
-
--- ---- storing one list after another
-
-pub sets-append : (l xs ys : List ℕ) (to : ℕ) → sets (sets l to xs) (to + length xs) ys ≡ sets l to (xs ++ ys)
-sets-append l [] ys to = let e : to + 0 ≡ to = omega arith in rw e
-sets-append l (x ∷ xs) ys to =
-    let e : to + suc (length xs) ≡ suc to + length xs = omega arith in
-    rw e (sets-append (set l to x) xs ys (suc to))
 
 -- ---- filling: k lines are stored, `to` fields
 

@@ -26,7 +26,7 @@ module _ (lines : List (List ℕ)) (l : Layout wholeText lines) where
   abbrev k : ℕ → ℕ
   k i = length (ofKind i lines)
 
-  all-lines : length lines ≡ k 1 + (k 2 + (k 3 + (k 4 + (k 5 + (k 6 + (k 7 + (k 8 + 0)))))))
+  pub all-lines : length lines ≡ k 1 + (k 2 + (k 3 + (k 4 + (k 5 + (k 6 + (k 7 + (k 8 + 0)))))))
   all-lines =
       ap length (sym (in-order (l .kinds)))
       ∙ (length-append (ofKind 1 lines) _

@@ -1,6 +1,6 @@
 -- The fault that loading gives is the first in the order of faults that is anywhere in the text (`lowest-fault`), and none is given exactly
 -- to a design text (`free-exactly`).
-use Prim.Native.Nat.{ℕ}
+use Prim.Native.Nat.{ℕ, _≤_}
 use mathlib.Core.Path.{_≡_, refl}
 use mathlib.Core.Logic.{_≢_, _↔_}
 use mathlib.Core.Bool.{Bool, true, false, cond}
@@ -121,22 +121,22 @@ settled-lowest (free b) z = absurd (z refl)
 pub lowest-fault : (t : List ℕ) → faultOf t ≢ 0 → LowestFault t (faultOf t)
 lowest-fault t z = settled-lowest (settled t) z
 
--- it is in the text, and not 0
+-- it is in the text, and 1 to 7
 found : {t : List ℕ} {k : ℕ} {ks : List ℕ} → First (Fault t) ks k → Fault t k
 found (here f) = f
 found (past n f) = found f
 
-not-0 : {t : List ℕ} {k : ℕ} → Fault t k → k ≢ 0
-not-0 (first f) e = omega arith
-not-0 (second f) e = omega arith
-not-0 (third f) e = omega arith
-not-0 (fourth f) e = omega arith
-not-0 (fifth f) e = omega arith
-not-0 (sixth f) e = omega arith
-not-0 (seventh f) e = omega arith
+pub fault-number : {t : List ℕ} {k : ℕ} → Fault t k → (1 ≤ k) × (k ≤ 7)
+fault-number (first f) = (omega arith, omega arith)
+fault-number (second f) = (omega arith, omega arith)
+fault-number (third f) = (omega arith, omega arith)
+fault-number (fourth f) = (omega arith, omega arith)
+fault-number (fifth f) = (omega arith, omega arith)
+fault-number (sixth f) = (omega arith, omega arith)
+fault-number (seventh f) = (omega arith, omega arith)
 
 settled-free : {t : List ℕ} {k : ℕ} → Settled t k → k ≡ 0 → DesignText t
-settled-free (given f) e = absurd (not-0 (found f) e)
+settled-free (given f) e = let h = fault-number (found f) .0 in absurd (omega arith)
 settled-free (free d) e = d
 
 free-settled : {t : List ℕ} {k : ℕ} → Settled t k → DesignText t → k ≡ 0

@@ -1,13 +1,15 @@
--- Of a text that is loaded: its lines stand in order and are made of their terms, so the arrays hold its design (`design-in`).
-use Prim.Native.Nat.{ℕ}
+-- Of a text that is loaded: its lines stand in order and are made of their terms, so the arrays hold its design (`design-in`), and its lines
+-- are the printing of its design (`lines-printed`).
+use Prim.Native.Nat.{ℕ, _≤_}
 use mathlib.Core.Path.{_≡_, refl, sym}
 use mathlib.Core.Bool.{Bool, true, false, cond}
 use mathlib.Core.List.{List}
 use native.Mathlib.Omega.{arith}
 use borrow.Author.Tests.{eqb-true, eqb-false, le-leb}
 use lib.Dec.{eqb}
+use lib.ListN.{length}
 use Rattle.foundation.proofs.Reflects.{says-yes}
-use Rattle.reader.specs.Text.{fieldsByLine, columnsFault}
+use Rattle.reader.specs.Text.{fieldsByLine, countAll, columnsFault}
 use Rattle.reader.proofs.Faults.{columns-free, most-in-all}
 use Rattle.criteria.specs.Design.{Admitted}
 use Rattle.kinds.specs.Kinds.{wholeText}
@@ -15,10 +17,12 @@ use Rattle.design.specs.Lines.{kindOf, countOf, countsOf, internalOf, designOf}
 use Rattle.design.specs.Faults.{DesignText}
 use Rattle.design.specs.Loaded.{fieldsHeld, startsHeld, designIn}
 use Rattle.design.specs.Tests.{layoutFits, boundsFit}
+use Rattle.design.specs.Print.{printLines}
 use Rattle.design.proofs.Each.{by-each-line}
 use Rattle.design.proofs.Fault4.{Layout, by-layout, layout-of}
 use Rattle.design.proofs.WholeText.{counted}
 use Rattle.design.proofs.Held.{TermsFit, design-held}
+use Rattle.design.proofs.Reprinted.{lines-again}
 use Rattle.layout.specs.Sizes.{countsFit}
 use Rattle.line_check.proofs.LineFits.{by-line}
 use Rattle.action_check.specs.ActionsFit.{actionsFit}
@@ -51,10 +55,10 @@ module _ (text : List ℕ) (ok : faultOf text ≡ 0) where
   unfolding tableFault
   tests = tests-by (layoutFits wholeText lines) (boundsFit lines) (termsFitAll lines) (actionsFit (designOf lines)) (parts .1)
 
-  lay : Layout wholeText lines
+  pub lay : Layout wholeText lines
   lay = layout-of wholeText lines (says-yes (by-layout wholeText lines) (tests .0))
 
-  made : TermsFit lines
+  pub made : TermsFit lines
   made =
       says-yes (by-each-line _ (lineTest (countOf 1 lines) (countOf 2 lines) (internalOf lines)) (λ line. by-line (countOf 1 lines) (countOf 2 lines) (internalOf lines) line (kindOf line)) lines) (tests .1)
 
@@ -64,9 +68,18 @@ module _ (text : List ℕ) (ok : faultOf text ≡ 0) where
   pub admitted : Admitted (designOf lines)
   admitted = text-admitted text is-design-text
 
+  pub few : length lines ≤ 84
+  few = few-lines lines lay
+
+  pub fits : countAll lines ≤ 4096
+  fits = most-in-all text (columns-free text (parts .0) .third)
+
+  pub lines-printed : printLines (designOf lines) ≡ lines
+  lines-printed = lines-again lines lay made
+
   -- the arrays hold the text's design
   pub design-in : designIn (fieldsHeld lines) (startsHeld lines) (countsOf lines) ≡ designOf lines
-  design-in = design-held lines (few-lines lines lay) (most-in-all text (columns-free text (parts .0) .third)) lay made
+  design-in = design-held lines few fits lay made
 
   pub counts-allowed : countsFit (countsOf lines) ≡ true
   counts-allowed = let q = counted lay in rw (le-leb _ 8 (q .kind1 .1), le-leb _ 8 (q .kind2 .1), le-leb _ 32 (q .kind3), le-leb _ 32 (q .kind4), le-leb _ 1 (q .kind8))

@@ -1,17 +1,18 @@
 -- A text without fault 2 is the writing of its fields, line by line (`text-written`), so two such texts with the same fields are the
 -- same bytes (`same-text`); and what is written from lines of fields has no fault 2 and just these lines (`written-lines`,
--- `written-free`).
-use Prim.Native.Nat.{ℕ, suc, _+_}
+-- `written-free`), six bytes for each field and one for each line (`text-length`).
+use Prim.Native.Nat.{ℕ, suc, _+_, _*_}
 use mathlib.Core.Path.{_≡_, refl, sym, ap, _∙_}
 use mathlib.Core.Logic.{_≢_, _⊎_, inl, inr}
 use mathlib.Core.Bool.{Bool, true, false, true≢false}
 use mathlib.Core.List.{List, [], _∷_, _++_, map, append-nil, List·Memᴰ, List·Memᴰ·head, List·Memᴰ·tail, List·Memᴰ·cases-cons, List·Memᴰ·not-nil}
+use native.Mathlib.Omega.{arith}
 use borrow.Author.Tests.{eqb-true, eqb-false}
 use lib.Dec.{eqb}
-use lib.ListN.{length, drop}
+use lib.ListN.{length, drop, length-append}
 use Rattle.reader.specs.Line.{written, Each16, IsLine, fieldsOf}
-use Rattle.reader.specs.Text.{before, linesOf, lastOf, fieldsByLine, textOf, Lines, none, more, Fault2, broken, unended, isLine}
-use Rattle.reader.proofs.Text.{firstLine, lines-first, past-fields, last-append}
+use Rattle.reader.specs.Text.{before, linesOf, lastOf, fieldsByLine, countAll, textOf, Lines, none, more, Fault2, broken, unended, isLine}
+use Rattle.reader.proofs.Text.{firstLine, lines-first, past-fields, length-written, last-append}
 use Rattle.reader.proofs.Faults.{whole-fields, is-line, line-is, fields-of-line}
 
 -- ---- a text is its lines, each with its byte 10
@@ -126,3 +127,9 @@ text-ended (ns ∷ lines) = last-append (written ns) 10 10 (textOf lines) ∙ te
 pub written-free : {lines : List (List ℕ)} → Lines lines → Fault2 (textOf lines) → ⊥
 written-free {lines} h (broken {line = line} m b) = b (each-line h (rw (text-lines lines) at m))
 written-free {lines} h (unended e) = e (text-ended lines)
+
+-- how many bytes it is
+pub text-length : (lines : List (List ℕ)) → length (textOf lines) ≡ 6 * countAll lines + length lines
+unfolding textOf countAll
+text-length [] = refl
+text-length (ns ∷ lines) = rw (length-append (written ns) (10 ∷ textOf lines), length-written ns, text-length lines) (omega arith)

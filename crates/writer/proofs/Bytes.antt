@@ -43,19 +43,19 @@ report-read r each = written-lines (text.more each (λ e. nil≢cons (sym e)) te
 -- ---- bytes that fit a buffer from a place on, and bytes that don't
 
 module _ (b : List ℕ) (at : ℕ) (bytes : List ℕ) (k : ℕ) (ek : length bytes ≡ k) where
-  none-put : length b < at + k → 0 ≡ putLength b at bytes
+  pub none-put : length b < at + k → 0 ≡ putLength b at bytes
   unfolding putLength
   none-put h = rw (ek, lt-leb _ _ h)
 
-  none-kept : length b < at + k → b ≡ put b at bytes
+  pub none-kept : length b < at + k → b ≡ put b at bytes
   unfolding put
   none-kept h = rw (ek, lt-leb _ _ h)
 
-  all-put : at + k ≤ length b → k ≡ putLength b at bytes
+  pub all-put : at + k ≤ length b → k ≡ putLength b at bytes
   unfolding putLength
   all-put h = rw (ek, le-leb _ _ h)
 
-  all-kept : at + k ≤ length b → (after : List ℕ) → after ≡ sets b at bytes → after ≡ put b at bytes
+  pub all-kept : at + k ≤ length b → (after : List ℕ) → after ≡ sets b at bytes → after ≡ put b at bytes
   unfolding put
   all-kept h after e = rw (ek, le-leb _ _ h) e
 

@@ -1,0 +1,17 @@
+-- `unmark_design` tells what `conversion::to_unmarked` answers.
+use borrow.Author.Needs.{needs}
+use mathlib.Core.Path.{ap}
+use Rattle.conversion.specs.declared.Written.{Written}
+use Rattle.checker.proofs.unmark_design.Statement.{statement}
+use Rattle.checker.proofs.unmark_design.Tie as tie
+
+pub unmark-design-spec : {M : Type 1} → statement M
+unmark-design-spec =
+    tie.close
+    (tie.spec
+    (λ c κs. search needs)
+    (λ c. search needs)
+    (λ c. search needs)
+    (λ c.
+    let e = c .before .before .before .to-unmarked .ensures in
+    (ap (λ (w : Written). w .length) (e .0), (e .1, ap (λ (w : Written). w .number) (e .0)))))
