@@ -6,6 +6,7 @@ use Rattle.claims.proofs.Lists.{asks-nothing, answered-all, answered, w
 use Rattle.claims.proofs.OneCall.{short-answer, short-buffer, check-ends}
 use Rattle.claims.proofs.Outcomes.{opened-by, turned-by, refusals, dropped-by}
 use Rattle.claims.proofs.Reached.{walked-named}
+use Rattle.claims.proofs.Writers.{refused-by}
 
 pub claim1 : Claim1
 claim1 = record {
@@ -17,5 +18,6 @@ claim1 = record {
   other-text = λ d text o. turned-by d text (λ z. o (free-exactly text .0 z));
   other-call = refusals;
   dropped = λ d p e. p .0 ∙ dropped-by d (d .phase) refl e;
+  other-writing = refused-by;
   short-report = λ {text} {report} c l. (answered c ∙ short-answer text report l, written c ∙ short-buffer text report l);
 }

@@ -1,11 +1,10 @@
--- What the writers write is as 02 says, for every call.
+-- What the writers write is as 02 says, for every call; and what a call turned down answers, for demand 1.
 use Prim.Native.Nat.{ℕ, _≤_, _<_}
 use mathlib.Core.Path.{_≡_, refl, sym, ap, _∙_}
 use mathlib.Core.Logic.{_≢_, _↔_}
-use mathlib.Core.Bool.{Bool, true, false}
-use mathlib.Core.List.{List, [], _∷_, _++_, map}
+use mathlib.Core.List.{List, [], _∷_, _++_}
 use native.Mathlib.Omega.{arith}
-use borrow.Author.Tests.{eq-eqb, ne-eqb}
+use borrow.Author.Tests.{ne-eqb}
 use lib.ListN.{length, take, drop, length-append, length-drop}
 use lib.Seq.{take-append-seam, drop-append-seam}
 use Rattle.foundation.specs.Lowest.{First, here, past}
@@ -29,7 +28,7 @@ use Rattle.conversion.proofs.Result.{result-lines, result-design, result-free, 
 use Rattle.conversion.proofs.Verdict.{same-verdict}
 use Rattle.checker.specs.OneCall.{designReport, judgedOf}
 use Rattle.checker.specs.OneCall as one-call
-use Rattle.claims.specs.Contracts.{Checks, Writes}
+use Rattle.claims.specs.Contracts.{Writes}
 use Rattle.claims.specs.Writers.{marksLines, Result, Writers}
 use Rattle.claims.proofs.Lists.{answered, written, writer-number, writer-length, writer-buffer}
 use Rattle.claims.proofs.OneCall.{judged-free}
@@ -42,7 +41,7 @@ module _ {way : Way} {text buffer after : List ℕ} {n r : ℕ} (w : Writes way 
   unfolding answerOf
   number-is = writer-number w
 
-  refused-by : n ≢ 0 → TurnedDown way text (length buffer) n × ((r ≡ 0) × (after ≡ buffer))
+  pub refused-by : n ≢ 0 → TurnedDown way text (length buffer) n × ((r ≡ 0) × (after ≡ buffer))
   unfolding answerOf bufferAfter
   refused-by z =
       let e = number-is in
@@ -162,7 +161,6 @@ buffer-same s t report e = rw e
 
 pub writers : Writers
 writers = record {
-  refused = refused-by;
   done = done-by;
   other = other-by;
   result = result-by;

@@ -18,7 +18,8 @@ use Rattle.desk.specs.declared.AfterVerdict.{AfterVerdict}
 use Rattle.desk.specs.declared.AfterDrop.{AfterDrop}
 use Rattle.desk.specs.Desk.{emptyDesk}
 use Rattle.claims.specs.Calls.{Called, Walked}
-use Rattle.claims.specs.Contracts.{Loads, Tells, Drops, Checks, Calls, AsksNothing, Answered}
+use Rattle.conversion.specs.Result.{Way, TurnedDown}
+use Rattle.claims.specs.Contracts.{Loads, Tells, Drops, Checks, Writes, Calls, AsksNothing, Answered}
 use Rattle.claims.specs.Outcomes.{Opens, Named, TurnsDown, Refusals}
 
 pub record Claim1 : Type 0 where
@@ -39,3 +40,6 @@ pub record Claim1 : Type 0 where
   pub dropped : (desk : Desk) {r : AfterDrop} → Drops desk r → desk .phase ≢ phase.Empty → r ≡ record { answer = done.Done; desk = emptyDesk }
   -- ".. or short report buffer": 9, and nothing is written
   pub short-report : {text report after : List ℕ} {r : ℕ} → Checks text report r after → length report < 31 → (r ≡ 9) × (after ≡ report)
+  -- and of the writers (02, order 2): the first number that is due, the length 0, and nothing is written
+  pub other-writing : {way : Way} {text buffer after : List ℕ} {n r : ℕ} → Writes way text buffer n r after → n ≢ 0
+      → TurnedDown way text (length buffer) n × ((r ≡ 0) × (after ≡ buffer))

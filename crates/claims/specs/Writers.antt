@@ -4,13 +4,13 @@
 -- conversion/specs/Result. It holds: `writers` in proofs/Writers.
 use Prim.Native.Nat.{ℕ}
 use mathlib.Core.Path.{_≡_}
-use mathlib.Core.Logic.{_≢_, _↔_}
+use mathlib.Core.Logic.{_↔_}
 use mathlib.Core.List.{List}
 use lib.ListN.{length, take, drop}
 use Rattle.reader.specs.Text.{fieldsByLine}
 use Rattle.design.specs.Lines.{countOf, designText}
 use Rattle.design.specs.Faults.{DesignText}
-use Rattle.conversion.specs.Result.{Way, there, back, turned, OtherFormula, Refused, TurnedDown}
+use Rattle.conversion.specs.Result.{Way, there, back, turned, OtherFormula, Refused}
 use Rattle.claims.specs.Contracts.{Checks, Writes}
 
 -- how many kind 8 lines the wanted sort has
@@ -32,10 +32,7 @@ pub record Result (way : Way) (text buffer after : List ℕ) (r : ℕ) : Type 0 
   pub copied : countOf 8 (fieldsByLine text) ≡ marksLines way → take r after ≡ text
 
 pub record Writers : Type 0 where
-  -- a call turned down gives the first number that is due and the length 0, and writes nothing
-  pub refused : {way : Way} {text buffer after : List ℕ} {n r : ℕ} → Writes way text buffer n r after → n ≢ 0
-      → TurnedDown way text (length buffer) n × ((r ≡ 0) × (after ≡ buffer))
-  -- and one is done exactly if no number is due
+  -- a call is done exactly if no number is due (one that is turned down is in Demand1)
   pub done : {way : Way} {text buffer after : List ℕ} {n r : ℕ} → Writes way text buffer n r after
       → (n ≡ 0) ↔ ((k : ℕ) → Refused way text (length buffer) k → ⊥)
   -- "on the way back only, 15 for a formula other than `10`"

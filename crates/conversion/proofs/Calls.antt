@@ -2,9 +2,8 @@
 use Prim.Native.Nat.{ℕ, _+_, _≤_, _<_}
 use mathlib.Core.Path.{_≡_, refl, sym, ap, _∙_}
 use mathlib.Core.Logic.{_≢_}
-use mathlib.Core.Bool.{Bool, true, false, cond, not, true≢false}
+use mathlib.Core.Bool.{Bool, true, false, cond}
 use mathlib.Core.List.{List, _∷_}
-use native.Mathlib.Omega.{arith}
 use borrow.Author.Tests.{ltb-true, ltb-false}
 use lib.Dec.{ltb}
 use lib.ListN.{getD, set, replicate}
@@ -13,7 +12,7 @@ use Rattle.reader.specs.Text.{fieldsByLine, countAll, textOf}
 use Rattle.writer.specs.Put.{put, putLength}
 use Rattle.design.specs.Lines.{designText}
 use Rattle.criteria.specs.Step.{internalRows}
-use Rattle.design.specs.Loaded.{heldLines, startsHeld}
+use Rattle.design.specs.Loaded.{heldLines}
 use Rattle.design.specs.Print.{printLines}
 use Rattle.design.specs.declared.Shape.{Shape}
 use Rattle.layout.specs.Sizes.{shapeOf}
@@ -28,14 +27,6 @@ use Rattle.conversion.specs.Lines.{refusedBy, doneWith, endOf, markedLin
 use Rattle.conversion.proofs.Held.{shape, internal-is, first-most, marks-tens}
 use Rattle.conversion.proofs.Ends.{fault-answer, fault-buffer, other-answer, other-buffer, many-answer, many-buffer, put-answer, put-buffer}
 use Rattle.conversion.proofs.Arrays.{left-out, left-fits, kept, kept-fits, turned-count, added}
-
-was-no : (b : Bool) → not b ≡ true → b ≡ false
-was-no true e = absurd (true≢false (sym e))
-was-no false e = refl
-
-was-yes : (b : Bool) → not b ≡ false → b ≡ true
-was-yes true e = refl
-was-yes false e = absurd (true≢false e)
 
 module _ (text buffer : List ℕ) (l : Loaded) (el : l ≡ loadedOf text) where
   fault-is : l .fault ≡ faultOf text
@@ -64,21 +55,21 @@ module _ (text buffer : List ℕ) (l : Loaded) (el : l ≡ loadedOf text) where
       plain-is : b ≡ every (every trueB) (designText text .marks)
       plain-is = eb ∙ (rw (held, shape-is) (marks-tens text ok))
 
-      pub other-as : not b ≡ true → (r : Written) → r ≡ refusedBy 15 → r ≡ answerOf back text buffer
-      other-as e = other-answer back text buffer ok (sym plain-is ∙ was-no b e)
+      pub other-as : b ≡ false → (r : Written) → r ≡ refusedBy 15 → r ≡ answerOf back text buffer
+      other-as e = other-answer back text buffer ok (sym plain-is ∙ e)
 
-      pub other-same : not b ≡ true → buffer ≡ bufferAfter back text buffer
-      other-same e = other-buffer back text buffer ok (sym plain-is ∙ was-no b e)
+      pub other-same : b ≡ false → buffer ≡ bufferAfter back text buffer
+      other-same e = other-buffer back text buffer ok (sym plain-is ∙ e)
 
-      module _ (e : not b ≡ false) (n : ℕ) (en : n ≡ h .marks .first) where
+      module _ (e : b ≡ true) (n : ℕ) (en : n ≡ h .marks .first) where
         lines-back : heldLines (l .fields) (l .starts) n ≡ printLines (turned back (designText text))
         lines-back = rw held (left-out text ok n (en ∙ ap (λ (x : Shape). x .marks .first) shape-is))
 
         pub back-as : (r : Written) → r ≡ doneWith (putLength buffer 0 (textOf (heldLines (l .fields) (l .starts) n))) → r ≡ answerOf back text buffer
-        back-as = put-answer back text buffer ok (sym plain-is ∙ was-yes b e) (left-fits text ok) (heldLines (l .fields) (l .starts) n) lines-back
+        back-as = put-answer back text buffer ok (sym plain-is ∙ e) (left-fits text ok) (heldLines (l .fields) (l .starts) n) lines-back
 
         pub back-after : (after : List ℕ) → after ≡ put buffer 0 (textOf (heldLines (l .fields) (l .starts) n)) → after ≡ bufferAfter back text buffer
-        back-after = put-buffer back text buffer ok (sym plain-is ∙ was-yes b e) (left-fits text ok) (heldLines (l .fields) (l .starts) n) lines-back
+        back-after = put-buffer back text buffer ok (sym plain-is ∙ e) (left-fits text ok) (heldLines (l .fields) (l .starts) n) lines-back
 
     -- ---- there, with a line of marks
 

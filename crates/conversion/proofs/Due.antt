@@ -1,6 +1,6 @@
 -- The number that a call answers is the one due: the first in the order of answers whose reason is there (`number-due`), and 0 exactly if
 -- none is (`done-exactly`).
-use Prim.Native.Nat.{ℕ, _<_, _≤_}
+use Prim.Native.Nat.{ℕ, _<_}
 use mathlib.Core.Path.{_≡_, refl, sym, ap, _∙_}
 use mathlib.Core.Logic.{_≢_, _↔_, _⊎_, inl, inr}
 use mathlib.Core.Bool.{Bool, true, false, cond, _&&_, _||_, true≢false}
@@ -22,7 +22,7 @@ use Rattle.design.specs.Faults.{Fault, DesignText, faultOrder}
 use Rattle.design.specs.Print.{printLines}
 use Rattle.loader.specs.Load.{faultOf}
 use Rattle.loader.proofs.Lowest.{lowest-fault, free-exactly, fault-number}
-use Rattle.conversion.specs.Result.{Way, there, back, turned, OtherFormula, other, TooLong, bytes, fields, Refused, fault, formula, long, answerOrder, TurnedDown}
+use Rattle.conversion.specs.Result.{Way, there, back, turned, OtherFormula, other, TooLong, bytes, fields, Refused, fault, formula, long, TurnedDown}
 use Rattle.conversion.specs.Answer.{trueB, every, plainB, tooLongB, designNumber, numberOf}
 
 -- ---- 15: a formula is `10` by its fields exactly if the test says so

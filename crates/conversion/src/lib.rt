@@ -53,20 +53,16 @@ pub fn to_unmarked(text: &[u8], buffer: &mut [u8]) -> Written
     ensures { λ _. ⌜ now (buffer .exit) ≡ bufferAfter back (now (text .entry)) (now (buffer .entry)) ⌝ }
 {
     let loaded = loader::load(text);
-    let fault = loaded.fault;
-    if fault != 0 {
-        return refused(fault);
+    let number = loaded.fault;
+    if number != 0 {
+        return refused(number);
     }
     let shape = layout::shape_of(loaded.counts);
-    if !marks_true(&loaded.fields, &loaded.starts, shape) {
-        return refused(15);
+    let lines = shape.marks.first as u16;
+    if marks_true(&loaded.fields, &loaded.starts, shape) {
+        return write(buffer, &loaded.fields, &loaded.starts, lines);
     }
-    write(
-        buffer,
-        &loaded.fields,
-        &loaded.starts,
-        shape.marks.first as u16,
-    )
+    refused(15)
 }
 
 // Turned down: nothing is written.
@@ -102,7 +98,7 @@ fn write_marked(buffer: &mut [u8], lines: Loaded, i: u16, n: u16) -> Written
     let at = layout::line(&lines.starts, i as usize) as usize;
     let end = at + 1 + n as usize;
     if limits::MAX_FIELDS < end {
-        return refused(16);
+        return refused(16); // over 4,096 fields
     }
     let mut more = lines;
     put_marks(&mut more.fields, at, n);

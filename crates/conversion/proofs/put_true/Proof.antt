@@ -3,7 +3,7 @@ use borrow.Author.Needs.{needs}
 use native.Mathlib.Omega.{arith}
 use lib.ListN.{replicate}
 use lib.Seq.{sets}
-use Prim.Native.Nat.{_+_, _-_, _≤_}
+use Prim.Native.Nat.{_-_, _≤_}
 use Rattle.conversion.proofs.Turns.{Stored}
 use Rattle.conversion.proofs.Turns as laws
 use Rattle.conversion.proofs.put_true.Statement.{statement}

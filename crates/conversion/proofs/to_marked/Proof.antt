@@ -1,6 +1,5 @@
 -- `to_marked` adds a line of marks where there is none.
 use borrow.Author.Needs.{needs}
-use Rattle.conversion.specs.Result.{there}
 use Rattle.conversion.proofs.Calls as laws
 use Rattle.conversion.proofs.to_marked.Statement.{statement}
 use Rattle.conversion.proofs.to_marked.Tie as tie

@@ -1,6 +1,5 @@
 -- `to_unmarked` leaves the line of marks out.
 use borrow.Author.Needs.{needs}
-use Rattle.conversion.specs.Result.{back}
 use Rattle.conversion.proofs.Calls as laws
 use Rattle.conversion.proofs.to_unmarked.Statement.{statement}
 use Rattle.conversion.proofs.to_unmarked.Tie as tie
@@ -13,10 +12,10 @@ to-unmarked-spec =
     (λ c κs. search needs)
     (λ c. (search laws.refused-as, search laws.refused-same))
     (λ c κs. search needs)
-    (λ c κs. search needs)
-    (λ c κs. search needs)
-    (λ c. (search laws.other-as, search laws.other-same))
     (λ c. search needs)
     (λ c κs. search needs)
+    (λ c κs. search needs)
     (λ c. search needs)
-    (λ c. (search laws.back-as, search laws.back-after)))
+    (λ c. (search laws.back-as, search laws.back-after))
+    (λ c κs. search needs)
+    (λ c. (search laws.other-as, search laws.other-same)))
