@@ -1,6 +1,7 @@
-/* checks ROUNDS LIMITS TABLE..: the time of check_design on each table against a plain C walk and the reference checker; that of loading
- * the text LIMITS; and that of advancing by 1 over the states of each table that has 65,536. All are run in turn, ROUNDS times; the
- * least time of each counts, as that with the least other work beside it. A ratio is our time over theirs. */
+/* checks ROUNDS LIMITS ROOM TABLE..: the time of check_design on each table against a plain C walk and the reference checker; that of
+ * loading the text LIMITS, of writing it again without marks, and of writing ROOM with them, the last two also against a load; and that of
+ * advancing by 1 over the states of each table that has 65,536. All are run in turn, ROUNDS times; the least time of each counts, as that
+ * with the least other work beside it. A ratio is our time over theirs. */
 #define _POSIX_C_SOURCE 200809L
 #include <time.h>
 #include "../include/checker.h"
@@ -51,6 +52,34 @@ static int reference_loads(const struct job *j)
     uint32_t number = reference_load(desk, j->text.bytes, j->text.len);
     reference_free(desk);
     return number == 0;
+}
+
+static int our_mark(const struct job *j)
+{
+    uint8_t buffer[MARK_RESULT_BYTES];
+    uint32_t number;
+    return mark_design(j->text.bytes, j->text.len, buffer, sizeof buffer, &number) > j->text.len;
+}
+
+static int reference_marks(const struct job *j)
+{
+    uint8_t buffer[MARK_RESULT_BYTES];
+    uint32_t number;
+    return reference_mark(j->text.bytes, j->text.len, buffer, sizeof buffer, &number) > j->text.len;
+}
+
+static int our_unmark(const struct job *j)
+{
+    uint8_t buffer[MARK_RESULT_BYTES];
+    uint32_t number;
+    return unmark_design(j->text.bytes, j->text.len, buffer, sizeof buffer, &number) == j->text.len;
+}
+
+static int reference_unmarks(const struct job *j)
+{
+    uint8_t buffer[MARK_RESULT_BYTES];
+    uint32_t number;
+    return reference_unmark(j->text.bytes, j->text.len, buffer, sizeof buffer, &number) == j->text.len;
 }
 
 static int our_advances(const struct job *j) { return desk_advances(j->text.bytes, j->text.len, 1) == j->table.states; }
@@ -134,10 +163,10 @@ int main(int n, char **words)
 {
     static struct job j;
     char name[64];
-    int rounds = n > 3 ? atoi(words[1]) : 0;
-    if (rounds < 1) { fprintf(stderr, "usage: checks ROUNDS LIMITS TABLE..\n"); return 2; }
+    int rounds = n > 4 ? atoi(words[1]) : 0;
+    if (rounds < 1) { fprintf(stderr, "usage: checks ROUNDS LIMITS ROOM TABLE..\n"); return 2; }
     printf("%-32s %8s %12s %10s %10s %10s\n", "our time over that of", "states", "ours, ms", "C", "C hoisted", "reference");
-    for (int i = 3; i < n; i++) {
+    for (int i = 4; i < n; i++) {
         read_job(words[i], &j);
         memcpy(j.run, ((int (*[])(const struct job *)){ours, plain, hoisted, reference}), sizeof j.run);
         snprintf(name, sizeof name, "check %s", last_name(words[i]));
@@ -147,7 +176,16 @@ int main(int n, char **words)
     memcpy(j.run, ((int (*[])(const struct job *)){our_load, NULL, NULL, reference_loads}), sizeof j.run);
     snprintf(name, sizeof name, "load %s", last_name(words[2]));
     measure(name, &j, rounds);
-    for (int i = 3; i < n; i++) {
+    printf("%-32s %8s %12s %10s %10s %10s\n", "our time over that of", "states", "ours, ms", "our load", "", "reference");
+    memcpy(j.run, ((int (*[])(const struct job *)){our_unmark, our_load, NULL, reference_unmarks}), sizeof j.run);
+    snprintf(name, sizeof name, "unmark %s", last_name(words[2]));
+    measure(name, &j, rounds);
+    read_job(words[3], &j);
+    memcpy(j.run, ((int (*[])(const struct job *)){our_mark, our_load, NULL, reference_marks}), sizeof j.run);
+    snprintf(name, sizeof name, "mark %s", last_name(words[3]));
+    measure(name, &j, rounds);
+    printf("%-32s %8s %12s %10s %10s %10s\n", "our time over that of", "states", "ours, ms", "C", "C hoisted", "reference");
+    for (int i = 4; i < n; i++) {
         read_job(words[i], &j);
         if (j.table.states < 65536) continue;
         memcpy(j.run, ((int (*[])(const struct job *)){our_advances, plain_advances, hoisted_advances, reference_advances}), sizeof j.run);

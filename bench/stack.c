@@ -1,4 +1,5 @@
-/* stack TEXT..: the deepest stack that check_design uses over the texts, in bytes, on a stack of its own that is painted before. */
+/* stack TEXT..: the deepest stack that each function of the library uses over the texts, in bytes, on a stack of its own that is painted
+ * before. */
 #define _XOPEN_SOURCE 700
 #include <stdint.h>
 #include <stdio.h>
@@ -10,12 +11,24 @@
 enum { STACK = 1 << 20, PAINT = 0xA5 };
 
 static ucontext_t here, there;
-static uint8_t stack[STACK], text[1 << 16], report[CHECK_REPORT_BYTES];
+static uint8_t stack[STACK], text[1 << 16], report[CHECK_REPORT_BYTES], result[MARK_RESULT_BYTES];
 static size_t len;
+static uint32_t number;
 
 static void nothing(void) {}
 
 static void check(void) { check_design(text, len, report, sizeof report); }
+
+static void mark(void) { mark_design(text, len, result, sizeof result, &number); }
+
+static void unmark(void) { unmark_design(text, len, result, sizeof result, &number); }
+
+static const struct {
+    const char *name;
+    void (*call)(void);
+} functions[] = {{"check_design", check}, {"mark_design", mark}, {"unmark_design", unmark}};
+
+enum { FUNCTIONS = 3 };
 
 /* The bytes of the stack that a call writes, from its top down to the lowest that changed. */
 static size_t depth_of(void (*call)(void))
@@ -34,15 +47,18 @@ static size_t depth_of(void (*call)(void))
 
 int main(int n, char **names)
 {
-    size_t least = depth_of(nothing), most = 0;
-    const char *deepest = "";
+    size_t least = depth_of(nothing), most[FUNCTIONS] = {0};
+    const char *deepest[FUNCTIONS] = {"", "", ""};
     for (int i = 1; i < n; i++) {
         FILE *f = fopen(names[i], "rb");
         if (!f) { perror(names[i]); return 1; }
         len = fread(text, 1, sizeof text, f);
         fclose(f);
-        size_t depth = depth_of(check) - least;
-        if (depth > most) { most = depth; deepest = names[i]; }
+        for (int k = 0; k < FUNCTIONS; k++) {
+            size_t depth = depth_of(functions[k].call) - least;
+            if (depth > most[k]) { most[k] = depth; deepest[k] = names[i]; }
+        }
     }
-    printf("deepest stack of check_design over %d texts: %zu bytes (%s)\n", n - 1, most, deepest);
+    for (int k = 0; k < FUNCTIONS; k++)
+        printf("deepest stack of %s over %d texts: %zu bytes (%s)\n", functions[k].name, n - 1, most[k], deepest[k]);
 }

@@ -9,6 +9,7 @@ e     256 states, 8 rows of span 256 with large terms
 f  65,536 states, the rows of the pump table
 
 limits  as many parameters, rows and fields as a text may have
+room    the same, with room for a line of marks
 """
 import sys
 
@@ -97,12 +98,20 @@ def halved(n):
     return TRUE if n == 1 else both(halved(n // 2), halved(n - n // 2))
 
 
-def limits():
+def of_most_rows(invariant):
     parameters, kept = [(4, 3)] * 8, [par(i) for i in range(8)]
     rows = [(i + 1, 256, all_of(20), par(i % 8), kept) for i in range(32)]
-    return text(parameters, parameters, rows, rows, halved(94), kept, num(0))
+    return text(parameters, parameters, rows, rows, invariant, kept, num(0))
 
 
-for table in (a, b, c, d, e, f, limits):
+def limits():
+    return of_most_rows(halved(94))
+
+
+def room():
+    return of_most_rows(halved(93))
+
+
+for table in (a, b, c, d, e, f, limits, room):
     with open(sys.argv[1] + '/' + table.__name__ + '.txt', 'w') as out:
         out.write(table())
