@@ -4,7 +4,7 @@
 use verdicts::Report;
 ghost use mathlib.Core.Path.{_≡_};
 ghost use Rattle.conversion.specs.Result.{there, back};
-ghost use Rattle.conversion.specs.Answer as writer;
+ghost use Rattle.conversion.specs.Answer as conversion;
 ghost use Rattle.checker.specs.OneCall.{refusedReport, judgedOf, answerOf, bufferAfter};
 
 // Checks a text and writes the report: 0 accepted, 1 failed, 2 turned down; 9 for a report buffer under 31 bytes, which is not
@@ -22,29 +22,29 @@ pub extern "C" fn check_design(text: &[u8], report: &mut [u8]) -> u32
     judged.verdict as u32
 }
 
-// Writes a text with a line of marks, each formula being `10` where there was no line: the result's length, or 0 and the number by which it is
-// turned down.
+// Writes a text with a line of marks: one that has it as it is, any other with a formula `10` for each internal row. Returns the result's
+// length and tells 0; turned down, it returns 0 and tells the number.
 #[no_mangle]
 pub extern "C" fn mark_design(text: &[u8], buffer: &mut [u8], number: &mut u32) -> usize
-    ensures { λ r. ⌜ r ≡ writer.answerOf there (now (text .entry)) (now (buffer .entry)) .length ⌝ }
-    ensures { λ _. ⌜ now (buffer .exit) ≡ writer.bufferAfter there (now (text .entry)) (now (buffer .entry)) ⌝ }
-    ensures { λ _. ⌜ now (number .exit) ≡ writer.answerOf there (now (text .entry)) (now (buffer .entry)) .number ⌝ }
+    ensures { λ r. ⌜ r ≡ conversion.answerOf there (now (text .entry)) (now (buffer .entry)) .length ⌝ }
+    ensures { λ _. ⌜ now (buffer .exit) ≡ conversion.bufferAfter there (now (text .entry)) (now (buffer .entry)) ⌝ }
+    ensures { λ _. ⌜ now (number .exit) ≡ conversion.answerOf there (now (text .entry)) (now (buffer .entry)) .number ⌝ }
 {
-    let written = conversion::to_marked(text, buffer);
-    *number = written.number as u32;
-    written.length
+    let marked = conversion::to_marked(text, buffer);
+    *number = marked.number as u32;
+    marked.length
 }
 
-// The same without the line, where each formula is `10`.
+// Writes a text without its line of marks, each formula of which has to be `10`; returns and tells the same.
 #[no_mangle]
 pub extern "C" fn unmark_design(text: &[u8], buffer: &mut [u8], number: &mut u32) -> usize
-    ensures { λ r. ⌜ r ≡ writer.answerOf back (now (text .entry)) (now (buffer .entry)) .length ⌝ }
-    ensures { λ _. ⌜ now (buffer .exit) ≡ writer.bufferAfter back (now (text .entry)) (now (buffer .entry)) ⌝ }
-    ensures { λ _. ⌜ now (number .exit) ≡ writer.answerOf back (now (text .entry)) (now (buffer .entry)) .number ⌝ }
+    ensures { λ r. ⌜ r ≡ conversion.answerOf back (now (text .entry)) (now (buffer .entry)) .length ⌝ }
+    ensures { λ _. ⌜ now (buffer .exit) ≡ conversion.bufferAfter back (now (text .entry)) (now (buffer .entry)) ⌝ }
+    ensures { λ _. ⌜ now (number .exit) ≡ conversion.answerOf back (now (text .entry)) (now (buffer .entry)) .number ⌝ }
 {
-    let written = conversion::to_unmarked(text, buffer);
-    *number = written.number as u32;
-    written.length
+    let unmarked = conversion::to_unmarked(text, buffer);
+    *number = unmarked.number as u32;
+    unmarked.length
 }
 
 // The report on a text.

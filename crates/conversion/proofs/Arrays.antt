@@ -20,7 +20,7 @@ use Rattle.design.proofs.Printed.{marks-last}
 use Rattle.design.proofs.Loaded.{fields-more, starts-more, lines-held, first-held}
 use Rattle.loader.specs.Load.{faultOf}
 use Rattle.loader.proofs.Passed.{few, fits, lines-printed}
-use Rattle.conversion.specs.Result.{there, back, markedBy, turned}
+use Rattle.conversion.specs.Result.{there, back, markedBy, converted}
 use Rattle.conversion.proofs.Held.{front, shape, lines-are, marks-count, front-length, all-counted, first-most, one-most, marks-start}
 
 -- a line of marks, each formula being `10`
@@ -52,13 +52,13 @@ module _ (text : List ℕ) (ok : faultOf text ≡ 0) where
   internal = internalRows (d .impl .rows)
 
   -- without the line of marks
-  pub left-out : (n : ℕ) → n ≡ shape text ok .marks .first → heldLines (fieldsHeld lines) (startsHeld lines) n ≡ printLines (turned back d)
+  pub left-out : (n : ℕ) → n ≡ shape text ok .marks .first → heldLines (fieldsHeld lines) (startsHeld lines) n ≡ printLines (converted back d)
   left-out n e =
       let k = e ∙ front-length text ok in
       first-held lines (few text ok) (fits text ok) n (omega (arith, all-counted text ok))
       ∙ (rw k (ap (take (length (front text ok))) (lines-are text ok) ∙ take-append-seam (front text ok) (ofKind 8 lines)))
 
-  pub left-fits : countAll (printLines (turned back d)) ≤ 4096
+  pub left-fits : countAll (printLines (converted back d)) ≤ 4096
   left-fits =
       let e = ap countAll (lines-are text ok) ∙ count-append (front text ok) (ofKind 8 lines) in
       let f = fits text ok in
@@ -66,20 +66,20 @@ module _ (text : List ℕ) (ok : faultOf text ≡ 0) where
 
   -- with it, where it was there
   module _ (some : shape text ok .marks .count ≢ 0) where
-    stays : printLines (turned there d) ≡ lines
+    stays : printLines (converted there d) ≡ lines
     stays = ap (λ ms. printLines (withMarks d ms)) (sym (marks-stay (d .marks) (λ z. some (marks-count text ok ∙ z)))) ∙ lines-printed text ok
       where
         marks-stay : (ms : List (List Formula)) → length ms ≢ 0 → ms ≡ markedBy ms internal
         marks-stay [] z = absurd (z refl)
         marks-stay (fs ∷ ms) z = refl
 
-    pub kept : (n : ℕ) → n ≡ shape text ok .marks .first + 1 → heldLines (fieldsHeld lines) (startsHeld lines) n ≡ printLines (turned there d)
+    pub kept : (n : ℕ) → n ≡ shape text ok .marks .first + 1 → heldLines (fieldsHeld lines) (startsHeld lines) n ≡ printLines (converted there d)
     kept n e =
         let m = one-most text ok in
         let all : length lines ≡ n = omega (arith, all-counted text ok) in
         rw (← all) (lines-held lines (few text ok) (fits text ok)) ∙ sym stays
 
-    pub kept-fits : countAll (printLines (turned there d)) ≤ 4096
+    pub kept-fits : countAll (printLines (converted there d)) ≤ 4096
     kept-fits = let e = ap countAll stays in let f = fits text ok in omega arith
 
   -- and where it is added
@@ -97,8 +97,8 @@ module _ (text : List ℕ) (ok : faultOf text ≡ 0) where
     front-all : front text ok ≡ lines
     front-all = ap (λ ms. printLines (withMarks d ms)) (sym no-marks) ∙ lines-printed text ok
 
-    turned-lines : printLines (turned there d) ≡ more
-    turned-lines =
+    converted-lines : printLines (converted there d) ≡ more
+    converted-lines =
         ap (λ ms. printLines (withMarks d (markedBy ms internal))) no-marks
         ∙ (marks-last d (replicate internal (const true) ∷ []) ∙ (ap (λ r. r ++ marksLine (replicate internal (const true)) ∷ []) front-all ∙ ap (λ (r : List ℕ). lines ++ r ∷ []) (tens-line internal)))
 
@@ -108,13 +108,13 @@ module _ (text : List ℕ) (ok : faultOf text ≡ 0) where
     starts-at : at ≡ countAll lines
     starts-at = ap (λ (i : ℕ). getD (startsHeld lines) i 0) (front-length text ok) ∙ (marks-start text ok ∙ ap countAll front-all)
 
-    pub turned-count : countAll (printLines (turned there d)) ≡ at + 1 + internal
-    turned-count = ap countAll turned-lines ∙ (count-more lines (8 ∷ replicate internal 10) ∙ omega (arith, starts-at, length-replicate {A = ℕ} internal 10))
+    pub converted-count : countAll (printLines (converted there d)) ≡ at + 1 + internal
+    converted-count = ap countAll converted-lines ∙ (count-more lines (8 ∷ replicate internal 10) ∙ omega (arith, starts-at, length-replicate {A = ℕ} internal 10))
 
     module _ (fit : at + 1 + internal ≤ 4096) (n : ℕ) (en : n ≡ shape text ok .marks .first + 1)
         (fields starts : List ℕ) (ef : fields ≡ sets (fieldsHeld lines) at (8 ∷ replicate internal 10))
         (es : starts ≡ set (startsHeld lines) (shape text ok .marks .first + 1) (at + 1 + internal)) where
-      pub added : heldLines fields starts n ≡ printLines (turned there d)
+      pub added : heldLines fields starts n ≡ printLines (converted there d)
       added =
           let m : List ℕ = 8 ∷ replicate internal 10 in
           let size : length (replicate {A = ℕ} internal 10) ≡ internal = length-replicate {A = ℕ} internal 10 in
@@ -128,4 +128,4 @@ module _ (text : List ℕ) (ok : faultOf text ≡ 0) where
           let held-fields : fields ≡ fieldsHeld more = ef ∙ (ap (λ (k : ℕ). sets (fieldsHeld lines) k m) starts-at ∙ fields-more lines m) in
           let held-starts : starts ≡ startsHeld more = es ∙ (rw (first, end) (starts-more lines m)) in
           let count : n ≡ length more = omega arith in
-          rw (held-fields, held-starts, count) (lines-held more (omega arith) (omega arith)) ∙ sym turned-lines
+          rw (held-fields, held-starts, count) (lines-held more (omega arith) (omega arith)) ∙ sym converted-lines

@@ -21,12 +21,12 @@ use Rattle.loader.specs.Load.{faultOf, heldBy, loadedOf}
 use Rattle.loader.specs.declared.Loaded.{Loaded}
 use Rattle.loader.proofs.Passed.{fault-kept}
 use Rattle.conversion.specs.declared.Written.{Written}
-use Rattle.conversion.specs.Result.{Way, there, back, turned}
+use Rattle.conversion.specs.Result.{Way, there, back, converted}
 use Rattle.conversion.specs.Answer.{trueB, every, answerOf, bufferAfter}
 use Rattle.conversion.specs.Lines.{refusedBy, doneWith, endOf, markedLines, markedAnswer, markedBuffer, tensIn}
 use Rattle.conversion.proofs.Held.{shape, internal-is, first-most, marks-tens}
 use Rattle.conversion.proofs.Ends.{fault-answer, fault-buffer, other-answer, other-buffer, many-answer, many-buffer, put-answer, put-buffer}
-use Rattle.conversion.proofs.Arrays.{left-out, left-fits, kept, kept-fits, turned-count, added}
+use Rattle.conversion.proofs.Arrays.{left-out, left-fits, kept, kept-fits, converted-count, added}
 
 module _ (text buffer : List ℕ) (l : Loaded) (el : l ≡ loadedOf text) where
   fault-is : l .fault ≡ faultOf text
@@ -62,7 +62,7 @@ module _ (text buffer : List ℕ) (l : Loaded) (el : l ≡ loadedOf text) where
       other-same e = other-buffer back text buffer ok (sym plain-is ∙ e)
 
       module _ (e : b ≡ true) (n : ℕ) (en : n ≡ h .marks .first) where
-        lines-back : heldLines (l .fields) (l .starts) n ≡ printLines (turned back (designText text))
+        lines-back : heldLines (l .fields) (l .starts) n ≡ printLines (converted back (designText text))
         lines-back = rw held (left-out text ok n (en ∙ ap (λ (x : Shape). x .marks .first) shape-is))
 
         pub back-as : (r : Written) → r ≡ doneWith (putLength buffer 0 (textOf (heldLines (l .fields) (l .starts) n))) → r ≡ answerOf back text buffer
@@ -77,7 +77,7 @@ module _ (text buffer : List ℕ) (l : Loaded) (el : l ≡ loadedOf text) where
       some-marks : shape text ok .marks .count ≢ 0
       some-marks z = some (ap (λ (x : Shape). x .marks .count) shape-is ∙ z)
 
-      lines-kept : heldLines (l .fields) (l .starts) n ≡ printLines (turned there (designText text))
+      lines-kept : heldLines (l .fields) (l .starts) n ≡ printLines (converted there (designText text))
       lines-kept = rw held (kept text ok some-marks n (en ∙ ap (λ (x : Shape). x .marks .first + 1) shape-is))
 
       pub kept-as : (r : Written) → r ≡ doneWith (putLength buffer 0 (textOf (heldLines (l .fields) (l .starts) n))) → r ≡ answerOf there text buffer
@@ -104,10 +104,10 @@ module _ (text buffer : List ℕ) (l : Loaded) (el : l ≡ loadedOf text) where
       internal : i ≡ internalRows (designText text .impl .rows)
       internal = ei ∙ (rw (held, shape-is) (internal-is text ok))
 
-      count : countAll (printLines (turned there (designText text))) ≡ end
-      count = turned-count text ok no-marks ∙ rw (held, shape-is, internal)
+      count : countAll (printLines (converted there (designText text))) ≡ end
+      count = converted-count text ok no-marks ∙ rw (held, shape-is, internal)
 
-      lines-added : end ≤ 4096 → markedLines (l .fields) (l .starts) first i ≡ printLines (turned there (designText text))
+      lines-added : end ≤ 4096 → markedLines (l .fields) (l .starts) first i ≡ printLines (converted there (designText text))
       lines-added fit =
           added text ok no-marks (rw (held, shape-is, internal) at fit) (first + 1) (rw shape-is)
           (sets (l .fields) (getD (l .starts) first 0) (8 ∷ replicate i 10)) (set (l .starts) (first + 1) end)
@@ -123,11 +123,11 @@ module _ (text buffer : List ℕ) (l : Loaded) (el : l ≡ loadedOf text) where
 
       ends : (long : Bool) → ltb 4096 end ≡ long → Ends long
       ends true e =
-          let m : 4096 < countAll (printLines (turned there (designText text))) = rw count (ltb-true 4096 end e) in
+          let m : 4096 < countAll (printLines (converted there (designText text))) = rw count (ltb-true 4096 end e) in
           (many-answer there text buffer ok refl m, λ after ea. ea ∙ many-buffer there text buffer ok refl m)
       ends false e =
           let f = ltb-false 4096 end e in
-          let m : countAll (printLines (turned there (designText text))) ≤ 4096 = rw count f in
+          let m : countAll (printLines (converted there (designText text))) ≤ 4096 = rw count f in
           let lines = markedLines (l .fields) (l .starts) first i in
           (put-answer there text buffer ok refl m lines (lines-added f), put-buffer there text buffer ok refl m lines (lines-added f))
 

@@ -22,7 +22,7 @@ use Rattle.design.specs.Faults.{Fault, DesignText, faultOrder}
 use Rattle.design.specs.Print.{printLines}
 use Rattle.loader.specs.Load.{faultOf}
 use Rattle.loader.proofs.Lowest.{lowest-fault, free-exactly, fault-number}
-use Rattle.conversion.specs.Result.{Way, there, back, turned, OtherFormula, other, TooLong, bytes, fields, Refused, fault, formula, long, TurnedDown}
+use Rattle.conversion.specs.Result.{Way, there, back, converted, OtherFormula, other, TooLong, bytes, fields, Refused, fault, formula, long, TurnedDown}
 use Rattle.conversion.specs.Answer.{trueB, every, plainB, tooLongB, designNumber, numberOf}
 
 -- ---- 15: a formula is `10` by its fields exactly if the test says so
@@ -76,7 +76,7 @@ some-not test (x ∷ xs) e = go (test x) refl e (some-not test xs)
     go true q h later = let a = later h in record { one = a .one; among = List·Memᴰ·tail (a .among); fails = a .fails }
     go false q h later = record { one = x; among = List·Memᴰ·head refl; fails = q }
 
-no-other : (x : Design) → every (every trueB) (x .marks) ≡ true → OtherFormula x → ⊥
+pub no-other : (x : Design) → every (every trueB) (x .marks) ≡ true → OtherFormula x → ⊥
 no-other x e (other {formulas = fs} {f = f} m k n) = n (true-is f (every-so trueB fs (every-so (every trueB) (x .marks) e m) k))
 
 has-other : (x : Design) → every (every trueB) (x .marks) ≡ false → OtherFormula x
@@ -154,17 +154,17 @@ module _ (way : Way) (text : List ℕ) (room : ℕ) where
     no-15 p e (formula w o) = plain-other w p o
     no-15 p e (long t) = omega arith
 
-    by-tests : (p l : Bool) → plainB way d ≡ p → tooLongB room (turned way d) ≡ l → Settled (cond p (cond l 16 0) 15)
+    by-tests : (p l : Bool) → plainB way d ≡ p → tooLongB room (converted way d) ≡ l → Settled (cond p (cond l 16 0) 15)
     by-tests false l ep el =
         let w = not-plain way ep in
         due (without faultOrder faults-low is (here (formula w (has-other d (ap (λ (v : Way). plainB v d) (sym w) ∙ ep)))))
-    by-tests true true ep el = due (without faultOrder faults-low is (past (no-15 ep refl) (here (long (is-long room (turned way d) el)))))
+    by-tests true true ep el = due (without faultOrder faults-low is (past (no-15 ep refl) (here (long (is-long room (converted way d) el)))))
     by-tests true false ep el = free none
       where
         none : (k : ℕ) → Refused way text room k → ⊥
         none k (fault f) = is k f
         none k (formula w o) = plain-other w ep o
-        none k (long t) = not-long room (turned way d) el t
+        none k (long t) = not-long room (converted way d) el t
 
   settled : Settled (numberOf way text room)
   unfolding numberOf

@@ -17,7 +17,7 @@ use Rattle.design.specs.Lines.{designText}
 use Rattle.design.specs.Print.{parameterLine, rowLine, lastLines, marksLine, printLines}
 use Rattle.loader.specs.Load.{faultOf}
 use Rattle.conversion.specs.declared.Written.{Written}
-use Rattle.conversion.specs.Result.{Way, there, turned, resultOf}
+use Rattle.conversion.specs.Result.{Way, there, converted, resultOf}
 use Rattle.conversion.specs.Answer.{plainB, tooLongB, numberOf, answerOf, bufferAfter}
 use Rattle.conversion.specs.Lines.{refusedBy, doneWith}
 
@@ -75,7 +75,7 @@ module _ (way : Way) (text buffer : List ℕ) where
 
   module _ (ok : faultOf text ≡ 0) where
     abbrev result : Design
-    result = turned way (designText text)
+    result = converted way (designText text)
 
     abbrev bytes : List ℕ
     bytes = textOf (printLines result)

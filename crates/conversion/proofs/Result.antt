@@ -1,4 +1,4 @@
--- What is written for a design text has just the lines of the turned design (`result-lines`), says that design (`result-design`) and, if it
+-- What is written for a design text has just the lines of the converted design (`result-lines`), says that design (`result-design`) and, if it
 -- is of no more than 4,096 fields, is a design text (`result-free`).
 use Prim.Native.Nat.{ℕ, zero, suc, _≤_}
 use mathlib.Core.Path.{_≡_, refl, ap, _∙_}
@@ -30,7 +30,7 @@ use Rattle.loader.specs.Load.{faultOf}
 use Rattle.loader.proofs.Loading.{few-lines}
 use Rattle.loader.proofs.Lowest.{free-exactly}
 use Rattle.loader.proofs.Passed.{lay, is-design-text, lines-printed}
-use Rattle.conversion.specs.Result.{Way, there, back, markedBy, turned, resultOf}
+use Rattle.conversion.specs.Result.{Way, there, back, markedBy, converted, resultOf}
 
 -- ---- a line of formulas that are true, one for each internal row, of which there are at most 32
 
@@ -70,7 +70,7 @@ internal-rows (r ∷ rows) = go (eqb (r .action) 0) (internal-rows rows)
     go true h = omega arith
     go false h = omega arith
 
--- ---- the lines of the turned design
+-- ---- the lines of the converted design
 
 -- they are those of a design text, and say the design
 record Sound (d : Design) : Type 0 where
@@ -106,22 +106,22 @@ module _ (text : List ℕ) (ok : faultOf text ≡ 0) where
       (nth-cons (MarksLine d) (trues-line d few-internal) (λ k fs at. absurd (nth-nil at)))
   marked (fs ∷ ms) e = rw (← e) copied
 
-  sound : (way : Way) → Sound (turned way d)
+  sound : (way : Way) → Sound (converted way d)
   sound there = marked (d .marks) refl
   sound back = with-marks [] (omega arith) (λ k fs at. absurd (nth-nil at))
 
   -- ---- so
 
   module _ (way : Way) where
-    pub result-lines : fieldsByLine (resultOf way text) ≡ printLines (turned way (designText text))
+    pub result-lines : fieldsByLine (resultOf way text) ≡ printLines (converted way (designText text))
     result-lines = written-lines (sound way .faultless .fields)
 
-    pub result-design : designText (resultOf way text) ≡ turned way (designText text)
+    pub result-design : designText (resultOf way text) ≡ converted way (designText text)
     result-design = ap designOf result-lines ∙ sound way .says
 
-    module _ (fit : countAll (printLines (turned way (designText text))) ≤ 4096) where
+    module _ (fit : countAll (printLines (converted way (designText text))) ≤ 4096) where
       pub result-free : DesignText (resultOf way text)
-      result-free = let f = sound way .faultless in faultless-text f (few-lines (printLines (turned way d)) (f .layout)) fit
+      result-free = let f = sound way .faultless in faultless-text f (few-lines (printLines (converted way d)) (f .layout)) fit
 
       -- in the words of loading
       pub result-loads : faultOf (resultOf way text) ≡ 0

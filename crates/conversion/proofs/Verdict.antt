@@ -9,9 +9,8 @@ use Rattle.terms.specs.Tree.{Formula, const, compare, negation, join, noFormula
 use Rattle.reader.specs.Text.{fieldsByLine}
 use Rattle.criteria.specs.Design.{Design, withMarks}
 use Rattle.criteria.specs.Step.{internalRows}
-use Rattle.criteria.specs.Unmarked.{AllMarked}
 use Rattle.criteria.proofs.Rows.{and-true}
-use Rattle.criteria.proofs.Unmarked.{unmarked-all, tens-all}
+use Rattle.criteria.proofs.Unmarked.{AllMarked, unmarked-all, tens-all}
 use Rattle.decision.specs.Verdict.{verdictOf}
 use Rattle.decision.proofs.AllMarked as decision
 use Rattle.design.specs.Line.{formulasIn, marksOf}
@@ -19,7 +18,7 @@ use Rattle.design.specs.Lines.{ofKind, countOf, internalOf, designOf, designTex
 use Rattle.design.proofs.WholeText.{counted}
 use Rattle.loader.specs.Load.{faultOf}
 use Rattle.loader.proofs.Passed.{lay, admitted}
-use Rattle.conversion.specs.Result.{Way, there, back, markedBy, turned}
+use Rattle.conversion.specs.Result.{Way, there, back, markedBy, converted}
 use Rattle.conversion.specs.Answer.{trueB, every, plainB}
 use Rattle.conversion.proofs.Held.{marks-are}
 
@@ -78,6 +77,6 @@ module _ (text : List ℕ) (ok : faultOf text ≡ 0) where
       decision.same-verdict d ms (admitted text ok) (unmarked-all d e) (tens-all (withMarks d ms) refl)
   marked-verdict (fs ∷ ms) e = rw (← e)
 
-  pub same-verdict : (way : Way) → plainB way d ≡ true → verdictOf (turned way d) ≡ verdictOf d
+  pub same-verdict : (way : Way) → plainB way d ≡ true → verdictOf (converted way d) ≡ verdictOf d
   same-verdict there p = marked-verdict (d .marks) refl
   same-verdict back p = decision.same-verdict d [] (admitted text ok) (tens-marked p) (unmarked-all (withMarks d []) refl)

@@ -13,7 +13,7 @@ use Rattle.criteria.specs.Design.{Design}
 use Rattle.design.specs.Lines.{designText}
 use Rattle.design.specs.Print.{printLines}
 use Rattle.loader.specs.Load.{faultOf}
-use Rattle.conversion.specs.Result.{Way, there, back, turned, resultOf}
+use Rattle.conversion.specs.Result.{Way, there, back, converted, resultOf}
 use Rattle.conversion.specs.declared.Written.{Written}
 
 -- ---- as tests
@@ -43,7 +43,7 @@ tooLongB room d = ltb room (length (textOf (printLines d))) || ltb maxFields (co
 
 -- of a design text
 abbrev pub designNumber : Way → Design → ℕ → ℕ
-designNumber way d room = cond (plainB way d) (cond (tooLongB room (turned way d)) 16 0) 15
+designNumber way d room = cond (plainB way d) (cond (tooLongB room (converted way d)) 16 0) 15
 
 unfoldable pub numberOf : Way → List ℕ → ℕ → ℕ
 numberOf way text room = cond (eqb (faultOf text) 0) (designNumber way (designText text) room) (faultOf text)

@@ -50,7 +50,7 @@ tens fields at (suc n) = eqb (getD fields at 0) 10 && tens fields (suc at) n
 abbrev pub tensFrom : List ℕ → ℕ → ℕ → Bool
 tensFrom fields from to = tens fields from (to - from)
 
--- those of the line of marks behind its kind; so without one
+-- the fields behind the kind of the line of marks are all 10; true where there is no such line
 unfoldable pub tensIn : List ℕ → List ℕ → Shape → Bool
 tensIn fields starts h =
     cond (eqb (h .marks .count) 0) true (tensFrom fields (getD starts (h .marks .first) 0 + 1) (getD starts (h .marks .first + 1) 0))

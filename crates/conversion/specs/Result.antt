@@ -28,13 +28,13 @@ markedBy [] n = replicate n (const true) ∷ []
 markedBy (formulas ∷ more) n = formulas ∷ more
 
 -- "and back": without the line
-abbrev pub turned : Way → Design → Design
-turned there d = withMarks d (markedBy (d .marks) (internalRows (d .impl .rows)))
-turned back d = withMarks d []
+abbrev pub converted : Way → Design → Design
+converted there d = withMarks d (markedBy (d .marks) (internalRows (d .impl .rows)))
+converted back d = withMarks d []
 
 -- what is written for a design text
 abbrev pub resultOf : Way → List ℕ → List ℕ
-resultOf way text = textOf (printLines (turned way (designText text)))
+resultOf way text = textOf (printLines (converted way (designText text)))
 
 -- ---- turned down
 
@@ -52,7 +52,7 @@ pub data Refused (way : Way) (text : List ℕ) (room : ℕ) : ℕ → Type 0 whe
   fault : {k : ℕ} → Fault text k → Refused way text room k
   -- "on the way back only"
   formula : way ≡ back → OtherFormula (designText text) → Refused way text room 15
-  long : TooLong room (turned way (designText text)) → Refused way text room 16
+  long : TooLong room (converted way (designText text)) → Refused way text room 16
 
 -- "after 1 to 7, on the way back only, 15 ..; then 16": the first in this order is given
 abbrev pub answerOrder : List ℕ

@@ -8,6 +8,7 @@ ghost use mathlib.Core.List.{_∷_};
 ghost use Prim.Native.Nat.{_+_, _≤_, _<_};
 ghost use lib.ListN.{replicate};
 ghost use lib.Seq.{sets};
+ghost use Rattle.limits.specs.Limits.{maxFields, maxLines};
 ghost use Rattle.reader.specs.Text.{textOf};
 ghost use Rattle.writer.specs.Put.{put, putLength};
 ghost use Rattle.design.specs.Loaded.{heldLines};
@@ -32,7 +33,7 @@ pub fn to_marked(text: &[u8], buffer: &mut [u8]) -> Written
     ensures { λ _. ⌜ now (buffer .exit) ≡ bufferAfter there (now (text .entry)) (now (buffer .entry)) ⌝ }
 {
     let loaded = loader::load(text);
-    let fault = loaded.fault;
+    let fault = loaded.fault; // also of a text that is only copied
     if fault != 0 {
         return refused(fault);
     }
@@ -53,9 +54,9 @@ pub fn to_unmarked(text: &[u8], buffer: &mut [u8]) -> Written
     ensures { λ _. ⌜ now (buffer .exit) ≡ bufferAfter back (now (text .entry)) (now (buffer .entry)) ⌝ }
 {
     let loaded = loader::load(text);
-    let number = loaded.fault;
-    if number != 0 {
-        return refused(number);
+    let fault = loaded.fault;
+    if fault != 0 {
+        return refused(fault);
     }
     let shape = layout::shape_of(loaded.counts);
     let lines = shape.marks.first as u16;
@@ -91,7 +92,7 @@ fn write<'a>(
 
 // The text of the lines with one of n marks behind them, as line i, if it fits.
 fn write_marked(buffer: &mut [u8], lines: Loaded, i: u16, n: u16) -> Written
-    requires { ⌜ i < 84 ⌝ }
+    requires { ⌜ i < maxLines ⌝ }
     ensures { λ r. ⌜ r ≡ markedAnswer (now (buffer .entry)) (lines .fields) (lines .starts) i n ⌝ }
     ensures { λ _. ⌜ now (buffer .exit) ≡ markedBuffer (now (buffer .entry)) (lines .fields) (lines .starts) i n ⌝ }
 {
@@ -108,7 +109,7 @@ fn write_marked(buffer: &mut [u8], lines: Loaded, i: u16, n: u16) -> Written
 
 // A line of marks from a place on: its kind, and n formulas that are true.
 fn put_marks(fields: &mut limits::Fields, at: usize, n: u16)
-    requires { ⌜ at + 1 + n ≤ 4096 ⌝ }
+    requires { ⌜ at + 1 + n ≤ maxFields ⌝ }
     ensures { λ _. ⌜ now (fields .exit) ≡ sets (now (fields .entry)) at (8 ∷ replicate n 10) ⌝ }
 {
     fields[at] = MARKS;
@@ -117,7 +118,7 @@ fn put_marks(fields: &mut limits::Fields, at: usize, n: u16)
 
 // n formulas that are true, from a place on.
 fn put_true(fields: &mut limits::Fields, at: usize, n: u16)
-    requires { ⌜ at + n ≤ 4096 ⌝ }
+    requires { ⌜ at + n ≤ maxFields ⌝ }
     ensures { λ _. ⌜ now (fields .exit) ≡ sets (now (fields .entry)) at (replicate n 10) ⌝ }
 {
     let mut i = 0;
@@ -127,7 +128,7 @@ fn put_true(fields: &mut limits::Fields, at: usize, n: u16)
     }
 }
 
-// Whether each formula of the line of marks is `10`, by its fields; so where there is no such line.
+// Whether each formula of the line of marks is `10`, by its fields; true where there is no such line.
 fn marks_true<'a>(fields: &'a limits::Fields, starts: &'a limits::Starts, shape: Shape) -> bool
     ensures { λ r. ⌜ r ≡ tensIn (now (fields .entry)) (now (starts .entry)) shape ⌝ }
 {
@@ -146,10 +147,11 @@ fn all_true(fields: &limits::Fields, from: usize, to: usize) -> bool
 {
     let mut at = from;
     while at < to {
-        if terms::field(fields, at) != TRUE {
+        if terms::field(fields, at) == TRUE {
+            at += 1;
+        } else {
             return false;
         }
-        at += 1;
     }
     true
 }

@@ -10,14 +10,18 @@ use lib.ListN.{take, replicate, getD-replicate}
 use Rattle.foundation.specs.Trial.{Place}
 use Rattle.foundation.proofs.Nth.{nth-positive}
 use Rattle.terms.specs.Tree.{Formula, const, noFormula, evalF}
-use Rattle.criteria.specs.Design.{Design, State, InvariantState, withMarks}
-use Rattle.criteria.specs.Step.{Internal, all-marked, internalRows, MarkedStep, FocusPoint, Chain, Run, none, more, statesOf}
+use Rattle.criteria.specs.Design.{Design, Row, State, RowIs, InvariantState, withMarks}
+use Rattle.criteria.specs.Step.{InternalRow, Internal, Marked, all-marked, internalRows, MarkedStep, FocusPoint, Chain, Run, none, more, statesOf}
 use Rattle.criteria.specs.Criteria.{Criterion1, Criteria, Meets}
 use Rattle.criteria.specs.Failure.{Failure, FailsAt, second, third, fourth, fifth, sixth, seventh, eighth, ninth, Fails, start, at, LowestFailure}
 use Rattle.criteria.specs.Bisimilar.{Promised, Demand3}
 use Rattle.criteria.specs.Unmarked as plain
-use Rattle.criteria.specs.Unmarked.{Unmarked, AllMarked}
+use Rattle.criteria.specs.Unmarked.{Unmarked}
 use Rattle.criteria.proofs.Rows.{is-row-at, is-row-below, internal-below, holds-marked}
+
+-- every internal step is marked
+abbrev pub AllMarked : Design → Type 0
+AllMarked d = (k : ℕ) (r : Row) → RowIs (d .impl .rows) k r → InternalRow r → (s : State) (e : ℕ) → Marked d k s e
 
 -- "Without the line all steps are marked."
 pub unmarked-all : (d : Design) → Unmarked d → AllMarked d

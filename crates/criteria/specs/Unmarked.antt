@@ -1,14 +1,14 @@
--- What a design in which all steps are marked means, in the words of 01 and 00 alone, which know no marks: focus points, criteria 5 and 7,
--- which failure is the lowest, runs and demand 3. "Without the line all steps are marked" (02, order 1), and with one whose formulas are
--- all `10` they are too. The criteria and the lowest failure are then these, and demand 3 gives this: proofs/Unmarked. ("Unmarked" is 02's
--- word for a text without the line; its steps are all marked.)
+-- What a design without a kind 8 line means, in the words of 01 and 00 alone, which know no marks: focus points, criteria 5 and 7, which
+-- failure is the lowest, runs and demand 3. "Without the line all steps are marked" (02, order 1), so the criteria and the lowest failure
+-- are these, and demand 3 gives this: proofs/Unmarked. ("Unmarked" is 02's word for a text without the line; its steps are all marked. A
+-- line whose formulas are all `10` comes to the same: proofs/Unmarked too.)
 use mathlib.Core.Path.{_≡_}
 use mathlib.Core.List.{[]}
 use Prim.Native.Nat.{ℕ, _≤_, _<_}
 use Rattle.foundation.specs.Lowest.{Lowest}
 use Rattle.foundation.specs.Trial.{Place, place}
 use Rattle.criteria.specs.Design.{Design, Row, State, RowIs, InvariantState, mapped, measureAt, initialState, stateNumber}
-use Rattle.criteria.specs.Step.{Enabled, InternalRow, Marked, ActionEnabled, Internal, Chain, nextState}
+use Rattle.criteria.specs.Step.{Enabled, InternalRow, ActionEnabled, Internal, Chain, nextState}
 use Rattle.criteria.specs.Criteria.{Each, Criterion1, Criterion2, Criterion3, Criterion4, Criterion6, Criterion8, Criterion9}
 use Rattle.criteria.specs.Failure.{Failure, turn, startFailure, failureAt}
 use Rattle.criteria.specs.Bisimilar.{Bisimilar, Stays}
@@ -16,10 +16,6 @@ use Rattle.criteria.specs.Bisimilar.{Bisimilar, Stays}
 -- the text has no kind 8 line
 abbrev pub Unmarked : Design → Type 0
 Unmarked d = d .marks ≡ []
-
--- every internal step is marked
-abbrev pub AllMarked : Design → Type 0
-AllMarked d = (k : ℕ) (r : Row) → RowIs (d .impl .rows) k r → InternalRow r → (s : State) (e : ℕ) → Marked d k s e
 
 -- "A focus point is a state with no internal row enabled."
 abbrev pub FocusPoint : Design → State → Type 0

@@ -6,8 +6,7 @@ use Rattle.terms.specs.Tree.{Formula}
 use Rattle.criteria.specs.Design.{Design, Admitted, withMarks}
 use Rattle.criteria.specs.Criteria.{Meets}
 use Rattle.criteria.specs.Failure.{Failure, LowestFailure}
-use Rattle.criteria.specs.Unmarked.{AllMarked}
-use Rattle.criteria.proofs.Unmarked.{meets-same, lowest-same, meets-any, lowest-any}
+use Rattle.criteria.proofs.Unmarked.{AllMarked, meets-same, lowest-same, meets-any, lowest-any}
 use Rattle.decision.specs.Verdict.{verdictOf}
 use Rattle.decision.proofs.Demand2.{demand2, one-verdict}
 

@@ -13,7 +13,7 @@ ghost use Rattle.text_writer.specs.Length.{lineText, between, lineBytes,
 
 const LINE_END: u8 = 10;
 
-// The text of the first n lines; its length, or 0 where the buffer is too short for it.
+// The text of the first n lines; its length, which is 0 for no lines, or 0 where the buffer is too short for it.
 pub fn put_text<'a>(
     buffer: &mut [u8],
     fields: &'a limits::Fields,
@@ -23,7 +23,7 @@ pub fn put_text<'a>(
     ensures { λ r. ⌜ r ≡ putLength (now (buffer .entry)) 0 (textOf (heldLines (now (fields .entry)) (now (starts .entry)) n)) ⌝ }
     ensures { λ _. ⌜ now (buffer .exit) ≡ put (now (buffer .entry)) 0 (textOf (heldLines (now (fields .entry)) (now (starts .entry)) n)) ⌝ }
 {
-    let all: &[u16] = fields; // as a slice it has its length, which bounds the lines
+    let all: &[u16] = fields; // lent as a slice: the proofs below then know its length
     let bytes = text_bytes(starts, n);
     if buffer.len() < bytes {
         return 0;

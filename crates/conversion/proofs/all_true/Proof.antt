@@ -22,8 +22,8 @@ all-true-spec =
     μ-loop
     (λ c. refl)
     (λ c κs. search needs)
-    (λ c. search laws.looked-other)
     (λ c. search needs)
     (λ c. omega arith)
     (λ c. search laws.looked-turn)
+    (λ c. search laws.looked-other)
     (λ c. search laws.looked-all))
