@@ -124,14 +124,14 @@ typedef size_t writer(const uint8_t *text, size_t text_len, uint8_t *buffer, siz
 enum fit { EMPTY, SHORTER, ONE_SHORT, EXACT, LONGER, FITS };
 
 // A writer, ours and the reference's, and what came of its calls.
-struct sort {
+struct both {
     const char *name;
     writer *ours, *reference;
     unsigned by_number[NUMBERS], copies, by_fields, by_fit[FITS];
 };
 
 // Both writers with a buffer of so many bytes, among bytes that they must leave alone. Gives the length of the result, and the number.
-static size_t write_both(int i, const struct text *t, const struct sort *s, size_t room, uint32_t *number) {
+static size_t write_both(int i, const struct text *t, const struct both *s, size_t room, uint32_t *number) {
     static uint8_t due[GUARD + ROOM + 2 * MORE + GUARD], got[sizeof due];
     const struct call call = {s->name, i, t, room};
     const size_t area = GUARD + room + GUARD;
@@ -164,7 +164,7 @@ static enum fit fit_of(size_t room, size_t result) {
 }
 
 // First with a buffer that is long enough, then with one of about the length of the result, or of the text if there is none.
-static void write_one(int i, const struct text *t, struct sort *s) {
+static void write_one(int i, const struct text *t, struct both *s) {
     uint32_t number;
     const size_t result = write_both(i, t, s, t->len + MORE, &number), room = room_for(result ? result : t->len);
     s->by_number[number]++;
@@ -177,7 +177,7 @@ static void write_one(int i, const struct text *t, struct sort *s) {
     s->by_number[number]++;
 }
 
-static void print_sort(const struct sort *s) {
+static void print_writer(const struct both *s) {
     unsigned calls = 0, results = 0;
     for (int n = 0; n < NUMBERS; n++) calls += s->by_number[n];
     for (int f = 0; f < FITS; f++) results += s->by_fit[f];
@@ -262,7 +262,7 @@ int main(int n, char **words) {
     static struct pool pool;
     static struct text t;
     static struct counts seen;
-    static struct sort sorts[] = {
+    static struct both writers[] = {
         {.name = "mark_design", .ours = mark_design, .reference = reference_mark},
         {.name = "unmark_design", .ours = unmark_design, .reference = reference_unmark},
     };
@@ -271,7 +271,7 @@ int main(int n, char **words) {
     for (int i = 0; i < texts; i++) {
         make_text(&t, &pool);
         check_one(i, &t, &seen);
-        for (int k = 0; k < 2; k++) write_one(i, &t, &sorts[k]);
+        for (int k = 0; k < 2; k++) write_one(i, &t, &writers[k]);
         desk_one(desk, &t, calls, due);
     }
     reference_free(desk);
@@ -280,5 +280,5 @@ int main(int n, char **words) {
     print_counts("texts", seen.all);
     print_counts("of them with marks", seen.marked);
     printf("fuzz: %u of these get another report without the line of kind 8\n", seen.by_marks);
-    for (int k = 0; k < 2; k++) print_sort(&sorts[k]);
+    for (int k = 0; k < 2; k++) print_writer(&writers[k]);
 }

@@ -5,7 +5,8 @@
 
 int main(int words, char **word)
 {
-    static uint8_t text[28673], marked[MARK_RESULT_BYTES], back[MARK_RESULT_BYTES]; /* a result is never longer */
+    static uint8_t text[28673]; /* one byte more than a text may have: a longer one is turned down by it */
+    static uint8_t marked[MARK_RESULT_BYTES], back[MARK_RESULT_BYTES]; /* a result is never longer */
     uint8_t report[CHECK_REPORT_BYTES], with_marks[CHECK_REPORT_BYTES];
     uint32_t number;
     FILE *file = words == 2 ? fopen(word[1], "rb") : NULL;
@@ -28,8 +29,11 @@ int main(int words, char **word)
     check_design(marked, marked_length, with_marks, sizeof with_marks);
     printf("%s; ", memcmp(report, with_marks, sizeof report) == 0 ? "the same report" : "another report");
     size_t back_length = unmark_design(marked, marked_length, back, sizeof back, &number);
-    if (number == MARK_OTHER_FORMULA) printf("marks other than 10 stay\n"); /* then the table had the line, and marked is its copy */
-    else printf("%s\n", back_length == length && memcmp(back, text, length) == 0 ? "the same text again" : "another text");
+    if (number == MARK_OTHER_FORMULA) printf("marks other than 10 stay\n"); /* the table had the line, and marked is its copy */
+    else if (number != MARK_DONE) {
+        fprintf(stderr, "marks: turned down by %u\n", (unsigned)number);
+        return 2;
+    } else printf("%s\n", back_length == length && memcmp(back, text, length) == 0 ? "the same text again" : "the text without its line");
     if (fflush(stdout) != 0) {
         perror("marks");
         return 65;

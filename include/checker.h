@@ -79,8 +79,8 @@ uint32_t check_design(const uint8_t *text, size_t text_len, uint8_t *report, siz
  * Of several reasons the lowest is given. A buffer of MARK_RESULT_BYTES is long enough for every result: with it 16 comes from mark_design
  * alone, for too many fields.
  *
- * check_design has the same report for the text and for the result. unmark_design makes the text again, byte for byte, of what mark_design
- * made of a text without a line of kind 8.
+ * check_design has the same report for the text and for the result. Of what mark_design made of a text without a line of kind 8,
+ * unmark_design makes the text again, byte for byte, in a buffer of at least text_len bytes.
  *
  * A call that is turned down writes nothing to the buffer. The bytes of the buffer after the result keep their content. There is no byte 0
  * at the end.

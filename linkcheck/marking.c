@@ -1,4 +1,5 @@
-/* A table's text with a line of kind 8, and without it. What is written, and whether, is for mark_design and unmark_design to say. */
+/* A table's text with a line of kind 8, and without it. What is written, and whether, is for mark_design and unmark_design to say. Where
+ * linkcheck's own reading comes to another number, nothing is written: the library was made for other rules. */
 #define _POSIX_C_SOURCE 200809L
 #include "explain.h"
 #include "names.h"

@@ -54,7 +54,7 @@ struct table {
 
 /* Where a text breaks which rule. */
 struct fault {
-    unsigned number; /* the turned-down number, 1 to 7; 0 for none */
+    unsigned number; /* the turned-down number: 1 to 7, or 15 or 16 of a writer; 0 for none */
     size_t line;     /* counted from 1; 0 if it is no single line's */
     char words[120];
 };

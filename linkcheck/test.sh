@@ -196,6 +196,7 @@ try_marked() {
         gives <(sed '$d' "$1") --unmark "$1"
     else
         status 2 --unmark "$1"
+        if [ -s "$work/out" ]; then fail "--unmark $1: written, though it is turned down"; fi
         [[ $(< "$work/error") =~ ": turned down 15 (marks), line $(wc -l < "$1"): the formula of row "[1-9][0-9]*" is not 10"$ ]] ||
             fail "--unmark $1: 15 is due, not \"$(< "$work/error")\""
     fi
@@ -205,6 +206,7 @@ mkdir "$work/marked"
 tried=0
 while IFS= read -r line <&3 && IFS= read -r report <&4; do
     table=${line%%  *} words=${line#*  }
+    # Those about criteria and about many states have nothing new for a writer.
     if [[ $table =~ /[cs][0-9]*_ ]]; then continue; fi
     if [[ $words == "turned down "* ]]; then for look in --mark --unmark; do turned_down "$words" $look "$table"; done
     elif tail -n 1 "$table" | grep -q '^     8'; then try_marked "$table"
@@ -218,7 +220,7 @@ gives "$tables/m_P_given.txt" --mark "$good"
 input=$good gives "$tables/m_P_given.txt" --mark -
 input=$tables/m_P_given.txt gives "$good" --unmark -
 turned_down "turned down 15 (marks), line 15: the formula of row 3 is not 10" --unmark "$work/marks/all-marked-not-by-10.txt"
-# With the last of its 15 marks as its invariant, a table of so many fields has as many again once its marks are 10.
+# The last of its 15 marks becomes its invariant, so that with marks `10` the table comes to just that many fields again.
 for fields in 4096 4097; do
     awk 'NR == FNR { last = $0; next } /^     5/ { $0 = "     5" substr(last, 91) } !/^     8/' \
         "$tables/m_t3_fields_$fields.txt" "$tables/m_t3_fields_$fields.txt" > "$work/with_$fields"

@@ -170,6 +170,8 @@ END
 800 0 --unmark $none
 800 0 --unmark $other
 800 0 --mark $full
+800 4 --mark $none
+800 15 --unmark $other
 END
 fi
 

@@ -31,15 +31,18 @@ pub written : {text report after : List ℕ} {r : ℕ} → Checks text report r 
 written (checks κs text report after r p) = p .1
 
 -- the number, the length and the buffer of a writer's call
-pub writer-number : {way : Way} {text buffer after : List ℕ} {n r : ℕ} → Writes way text buffer n r after → n ≡ conversion.answerOf way text buffer .number
+pub writer-number : {way : Way} {text buffer after : List ℕ} {n r : ℕ} → Writes way text buffer n r after
+    → n ≡ conversion.answerOf way text buffer .number
 writer-number (marks κs text buffer after before number r p) = p .1 .1
 writer-number (unmarks κs text buffer after before number r p) = p .1 .1
 
-pub writer-length : {way : Way} {text buffer after : List ℕ} {n r : ℕ} → Writes way text buffer n r after → r ≡ conversion.answerOf way text buffer .length
+pub writer-length : {way : Way} {text buffer after : List ℕ} {n r : ℕ} → Writes way text buffer n r after
+    → r ≡ conversion.answerOf way text buffer .length
 writer-length (marks κs text buffer after before number r p) = p .0
 writer-length (unmarks κs text buffer after before number r p) = p .0
 
-pub writer-buffer : {way : Way} {text buffer after : List ℕ} {n r : ℕ} → Writes way text buffer n r after → after ≡ conversion.bufferAfter way text buffer
+pub writer-buffer : {way : Way} {text buffer after : List ℕ} {n r : ℕ} → Writes way text buffer n r after
+    → after ≡ conversion.bufferAfter way text buffer
 writer-buffer (marks κs text buffer after before number r p) = p .1 .0
 writer-buffer (unmarks κs text buffer after before number r p) = p .1 .0
 
@@ -61,9 +64,14 @@ asks-nothing = record {
 abbrev lent : {A : Type 0} → A → RefT A
 lent x = record { ptr = (0, 0); name = 0; now = x }
 
-answer-writer : (way : Way) (text buffer : List ℕ) → Writes way text buffer (conversion.answerOf way text buffer .number) (conversion.answerOf way text buffer .length) (conversion.bufferAfter way text buffer)
-answer-writer there text buffer = marks ([], ([], ([], tt))) (lent text) (lent buffer) (lent (conversion.bufferAfter there text buffer)) (lent 0) (lent (conversion.answerOf there text buffer .number)) _ (refl, (refl, refl))
-answer-writer back text buffer = unmarks ([], ([], ([], tt))) (lent text) (lent buffer) (lent (conversion.bufferAfter back text buffer)) (lent 0) (lent (conversion.answerOf back text buffer .number)) _ (refl, (refl, refl))
+writes-as : (way : Way) (text buffer : List ℕ) → let w = conversion.answerOf way text buffer in
+    Writes way text buffer (w .number) (w .length) (conversion.bufferAfter way text buffer)
+writes-as there text buffer =
+    marks ([], ([], ([], tt))) (lent text) (lent buffer) (lent (conversion.bufferAfter there text buffer))
+    (lent 0) (lent (conversion.answerOf there text buffer .number)) _ (refl, (refl, refl))
+writes-as back text buffer =
+    unmarks ([], ([], ([], tt))) (lent text) (lent buffer) (lent (conversion.bufferAfter back text buffer))
+    (lent 0) (lent (conversion.answerOf back text buffer .number)) _ (refl, (refl, refl))
 
 pub answered-all : Answered
 answered-all = record {
@@ -77,7 +85,9 @@ answered-all = record {
     bufferAfter text report,
     checks ([], ([], tt)) (lent text) (lent report) (lent (bufferAfter text report)) (answerOf text report) (refl, refl),
   );
-  writer = λ way text buffer. (conversion.answerOf way text buffer .number, conversion.answerOf way text buffer .length, conversion.bufferAfter way text buffer, answer-writer way text buffer);
+  writer = λ way text buffer.
+      let w = conversion.answerOf way text buffer in
+      (w .number, w .length, conversion.bufferAfter way text buffer, writes-as way text buffer);
 }
 
 -- ---- lists

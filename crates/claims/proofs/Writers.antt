@@ -142,7 +142,8 @@ module _ {way : Way} {text buffer after : List ℕ} {r : ℕ} (w : Writes way te
     wanted =
         ap (λ (t : List ℕ). countOf 8 (fieldsByLine t)) written-is
         ∙ (ap (countOf 8) (result-lines text ok way)
-        ∙ (ap length (of-8 (converted way (designText text))) ∙ (length-map marksLine (converted way (designText text) .marks) ∙ marks-converted text ok way)));
+        ∙ (ap length (of-8 (converted way (designText text)))
+        ∙ (length-map marksLine (converted way (designText text) .marks) ∙ marks-converted text ok way)));
     says = says-is;
     copied = λ e. written-is ∙ (ap (λ (x : Design). textOf (printLines x)) (same-converted text ok way e) ∙ printed-again text is);
   }
@@ -200,6 +201,8 @@ writers = record {
   restores = λ none there-call back-call. written-is back-call ∙ restored none there-call;
   way-back = λ none there-call back-call l. done-by back-call .1 (back-free none there-call l);
   same-report = λ {text = text} {after = after} {r = r} w {report = report} x y.
-      let j = sym (judged-same w) in
-      (answered x ∙ (answer-same text (take r after) report j ∙ sym (answered y)), written x ∙ (buffer-same text (take r after) report j ∙ sym (written y)));
+      let j = sym (judged-same w) in (
+        answered x ∙ (answer-same text (take r after) report j ∙ sym (answered y)),
+        written x ∙ (buffer-same text (take r after) report j ∙ sym (written y)),
+      );
 }

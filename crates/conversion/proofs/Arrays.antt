@@ -100,7 +100,8 @@ module _ (text : List ℕ) (ok : faultOf text ≡ 0) where
     converted-lines : printLines (converted there d) ≡ more
     converted-lines =
         ap (λ ms. printLines (withMarks d (markedBy ms internal))) no-marks
-        ∙ (marks-last d (replicate internal (const true) ∷ []) ∙ (ap (λ r. r ++ marksLine (replicate internal (const true)) ∷ []) front-all ∙ ap (λ (r : List ℕ). lines ++ r ∷ []) (tens-line internal)))
+        ∙ (marks-last d (replicate internal (const true) ∷ [])
+        ∙ (ap (λ r. r ++ marksLine (replicate internal (const true)) ∷ []) front-all ∙ ap (λ (r : List ℕ). lines ++ r ∷ []) (tens-line internal)))
 
     abbrev at : ℕ
     at = getD (startsHeld lines) (shape text ok .marks .first) 0
@@ -109,7 +110,9 @@ module _ (text : List ℕ) (ok : faultOf text ≡ 0) where
     starts-at = ap (λ (i : ℕ). getD (startsHeld lines) i 0) (front-length text ok) ∙ (marks-start text ok ∙ ap countAll front-all)
 
     pub converted-count : countAll (printLines (converted there d)) ≡ at + 1 + internal
-    converted-count = ap countAll converted-lines ∙ (count-more lines (8 ∷ replicate internal 10) ∙ omega (arith, starts-at, length-replicate {A = ℕ} internal 10))
+    converted-count =
+        ap countAll converted-lines
+        ∙ (count-more lines (8 ∷ replicate internal 10) ∙ omega (arith, starts-at, length-replicate {A = ℕ} internal 10))
 
     module _ (fit : at + 1 + internal ≤ 4096) (n : ℕ) (en : n ≡ shape text ok .marks .first + 1)
         (fields starts : List ℕ) (ef : fields ≡ sets (fieldsHeld lines) at (8 ∷ replicate internal 10))

@@ -91,7 +91,8 @@ module _ (text buffer : List ℕ) (l : Loaded) (el : l ≡ loadedOf text) where
     pub marks-room : h .marks .first < 84
     marks-room = rw shape-is (first-most text ok)
 
-    module _ (none : h .marks .count ≡ 0) (i : ℕ) (ei : i ≡ internalIn (l .fields) (l .starts) (h .implementation) (h .implementation .rows .count)) where
+    module _ (none : h .marks .count ≡ 0)
+        (i : ℕ) (ei : i ≡ internalIn (l .fields) (l .starts) (h .implementation) (h .implementation .rows .count)) where
       abbrev first : ℕ
       first = h .marks .first
 

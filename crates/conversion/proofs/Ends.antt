@@ -24,11 +24,15 @@ use Rattle.conversion.specs.Lines.{refusedBy, doneWith}
 -- a design has lines, and a text of lines has bytes
 lines-some : (x : Design) → 1 ≤ length (printLines x)
 lines-some x =
+    let ps = map (parameterLine 1) (x .impl .parameters) in
+    let qs = map (parameterLine 2) (x .spec .parameters) in
+    let rs = map (rowLine 3) (x .impl .rows) in
+    let ss = map (rowLine 4) (x .spec .rows) in
     let ends = lastLines x ++ map marksLine (x .marks) in
-    let p = length-append (map (parameterLine 1) (x .impl .parameters)) (map (parameterLine 2) (x .spec .parameters) ++ (map (rowLine 3) (x .impl .rows) ++ (map (rowLine 4) (x .spec .rows) ++ ends))) in
-    let q = length-append (map (parameterLine 2) (x .spec .parameters)) (map (rowLine 3) (x .impl .rows) ++ (map (rowLine 4) (x .spec .rows) ++ ends)) in
-    let r = length-append (map (rowLine 3) (x .impl .rows)) (map (rowLine 4) (x .spec .rows) ++ ends) in
-    let s = length-append (map (rowLine 4) (x .spec .rows)) ends in
+    let p = length-append ps (qs ++ (rs ++ (ss ++ ends))) in
+    let q = length-append qs (rs ++ (ss ++ ends)) in
+    let r = length-append rs (ss ++ ends) in
+    let s = length-append ss ends in
     omega arith
 
 text-some : (lines : List (List ℕ)) → 1 ≤ length lines → length (textOf lines) ≢ 0
@@ -118,7 +122,9 @@ module _ (way : Way) (text buffer : List ℕ) where
 
     module _ (p : plainB way (designText text) ≡ true) (fit : countAll (printLines result) ≤ 4096) where
       abbrev Ends : Bool → Type 0
-      Ends room = (doneWith (cond room (length bytes) 0) ≡ answerOf way text buffer) × (cond room (sets buffer 0 bytes) buffer ≡ bufferAfter way text buffer)
+      Ends room =
+          (doneWith (cond room (length bytes) 0) ≡ answerOf way text buffer)
+          × (cond room (sets buffer 0 bytes) buffer ≡ bufferAfter way text buffer)
 
       -- by whether there is room
       ends : (room : Bool) → leb (0 + length bytes) (length buffer) ≡ room → Ends room
@@ -127,7 +133,8 @@ module _ (way : Way) (text buffer : List ℕ) where
           let l = leb-true (0 + length bytes) (length buffer) e in
           let z = fits-number p (rw (le-ltb (length buffer) (length bytes) (omega arith), le-ltb 4096 (countAll (printLines result)) fit)) in
           let n : 0 + length bytes ≡ length bytes = omega arith in
-          (rw (ne-eqb (length bytes) 0 some-bytes) (done-answer z), sets-eq bytes buffer 0 l ∙ (ap (λ (k : ℕ). bytes ++ drop k buffer) n ∙ done-buffer z))
+          let put = sets-eq bytes buffer 0 l ∙ (ap (λ (k : ℕ). bytes ++ drop k buffer) n ∙ done-buffer z) in
+          (rw (ne-eqb (length bytes) 0 some-bytes) (done-answer z), put)
       ends false e =
           let l = leb-false (0 + length bytes) (length buffer) e in
           let n = long-number p (rw (lt-ltb (length buffer) (length bytes) (omega arith))) in

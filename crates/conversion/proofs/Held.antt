@@ -37,6 +37,10 @@ use Rattle.loader.proofs.Passed.{lay, made, few, fits, lines-printed, design-in
 use Rattle.conversion.specs.Answer.{trueB, every}
 use Rattle.conversion.specs.Lines.{tens, tensFrom, tensIn}
 
+pub data NoneOrOne (lines : List (List ℕ)) : Type 0 where
+  none : ofKind 8 lines ≡ [] → NoneOrOne lines
+  one : (line : List ℕ) → ofKind 8 lines ≡ line ∷ [] → NoneOrOne lines
+
 module _ (text : List ℕ) (ok : faultOf text ≡ 0) where
   abbrev pub lines : List (List ℕ)
   lines = fieldsByLine text
@@ -58,6 +62,18 @@ module _ (text : List ℕ) (ok : faultOf text ≡ 0) where
   shape-is : shape ≡ sections (countsOf lines)
   unfolding shapeOf
   shape-is = rw (counts-allowed text ok)
+
+  -- a text has one line of marks at most
+  pub none-or-one : NoneOrOne lines
+  none-or-one = go (ofKind 8 lines) refl
+    where
+      go : (k8 : List (List ℕ)) → ofKind 8 lines ≡ k8 → NoneOrOne lines
+      go [] e = none e
+      go (line ∷ []) e = one line e
+      go (a ∷ b ∷ more) e =
+          let c = counted (lay text ok) .kind8 in
+          let k : countOf 8 lines ≡ suc (suc (length more)) = ap length e in
+          absurd (omega arith)
 
   pub marks-are : d .marks ≡ map (marksOf (internalOf lines)) (ofKind 8 lines)
   unfolding designOf
@@ -96,7 +112,8 @@ module _ (text : List ℕ) (ok : faultOf text ≡ 0) where
   pub one-most : shape .marks .count ≤ 1
   one-most = rw shape-is (counted (lay text ok) .kind8)
 
-  pub internal-is : internalIn (fieldsHeld lines) (startsHeld lines) (shape .implementation) (shape .implementation .rows .count) ≡ internalRows (d .impl .rows)
+  pub internal-is : internalIn (fieldsHeld lines) (startsHeld lines) (shape .implementation) (shape .implementation .rows .count)
+      ≡ internalRows (d .impl .rows)
   unfolding internalIn
   internal-is = rw shape-is (ap (λ (x : Design). internalRows (x .impl .rows)) (design-in text ok))
 
@@ -117,7 +134,8 @@ tens-of (n ∷ fields) = eqb n 10 && tens-of fields
 tens-in : (fields : List ℕ) (at n : ℕ) → at + n ≤ length fields → tens fields at n ≡ tens-of (take n (drop at fields))
 unfolding tens tens-of
 tens-in fields at zero h = refl
-tens-in fields at (suc n) h = rw (drop-cons fields at 0 (omega arith)) (ap (λ r. eqb (getD fields at 0) 10 && r) (tens-in fields (suc at) n (omega arith)))
+tens-in fields at (suc n) h =
+    rw (drop-cons fields at 0 (omega arith)) (ap (λ r. eqb (getD fields at 0) 10 && r) (tens-in fields (suc at) n (omega arith)))
 
 -- a formula's fields are all 10 exactly if it is `10`
 tens-formula : (n : ℕ) (row : Bool) (f : Formula) (later : List ℕ) → okF f n row ≡ true → tens-of (printF f ++ later) ≡ (trueB f && tens-of later)
@@ -207,19 +225,18 @@ module _ (text : List ℕ) (ok : faultOf text ≡ 0) where
 
   pub marks-tens : tensIn (fieldsHeld L) (startsHeld L) (shape text ok) ≡ every (every trueB) (d text ok .marks)
   unfolding tensIn every
-  marks-tens = go (ofKind 8 L) refl
+  marks-tens = go (none-or-one text ok)
     where
       and-yes : (b : Bool) → b ≡ (b && true)
       and-yes true = refl
       and-yes false = refl
 
-      go : (k8 : List (List ℕ)) → ofKind 8 L ≡ k8 → tensIn (fieldsHeld L) (startsHeld L) (shape text ok) ≡ every (every trueB) (d text ok .marks)
-      go [] e =
-          let none : d text ok .marks ≡ [] = marks-are text ok ∙ ap (map (marksOf (internalOf L))) e in
-          rw (eq-eqb (shape text ok .marks .count) 0 (marks-count text ok ∙ ap length none), none)
-      go (line ∷ []) e =
-          let one : d text ok .marks ≡ formulas line e ∷ [] = marks-are text ok ∙ ap (map (marksOf (internalOf L))) e in
-          let count : shape text ok .marks .count ≡ 1 = marks-count text ok ∙ ap length one in
-          rw (ne-eqb (shape text ok .marks .count) 0 (λ z. omega arith), front-length text ok, one)
+      go : NoneOrOne L → tensIn (fieldsHeld L) (startsHeld L) (shape text ok) ≡ every (every trueB) (d text ok .marks)
+      go (none e) =
+          let no-marks : d text ok .marks ≡ [] = marks-are text ok ∙ ap (map (marksOf (internalOf L))) e in
+          rw (eq-eqb (shape text ok .marks .count) 0 (marks-count text ok ∙ ap length no-marks), no-marks)
+      go (one line e) =
+          let marks : d text ok .marks ≡ formulas line e ∷ [] = marks-are text ok ∙ ap (map (marksOf (internalOf L))) e in
+          let count : shape text ok .marks .count ≡ 1 = marks-count text ok ∙ ap length marks in
+          rw (ne-eqb (shape text ok .marks .count) 0 (λ z. omega arith), front-length text ok, marks)
           (line-tens line e ∙ and-yes (every trueB (formulas line e)))
-      go (a ∷ b ∷ more) e = let c = counted (lay text ok) .kind8 in let k : countOf 8 L ≡ suc (suc (length more)) = ap length e in absurd (omega arith)

@@ -35,7 +35,8 @@ stored-turn into whole at n i h e =
     rw next (rw left at e)
 
 -- behind the line's kind
-pub kind-stored : (into after : List ℕ) (at n : ℕ) → after ≡ sets (set into at 8) (at + 1) (replicate n 10) → after ≡ sets into at (8 ∷ replicate n 10)
+pub kind-stored : (into after : List ℕ) (at n : ℕ) → after ≡ sets (set into at 8) (at + 1) (replicate n 10)
+    → after ≡ sets into at (8 ∷ replicate n 10)
 kind-stored into after at n e = rw (add-one at) at e
 
 -- ---- fields that are looked at: those before the place are 10

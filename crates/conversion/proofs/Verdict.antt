@@ -3,7 +3,6 @@ use Prim.Native.Nat.{ℕ, zero, suc}
 use mathlib.Core.Path.{_≡_, refl, sym, ap, _∙_}
 use mathlib.Core.Bool.{true, false, true≢false}
 use mathlib.Core.List.{List, [], _∷_, map}
-use native.Mathlib.Omega.{arith}
 use lib.ListN.{length, replicate}
 use Rattle.terms.specs.Tree.{Formula, const, compare, negation, join, noFormula}
 use Rattle.reader.specs.Text.{fieldsByLine}
@@ -14,13 +13,12 @@ use Rattle.criteria.proofs.Unmarked.{AllMarked, unmarked-all, tens-all}
 use Rattle.decision.specs.Verdict.{verdictOf}
 use Rattle.decision.proofs.AllMarked as decision
 use Rattle.design.specs.Line.{formulasIn, marksOf}
-use Rattle.design.specs.Lines.{ofKind, countOf, internalOf, designOf, designText}
-use Rattle.design.proofs.WholeText.{counted}
+use Rattle.design.specs.Lines.{internalOf, designOf, designText}
 use Rattle.loader.specs.Load.{faultOf}
-use Rattle.loader.proofs.Passed.{lay, admitted}
+use Rattle.loader.proofs.Passed.{admitted}
 use Rattle.conversion.specs.Result.{Way, there, back, markedBy, converted}
 use Rattle.conversion.specs.Answer.{trueB, every, plainB}
-use Rattle.conversion.proofs.Held.{marks-are}
+use Rattle.conversion.proofs.Held.{NoneOrOne, none, one, none-or-one, marks-are}
 
 -- ---- formulas that are all `10`
 
@@ -59,17 +57,16 @@ module _ (text : List ℕ) (ok : faultOf text ≡ 0) where
   -- so all steps are marked
   tens-marked : every (every trueB) (d .marks) ≡ true → AllMarked d
   unfolding every
-  tens-marked e = go (ofKind 8 lines) refl
+  tens-marked e = go (none-or-one text ok)
     where
-      go : (k8 : List (List ℕ)) → ofKind 8 lines ≡ k8 → AllMarked d
-      go [] q = unmarked-all d (marks-are text ok ∙ ap (map (marksOf (internalOf lines))) q)
-      go (line ∷ []) q =
+      go : NoneOrOne lines → AllMarked d
+      go (none q) = unmarked-all d (marks-are text ok ∙ ap (map (marksOf (internalOf lines))) q)
+      go (one line q) =
           let fs = marksOf (internalOf lines) line in
-          let one : d .marks ≡ fs ∷ [] = marks-are text ok ∙ ap (map (marksOf (internalOf lines))) q in
-          let p = and-true (every trueB fs) true (rw one at e) in
+          let marks : d .marks ≡ fs ∷ [] = marks-are text ok ∙ ap (map (marksOf (internalOf lines))) q in
+          let p = and-true (every trueB fs) true (rw marks at e) in
           let n : length fs ≡ internal = formulas-length (internalOf lines) _ ∙ internal-said in
-          tens-all d (one ∙ ap (λ (x : List Formula). x ∷ []) (all-true fs (p .0) ∙ ap (λ (k : ℕ). replicate k (const true)) n))
-      go (a ∷ b ∷ more) q = let c = counted (lay text ok) .kind8 in let k : countOf 8 lines ≡ suc (suc (length more)) = ap length q in absurd (omega arith)
+          tens-all d (marks ∙ ap (λ (x : List Formula). x ∷ []) (all-true fs (p .0) ∙ ap (λ (k : ℕ). replicate k (const true)) n))
 
   marked-verdict : (ms : List (List Formula)) → d .marks ≡ ms → verdictOf (withMarks d (markedBy ms internal)) ≡ verdictOf d
   marked-verdict [] e =

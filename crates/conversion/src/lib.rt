@@ -99,7 +99,7 @@ fn write_marked(buffer: &mut [u8], lines: Loaded, i: u16, n: u16) -> Written
     let at = layout::line(&lines.starts, i as usize) as usize;
     let end = at + 1 + n as usize;
     if limits::MAX_FIELDS < end {
-        return refused(16); // over 4,096 fields
+        return refused(16);
     }
     let mut more = lines;
     put_marks(&mut more.fields, at, n);

@@ -14,6 +14,7 @@ to-marked-spec =
     (λ c κs. search needs)
     (λ c. search needs)
     (λ c. search needs)
+    -- with a line of marks
     (λ c κs. search needs)
     (λ c. search needs)
     (λ c. (search laws.kept-as, search laws.kept-after))
