@@ -6,16 +6,15 @@ set -euo pipefail
 cd "$(dirname "$0")/.."
 out=target/bench
 mkdir -p "$out"
-tools/library.sh checker
-tools/library.sh desk_c
+for name in checker conversion desk_c; do tools/library.sh $name; done
 compare/reference_c/build.sh
 python3 bench/tables.py "$out"
-library=target/staticlib/libchecker.a
+libraries=(target/staticlib/lib{checker,conversion}.a)
 flags=(-std=c11 -O3 -Wall -Wextra)
-${CC:-gcc} "${flags[@]}" bench/checks.c "$library" target/staticlib/libdesk_c.a target/reference/release/libreference_c.a \
+${CC:-gcc} "${flags[@]}" bench/checks.c "${libraries[@]}" target/staticlib/libdesk_c.a target/reference/release/libreference_c.a \
     -lpthread -ldl -lm -o "$out/checks"
 "$out/checks" "${1:-5}" "$out"/{limits,room}.txt "$out"/[a-z].txt examples/{pump,buffer-two,alternating-bit,concurrent-alternating-bit}.txt \
     compare/tables/{abp_marked,cabp_full}.txt
-${CC:-gcc} "${flags[@]}" bench/stack.c "$library" -o "$out/stack"
+${CC:-gcc} "${flags[@]}" bench/stack.c "${libraries[@]}" -o "$out/stack"
 "$out/stack" "$out"/{limits,room}.txt compare/tables/*.txt
-echo "what the library calls: $(nm -u "$library" | awk 'NF == 2 { print $2 }' | sort -u | tr '\n' ' ')"
+echo "what the libraries call: $(nm -u "${libraries[@]}" | awk 'NF == 2 { print $2 }' | sort -u | tr '\n' ' ')"

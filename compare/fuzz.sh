@@ -9,10 +9,10 @@ count=${1:-100000}
 seed=${2:-$(date +%s)}
 work=$(mktemp -d)
 trap 'rm -rf "$work"' EXIT
-tools/library.sh checker
+for name in checker conversion; do tools/library.sh $name; done
 rt check desk_calls > "$work/log" 2>&1 || { tail -n 20 "$work/log"; exit 1; }
 compare/reference_c/build.sh
-${CC:-cc} -std=c11 -O2 -Wall -Wextra compare/fuzz.c target/staticlib/libchecker.a target/reference/release/libreference_c.a \
+${CC:-cc} -std=c11 -O2 -Wall -Wextra compare/fuzz.c target/staticlib/lib{checker,conversion}.a target/reference/release/libreference_c.a \
     -lpthread -ldl -lm -o "$work/fuzz"
 echo "fuzz: seed $seed; again with: compare/fuzz.sh $count $seed"
 # Tables of many states take the reference long; compare/run.sh has them.

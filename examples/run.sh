@@ -6,11 +6,11 @@ cd "$(dirname "$0")/.."
 program=target/bin/check_table
 [ -x "$program" ] || { echo "examples: $program isn't built yet; ./check examples/pump.txt builds it" >&2; exit 1; }
 
-library=target/staticlib/libchecker.a
-tools/library.sh checker
+libraries=(target/staticlib/lib{checker,conversion}.a)
+for name in checker conversion; do tools/library.sh $name; done
 work=$(mktemp -d)
 trap 'rm -rf "$work"' EXIT
-for example in buy marks; do ${CC:-cc} -std=c11 -Wall -Wextra -Iinclude "examples/$example.c" "$library" -o "$work/$example"; done
+for example in buy marks; do ${CC:-cc} -std=c11 -Wall -Wextra -Iinclude "examples/$example.c" "${libraries[@]}" -o "$work/$example"; done
 count=0
 differ=0
 for file in examples/*.txt; do

@@ -1,5 +1,5 @@
 /* The price link checker for C: its one-call check, and the two writers that give a design text a line of kind 8 and take it away. Link with
- * libchecker.a, which `rt staticlib checker` writes to target/staticlib. */
+ * libchecker.a, which `rt staticlib checker` writes to target/staticlib; for the writers with libconversion.a beside it. */
 #ifndef CHECKER_H
 #define CHECKER_H
 
@@ -89,8 +89,8 @@ uint32_t check_design(const uint8_t *text, size_t text_len, uint8_t *report, siz
  * must not be NULL. An area of length 0 may have any address, NULL among them.
  *
  * The functions have no state, allocate nothing, make no system call and always return; threads may call them at the same time, each with a
- * buffer and a number of its own. They use less than 128 KiB of stack. They don't go over the design's states: a call takes
- * about as long as check_design takes to read the text.
+ * buffer and a number of its own. They use less than 128 KiB of stack: 49,624 and 32,776 bytes, measured as above. They don't go over the
+ * design's states: a call takes about as long as check_design takes to read the text.
  */
 size_t mark_design(const uint8_t *text, size_t text_len, uint8_t *buffer, size_t buffer_len, uint32_t *number);
 size_t unmark_design(const uint8_t *text, size_t text_len, uint8_t *buffer, size_t buffer_len, uint32_t *number);

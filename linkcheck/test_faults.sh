@@ -144,7 +144,7 @@ if [ $# = 0 ]; then
     compile linkcheck/*.c linkcheck/test/other_rules.c -o "$work/other"
     while read -r returns verdict table; do
         for jobs in 1 2; do
-            OTHER_RETURNS=$returns OTHER_VERDICT=$verdict due 3 "libchecker.a was built for other rules" \
+            OTHER_RETURNS=$returns OTHER_VERDICT=$verdict due 3 "the library was built for other rules" \
                 "$work/other" -j $jobs "$table" "$table"
             if grep accepted "$work/out" | grep -v '^0 tables'; then fail "accepted by other rules"; fi
         done
@@ -158,7 +158,7 @@ if [ $# = 0 ]; then
 END
     while read -r returns number arguments; do
         # shellcheck disable=SC2086
-        OTHER_RETURNS=$returns OTHER_VERDICT=$number due 3 "libchecker.a was built for other rules" "$work/other" $arguments
+        OTHER_RETURNS=$returns OTHER_VERDICT=$number due 3 "the library was built for other rules" "$work/other" $arguments
         written "" "$arguments by other rules"
     done << END
 0 0 --mark $good

@@ -21,7 +21,7 @@ static unsigned report_number(const uint8_t *report, int field) {
 }
 
 _Noreturn void other_rules(void) {
-    give_up("libchecker.a was built for other rules than linkcheck; build both anew");
+    give_up("the library was built for other rules than linkcheck; build both anew");
 }
 
 /* A library that gives another verdict than these three, or takes a text which can't be taken apart here, was made for other rules. */

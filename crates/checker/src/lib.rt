@@ -1,10 +1,8 @@
-// The library for C. The one-call check: a text is loaded, all its states are examined and the report is written (01, "The desk"). What it
-// answers and writes is in specs/OneCall, one equation for every text and every buffer. There is no desk in it, so that no arrays move;
-// that a desk comes to the same is claim 2. And the two writers of the crate conversion (02, order 2), with the number beside the length.
+// The one-call check: a text is loaded, all its states are examined and the report is written (01, "The desk"). What it answers and
+// writes is in specs/OneCall, one equation for every text and every buffer. There is no desk in it, so that no arrays move; that a desk
+// comes to the same is claim 2.
 use verdicts::Report;
 ghost use mathlib.Core.Path.{_≡_};
-ghost use Rattle.conversion.specs.Result.{there, back};
-ghost use Rattle.conversion.specs.Answer as conversion;
 ghost use Rattle.checker.specs.OneCall.{refusedReport, judgedOf, answerOf, bufferAfter};
 
 // Checks a text and writes the report: 0 accepted, 1 failed, 2 turned down; 9 for a report buffer under 31 bytes, which is not
@@ -20,31 +18,6 @@ pub extern "C" fn check_design(text: &[u8], report: &mut [u8]) -> u32
     let judged = judge(text);
     writer::put_report(report, judged);
     judged.verdict as u32
-}
-
-// Writes a text with a line of marks: one that has it as it is, any other with a formula `10` for each internal row. Returns the result's
-// length and tells 0; turned down, it returns 0 and tells the number.
-#[no_mangle]
-pub extern "C" fn mark_design(text: &[u8], buffer: &mut [u8], number: &mut u32) -> usize
-    ensures { λ r. ⌜ r ≡ conversion.answerOf there (now (text .entry)) (now (buffer .entry)) .length ⌝ }
-    ensures { λ _. ⌜ now (buffer .exit) ≡ conversion.bufferAfter there (now (text .entry)) (now (buffer .entry)) ⌝ }
-    ensures { λ _. ⌜ now (number .exit) ≡ conversion.answerOf there (now (text .entry)) (now (buffer .entry)) .number ⌝ }
-{
-    let marked = conversion::to_marked(text, buffer);
-    *number = marked.number as u32;
-    marked.length
-}
-
-// Writes a text without its line of marks, each formula of which has to be `10`; returns and tells the same.
-#[no_mangle]
-pub extern "C" fn unmark_design(text: &[u8], buffer: &mut [u8], number: &mut u32) -> usize
-    ensures { λ r. ⌜ r ≡ conversion.answerOf back (now (text .entry)) (now (buffer .entry)) .length ⌝ }
-    ensures { λ _. ⌜ now (buffer .exit) ≡ conversion.bufferAfter back (now (text .entry)) (now (buffer .entry)) ⌝ }
-    ensures { λ _. ⌜ now (number .exit) ≡ conversion.answerOf back (now (text .entry)) (now (buffer .entry)) .number ⌝ }
-{
-    let unmarked = conversion::to_unmarked(text, buffer);
-    *number = unmarked.number as u32;
-    unmarked.length
 }
 
 // The report on a text.

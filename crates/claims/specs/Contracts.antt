@@ -16,8 +16,8 @@ use Rattle.desk.proofs.Desk.advance.Reads as advance-reads
 use Rattle.desk.proofs.Desk.verdict.Reads as verdict-reads
 use Rattle.desk.proofs.Desk.drop.Reads as drop-reads
 use Rattle.checker.proofs.check_design.Reads as check-reads
-use Rattle.checker.proofs.mark_design.Reads as mark-reads
-use Rattle.checker.proofs.unmark_design.Reads as unmark-reads
+use Rattle.conversion.proofs.mark_design.Reads as mark-reads
+use Rattle.conversion.proofs.unmark_design.Reads as unmark-reads
 use Rattle.conversion.specs.Result.{Way, there, back}
 use Rattle.claims.specs.Calls.{Called, load, advance, verdict, drop}
 

@@ -66,6 +66,31 @@ pub fn to_unmarked(text: &[u8], buffer: &mut [u8]) -> Written
     refused(15)
 }
 
+// For C: writes a text with a line of marks, one that has it as it is. Returns the result's length and tells 0; turned down, it returns 0 and
+// tells the number.
+#[no_mangle]
+pub extern "C" fn mark_design(text: &[u8], buffer: &mut [u8], number: &mut u32) -> usize
+    ensures { λ r. ⌜ r ≡ answerOf there (now (text .entry)) (now (buffer .entry)) .length ⌝ }
+    ensures { λ _. ⌜ now (buffer .exit) ≡ bufferAfter there (now (text .entry)) (now (buffer .entry)) ⌝ }
+    ensures { λ _. ⌜ now (number .exit) ≡ answerOf there (now (text .entry)) (now (buffer .entry)) .number ⌝ }
+{
+    let marked = to_marked(text, buffer);
+    *number = marked.number as u32;
+    marked.length
+}
+
+// For C: writes a text without its line of marks, each formula of which has to be `10`; returns and tells the same.
+#[no_mangle]
+pub extern "C" fn unmark_design(text: &[u8], buffer: &mut [u8], number: &mut u32) -> usize
+    ensures { λ r. ⌜ r ≡ answerOf back (now (text .entry)) (now (buffer .entry)) .length ⌝ }
+    ensures { λ _. ⌜ now (buffer .exit) ≡ bufferAfter back (now (text .entry)) (now (buffer .entry)) ⌝ }
+    ensures { λ _. ⌜ now (number .exit) ≡ answerOf back (now (text .entry)) (now (buffer .entry)) .number ⌝ }
+{
+    let unmarked = to_unmarked(text, buffer);
+    *number = unmarked.number as u32;
+    unmarked.length
+}
+
 // Turned down: nothing is written.
 fn refused(number: u16) -> Written
     ensures { λ r. ⌜ r ≡ refusedBy number ⌝ }

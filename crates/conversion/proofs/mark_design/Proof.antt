@@ -1,9 +1,9 @@
--- `mark_design` tells what `conversion::to_marked` answers.
+-- `mark_design` tells what `to_marked` answers.
 use borrow.Author.Needs.{needs}
 use mathlib.Core.Path.{ap}
 use Rattle.conversion.specs.declared.Written.{Written}
-use Rattle.checker.proofs.mark_design.Statement.{statement}
-use Rattle.checker.proofs.mark_design.Tie as tie
+use Rattle.conversion.proofs.mark_design.Statement.{statement}
+use Rattle.conversion.proofs.mark_design.Tie as tie
 
 pub mark-design-spec : {M : Type 1} → statement M
 mark-design-spec =

@@ -1,9 +1,9 @@
--- `unmark_design` tells what `conversion::to_unmarked` answers.
+-- `unmark_design` tells what `to_unmarked` answers.
 use borrow.Author.Needs.{needs}
 use mathlib.Core.Path.{ap}
 use Rattle.conversion.specs.declared.Written.{Written}
-use Rattle.checker.proofs.unmark_design.Statement.{statement}
-use Rattle.checker.proofs.unmark_design.Tie as tie
+use Rattle.conversion.proofs.unmark_design.Statement.{statement}
+use Rattle.conversion.proofs.unmark_design.Tie as tie
 
 pub unmark-design-spec : {M : Type 1} → statement M
 unmark-design-spec =
