@@ -37,6 +37,7 @@ use Rattle.loader.proofs.Passed.{lay, made, few, fits, lines-printed, design-in
 use Rattle.conversion.specs.Answer.{trueB, every}
 use Rattle.conversion.specs.Lines.{tens, tensFrom, tensIn}
 
+-- no line of marks, or one
 pub data NoneOrOne (lines : List (List ℕ)) : Type 0 where
   none : ofKind 8 lines ≡ [] → NoneOrOne lines
   one : (line : List ℕ) → ofKind 8 lines ≡ line ∷ [] → NoneOrOne lines
@@ -55,6 +56,7 @@ module _ (text : List ℕ) (ok : faultOf text ≡ 0) where
   abbrev pub shape : Shape
   shape = shapeOf (countsOf lines)
 
+  -- it stands last
   pub lines-are : lines ≡ front ++ ofKind 8 lines
   unfolding designOf
   lines-are = sym (lines-printed text ok) ∙ marks-last d (d .marks) ∙ ap (λ r. front ++ r) (marks8 lines (lay text ok) (made text ok))
@@ -75,6 +77,7 @@ module _ (text : List ℕ) (ok : faultOf text ≡ 0) where
           let k : countOf 8 lines ≡ suc (suc (length more)) = ap length e in
           absurd (omega arith)
 
+  -- what it says, and how many there are
   pub marks-are : d .marks ≡ map (marksOf (internalOf lines)) (ofKind 8 lines)
   unfolding designOf
   marks-are = refl
@@ -86,6 +89,7 @@ module _ (text : List ℕ) (ok : faultOf text ≡ 0) where
   all-length : length lines ≡ length front + countOf 8 lines
   all-length = ap length lines-are ∙ length-append front (ofKind 8 lines)
 
+  -- as many lines stand before it
   pub front-length : shape .marks .first ≡ length front
   front-length =
       let c = counted (lay text ok) in
@@ -100,6 +104,7 @@ module _ (text : List ℕ) (ok : faultOf text ≡ 0) where
   pub all-counted : length lines ≡ shape .marks .first + shape .marks .count
   all-counted = all-length ∙ rw (front-length, shape-is)
 
+  -- there is room for one
   pub first-most : shape .marks .first < 84
   first-most =
       let c = counted (lay text ok) in
