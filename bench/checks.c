@@ -54,33 +54,22 @@ static int reference_loads(const struct job *j)
     return number == 0;
 }
 
-static int our_mark(const struct job *j)
+typedef size_t writer(const uint8_t *text, size_t text_len, uint8_t *buffer, size_t buffer_len, uint32_t *number);
+
+static size_t written_by(writer *write, const struct job *j)
 {
     uint8_t buffer[MARK_RESULT_BYTES];
     uint32_t number;
-    return mark_design(j->text.bytes, j->text.len, buffer, sizeof buffer, &number) > j->text.len;
+    return write(j->text.bytes, j->text.len, buffer, sizeof buffer, &number);
 }
 
-static int reference_marks(const struct job *j)
-{
-    uint8_t buffer[MARK_RESULT_BYTES];
-    uint32_t number;
-    return reference_mark(j->text.bytes, j->text.len, buffer, sizeof buffer, &number) > j->text.len;
-}
+static int our_mark(const struct job *j) { return written_by(mark_design, j) > j->text.len; }
 
-static int our_unmark(const struct job *j)
-{
-    uint8_t buffer[MARK_RESULT_BYTES];
-    uint32_t number;
-    return unmark_design(j->text.bytes, j->text.len, buffer, sizeof buffer, &number) == j->text.len;
-}
+static int reference_marks(const struct job *j) { return written_by(reference_mark, j) > j->text.len; }
 
-static int reference_unmarks(const struct job *j)
-{
-    uint8_t buffer[MARK_RESULT_BYTES];
-    uint32_t number;
-    return reference_unmark(j->text.bytes, j->text.len, buffer, sizeof buffer, &number) == j->text.len;
-}
+static int our_unmark(const struct job *j) { return written_by(unmark_design, j) == j->text.len; }
+
+static int reference_unmarks(const struct job *j) { return written_by(reference_unmark, j) == j->text.len; }
 
 static int our_advances(const struct job *j) { return desk_advances(j->text.bytes, j->text.len, 1) == j->table.states; }
 
@@ -159,37 +148,43 @@ static const char *last_name(const char *path)
     return slash ? slash + 1 : path;
 }
 
+typedef int run(const struct job *);
+
+/* The head of the next lines, the two columns before the reference's being these. */
+static void head(const char *second, const char *third)
+{
+    printf("%-32s %8s %12s %10s %10s %10s\n", "our time over that of", "states", "ours, ms", second, third, "reference");
+}
+
+static void time_it(const char *what, const char *path, struct job *j, int rounds, run *const sorts[SORTS])
+{
+    char name[64];
+    memcpy(j->run, sorts, sizeof j->run);
+    snprintf(name, sizeof name, "%s %s", what, last_name(path));
+    measure(name, j, rounds);
+}
+
 int main(int n, char **words)
 {
+    static run *const checks[SORTS] = {ours, plain, hoisted, reference}, *const loads[SORTS] = {our_load, NULL, NULL, reference_loads},
+        *const unmarks[SORTS] = {our_unmark, our_load, NULL, reference_unmarks}, *const marks[SORTS] = {our_mark, our_load, NULL, reference_marks},
+        *const advances[SORTS] = {our_advances, plain_advances, hoisted_advances, reference_advances};
     static struct job j;
-    char name[64];
     int rounds = n > 4 ? atoi(words[1]) : 0;
     if (rounds < 1) { fprintf(stderr, "usage: checks ROUNDS LIMITS ROOM TABLE..\n"); return 2; }
-    printf("%-32s %8s %12s %10s %10s %10s\n", "our time over that of", "states", "ours, ms", "C", "C hoisted", "reference");
+    head("C", "C hoisted");
     for (int i = 4; i < n; i++) {
         read_job(words[i], &j);
-        memcpy(j.run, ((int (*[])(const struct job *)){ours, plain, hoisted, reference}), sizeof j.run);
-        snprintf(name, sizeof name, "check %s", last_name(words[i]));
-        measure(name, &j, rounds);
+        time_it("check", words[i], &j, rounds, checks);
     }
+    for (int i = 4; i < n; i++) {
+        read_job(words[i], &j);
+        if (j.table.states == 65536) time_it("advances by 1,", words[i], &j, rounds, advances);
+    }
+    head("our load", "");
     read_job(words[2], &j);
-    memcpy(j.run, ((int (*[])(const struct job *)){our_load, NULL, NULL, reference_loads}), sizeof j.run);
-    snprintf(name, sizeof name, "load %s", last_name(words[2]));
-    measure(name, &j, rounds);
-    printf("%-32s %8s %12s %10s %10s %10s\n", "our time over that of", "states", "ours, ms", "our load", "", "reference");
-    memcpy(j.run, ((int (*[])(const struct job *)){our_unmark, our_load, NULL, reference_unmarks}), sizeof j.run);
-    snprintf(name, sizeof name, "unmark %s", last_name(words[2]));
-    measure(name, &j, rounds);
+    time_it("load", words[2], &j, rounds, loads);
+    time_it("unmark", words[2], &j, rounds, unmarks);
     read_job(words[3], &j);
-    memcpy(j.run, ((int (*[])(const struct job *)){our_mark, our_load, NULL, reference_marks}), sizeof j.run);
-    snprintf(name, sizeof name, "mark %s", last_name(words[3]));
-    measure(name, &j, rounds);
-    printf("%-32s %8s %12s %10s %10s %10s\n", "our time over that of", "states", "ours, ms", "C", "C hoisted", "reference");
-    for (int i = 4; i < n; i++) {
-        read_job(words[i], &j);
-        if (j.table.states < 65536) continue;
-        memcpy(j.run, ((int (*[])(const struct job *)){our_advances, plain_advances, hoisted_advances, reference_advances}), sizeof j.run);
-        snprintf(name, sizeof name, "advances by 1, %s", last_name(words[i]));
-        measure(name, &j, rounds);
-    }
+    time_it("mark", words[3], &j, rounds, marks);
 }

@@ -27,14 +27,17 @@ use Rattle.conversion.specs.Answer.{trueB, every, plainB, tooLongB, desi
 
 -- ---- 15: a formula is `10` by its fields exactly if the test says so
 
+pub true-tree : (f : Formula) → trueB f ≡ true → f ≡ const true
+true-tree (const true) e = refl
+true-tree (const false) e = absurd (true≢false (sym e))
+true-tree (compare o x y) e = absurd (true≢false (sym e))
+true-tree (negation f) e = absurd (true≢false (sym e))
+true-tree (join o f g) e = absurd (true≢false (sym e))
+true-tree noFormula e = absurd (true≢false (sym e))
+
 true-is : (f : Formula) → trueB f ≡ true → printF f ≡ 10 ∷ []
 unfolding printF
-true-is (const true) e = refl
-true-is (const false) e = absurd (true≢false (sym e))
-true-is (compare o x y) e = absurd (true≢false (sym e))
-true-is (negation f) e = absurd (true≢false (sym e))
-true-is (join o f g) e = absurd (true≢false (sym e))
-true-is noFormula e = absurd (true≢false (sym e))
+true-is f e = ap printF (true-tree f e)
 
 first-of : {m n : ℕ} {ms ns : List ℕ} → m ∷ ms ≡ n ∷ ns → m ≡ n
 first-of e = cc

@@ -1,10 +1,10 @@
 -- A design text and what is written for it get the same verdict (`same-verdict`): in both all steps are marked, or they are the same.
 use Prim.Native.Nat.{ℕ, zero, suc}
-use mathlib.Core.Path.{_≡_, refl, sym, ap, _∙_}
-use mathlib.Core.Bool.{true, false, true≢false}
+use mathlib.Core.Path.{_≡_, refl, ap, _∙_}
+use mathlib.Core.Bool.{true}
 use mathlib.Core.List.{List, [], _∷_, map}
 use lib.ListN.{length, replicate}
-use Rattle.terms.specs.Tree.{Formula, const, compare, negation, join, noFormula}
+use Rattle.terms.specs.Tree.{Formula, const}
 use Rattle.reader.specs.Text.{fieldsByLine}
 use Rattle.criteria.specs.Design.{Design, withMarks}
 use Rattle.criteria.specs.Step.{internalRows}
@@ -18,17 +18,10 @@ use Rattle.loader.specs.Load.{faultOf}
 use Rattle.loader.proofs.Passed.{admitted}
 use Rattle.conversion.specs.Result.{Way, there, back, markedBy, converted}
 use Rattle.conversion.specs.Answer.{trueB, every, plainB}
+use Rattle.conversion.proofs.Due.{true-tree}
 use Rattle.conversion.proofs.Held.{NoneOrOne, none, one, none-or-one, marks-are}
 
 -- ---- formulas that are all `10`
-
-true-tree : (f : Formula) → trueB f ≡ true → f ≡ const true
-true-tree (const true) e = refl
-true-tree (const false) e = absurd (true≢false (sym e))
-true-tree (compare o x y) e = absurd (true≢false (sym e))
-true-tree (negation f) e = absurd (true≢false (sym e))
-true-tree (join o f g) e = absurd (true≢false (sym e))
-true-tree noFormula e = absurd (true≢false (sym e))
 
 all-true : (fs : List Formula) → every trueB fs ≡ true → fs ≡ replicate (length fs) (const true)
 unfolding every
