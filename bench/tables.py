@@ -8,8 +8,11 @@ d   4,096 states, 16 internal rows of span 16 with a measure, 8 visible rows
 e     256 states, 8 rows of span 256 with large terms
 f  65,536 states, the rows of the pump table
 
-limits  as many parameters, rows and fields as a text may have
-room    the same, with room for a line of marks
+limits   as many parameters, rows and fields as a text may have; two fields in three have two digits
+room     the same, with room for a line of marks
+blanks   as many fields, nearly all of one digit
+numbers  as many fields, of numbers of five digits where there may be any number
+digits   as many fields, all of five digits: turned down by 4, when the fields have been read twice and the terms not yet
 """
 import sys
 
@@ -88,30 +91,56 @@ def f():
                 [choice(equal(phase, num(0)), num(0), num(1)), price], choice(equal(phase, num(1)), num(1), num(0)))
 
 
-def all_of(n):
-    """n formulas, all true, each joined to those behind it"""
-    return TRUE if n == 1 else both(TRUE, all_of(n - 1))
+def all_of(n, formula):
+    """a formula n times, each joined to those behind it"""
+    return formula if n == 1 else both(formula, all_of(n - 1, formula))
 
 
-def halved(n):
-    """n formulas, all true, joined half to half"""
-    return TRUE if n == 1 else both(halved(n // 2), halved(n - n // 2))
+def halved(n, formula):
+    """a formula n times, joined half to half"""
+    return formula if n == 1 else both(halved(n // 2, formula), halved(n - n // 2, formula))
 
 
-def of_most_rows(invariant):
-    parameters, kept = [(4, 3)] * 8, [par(i) for i in range(8)]
-    rows = [(i + 1, 256, all_of(20), par(i % 8), kept) for i in range(32)]
-    return text(parameters, parameters, rows, rows, invariant, kept, num(0))
+def of_most_rows(condition, datum, invariant, nexts, measure):
+    parameters = [(4, 3)] * 8
+    rows = [(i + 1, 256, condition, datum(i), nexts) for i in range(32)]
+    return text(parameters, parameters, rows, rows, invariant, nexts, measure)
+
+
+KEPT = [par(i) for i in range(8)]
+
+
+def of_short_terms(n):
+    return of_most_rows(all_of(20, TRUE), lambda i: par(i % 8), halved(n, TRUE), KEPT, num(0))
 
 
 def limits():
-    return of_most_rows(halved(94))
+    return of_short_terms(94)
 
 
 def room():
-    return of_most_rows(halved(93))
+    return of_short_terms(93)
 
 
-for table in (a, b, c, d, e, f, limits, room):
+def sum_of(n):
+    """a parameter n times, added half to half"""
+    return par(1) if n == 1 else add(sum_of(n // 2), sum_of(n - n // 2))
+
+
+def blanks():
+    return of_most_rows(TRUE, lambda i: sum_of(14), negation(less(sum_of(40), num(0))), KEPT, num(0))
+
+
+def numbers():
+    large = num(65535)
+    same = equal(large, large)
+    return of_most_rows(all_of(7, same), lambda i: large, halved(10, same), [large] * 8, large)
+
+
+def digits():
+    return (' 65535' * 64 + '\n') * 64
+
+
+for table in (a, b, c, d, e, f, limits, room, blanks, numbers, digits):
     with open(sys.argv[1] + '/' + table.__name__ + '.txt', 'w') as out:
         out.write(table())

@@ -501,11 +501,21 @@ static void flip_marks(struct text *t) {
     for (int i = 1 + rnd(2); i > 0 && n > 0; i--) flip(t, line + rnd(n) * 6);
 }
 
+// Other columns in place of a field: blanks, then digits, and now and then an odd byte among them.
+static void odd_columns(struct text *t) {
+    static const uint8_t odd[] = {' ', '0', '!', 0, '\n', ' ' | 128, '0' | 64, '0' | 128};
+    uint8_t columns[6];
+    size_t blanks = rnd(7);
+    for (size_t i = 0; i < 6; i++) columns[i] = i < blanks ? ' ' : '0' + rnd(rnd(2) ? 2 : 10);
+    if (rnd(3) == 0) columns[rnd(6)] = odd[rnd(sizeof odd)];
+    splice(t, some_field(t), 6, columns, 6);
+}
+
 static void damage(struct text *t) {
     static const uint8_t odd[] = {0, 9, 10, 13, 32, 43, 45, 46, 47, 48, 49, 57, 58, 65, 127, 128, 255};
     uint8_t byte = rnd(3) ? odd[rnd(sizeof odd)] : rnd(256);
     size_t at = rnd(t->len + 1);
-    switch (rnd(6)) {
+    switch (rnd(8)) {
     case 0: splice(t, at, 1, "", 0); break;
     case 1: splice(t, at, 0, &byte, 1); break;
     case 2: t->len = at; break;
@@ -516,6 +526,7 @@ static void damage(struct text *t) {
         splice(t, at, 0, start, n);
         break;
     }
+    case 4: case 5: odd_columns(t); break;
     default: splice(t, at, 1, &byte, 1);
     }
 }

@@ -11,8 +11,8 @@ extern "C" {
 #endif
 
 /* The version, as in the file VERSION: the first number changes if a call that there was answers otherwise, the second if calls or kinds
- * of lines are added. */
-#define CHECKER_VERSION "1.2.0"
+ * of lines are added, the third if neither. */
+#define CHECKER_VERSION "1.2.1"
 
 /* What check_design returns. */
 #define CHECK_ACCEPTED 0
@@ -52,7 +52,7 @@ extern "C" {
  * any address, NULL among them.
  *
  * The function has no state, allocates nothing, makes no system call and always returns; threads may call it at the same time, each with a
- * report area of its own. It uses less than 128 KiB of stack: 41,528 bytes at the deepest terms, measured on x86-64 by bench/run.sh.
+ * report area of its own. It uses less than 128 KiB of stack: 41,544 bytes at the deepest terms, measured on x86-64 by bench/run.sh.
  * How long it takes depends on the design, which has up to 65,536 states, 64 rows and 256 sum values for each row.
  */
 uint32_t check_design(const uint8_t *text, size_t text_len, uint8_t *report, size_t report_len);
@@ -89,7 +89,7 @@ uint32_t check_design(const uint8_t *text, size_t text_len, uint8_t *report, siz
  * must not be NULL. An area of length 0 may have any address, NULL among them.
  *
  * The functions have no state, allocate nothing, make no system call and always return; threads may call them at the same time, each with a
- * buffer and a number of its own. They use less than 128 KiB of stack: 49,624 and 32,776 bytes, measured as above. They don't go over the
+ * buffer and a number of its own. They use less than 128 KiB of stack: 49,592 and 32,744 bytes, measured as above. They don't go over the
  * design's states: a call takes about as long as check_design takes to read the text.
  */
 size_t mark_design(const uint8_t *text, size_t text_len, uint8_t *buffer, size_t buffer_len, uint32_t *number);

@@ -1,5 +1,5 @@
--- How a field is found column by column: blanks, then digits. That it finds what `fieldOf` says is proved in proofs/Scan; no
--- reader of 01 needs this file.
+-- A field as blanks and then digits, from column to column: what the code is proved against. That this is what `fieldOf` says is
+-- proved in proofs/Scan; no reader of 01 needs this file.
 use Prim.Native.Nat.{ℕ, suc, _+_, _-_, _*_}
 use mathlib.Core.Bool.{cond}
 use mathlib.Core.List.{List, [], _∷_}

@@ -205,10 +205,21 @@ fn one_if(b: bool) -> u32
     if b { 1 } else { 0 }
 }
 
+// From six bytes, and from these with two more behind them.
 fn is_read_back(n: u16) -> bool {
-    let mut bytes = [DOT; FIELD];
-    writer::put_field(&mut bytes, 0, n);
-    let field = reader::field_at(&bytes, 0);
+    let mut six = [DOT; FIELD];
+    writer::put_field(&mut six, 0, n);
+    let mut eight = [DOT; FIELD + 2];
+    writer::put_field(&mut eight, 0, n);
+    if is_first(&six, n) {
+        is_first(&eight, n)
+    } else {
+        false
+    }
+}
+
+fn is_first(bytes: &[u8], n: u16) -> bool {
+    let field = reader::field_at(bytes, 0);
     match field {
         Field::Number(m) => m == n,
         Field::Malformed => false,

@@ -9,10 +9,11 @@ first-field-spec =
     tie.close
     (tie.spec
     (λ c κs. search needs)
+    (λ c. search needs)
+    (λ c κs. search needs)
+    (λ c. search turns.last-digit)
     (λ c. search turns.all-blank)
     (λ c. search needs)
-    (λ c. search needs)
-    (λ c. search turns.zero-alone)
     (λ c. search turns.zero-leads)
     (λ c κs. search needs)
     (λ c. search turns.digit-leads))
