@@ -27,9 +27,14 @@ abbrev pub Criterion4 : Design → State → Row → ℕ → Type 0
 Criterion4 d s r e = Enabled r s e → InternalRow r → mapped d s ≡ mapped d (nextState r s e)
 
 -- 5. "An enabled internal row leads to a smaller measure (criterion 1, with the measure given)"; it looks "at marked steps only". 004:
--- convergent with respect to ξ, definition 4.4: b(d,e) and ξ(d,e) → g(d,e) < d, for every internal action. Here k is the row's number.
+-- convergent with respect to ξ, definition 4.4: b(d,e) and ξ(d,e) → g(d,e) < d, for every internal action. Here k is the row's number, and
+-- μ any measure.
+abbrev pub Criterion5By : (State → ℕ) → Design → State → ℕ → Row → ℕ → Type 0
+Criterion5By μ d s k r e = Enabled r s e → InternalRow r → Marked d k s e → μ (nextState r s e) < μ s
+
+-- with the measure of the text
 abbrev pub Criterion5 : Design → State → ℕ → Row → ℕ → Type 0
-Criterion5 d s k r e = Enabled r s e → InternalRow r → Marked d k s e → measureAt d (nextState r s e) < measureAt d s
+Criterion5 d = Criterion5By (measureAt d) d
 
 -- 6. "For an enabled visible row, the specification row of that action is enabled at the mapped state for the same sum value
 -- (criterion 3)." b(d,e) → b′(h(d),e)

@@ -1,6 +1,7 @@
 pub mod Design
 pub mod Step
 pub mod Criteria
+pub mod Measure
 pub mod Failure
 pub mod Verdict
 pub mod Bisimilar
