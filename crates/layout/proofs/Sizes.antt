@@ -112,18 +112,17 @@ cut-times a (suc b) c = go (decLt c a)
 cut-plus : (a x c : ℕ) → min (min a c + x) c ≡ min (a + x) c
 cut-plus a x c = omega arith
 
--- the number of a list of initial values, cut off before or after
+-- the number of a list of values, cut off before or after
 module _ (c : ℕ) where
   cut-once : (a z x : ℕ) → min (min a c * z + x) c ≡ min (a * z + x) c
   cut-once a z x = sym (cut-plus (min a c * z) x c) ∙ ap (λ m. min (m + x) c) (cut-times a z c) ∙ cut-plus (a * z) x c
 
-  cut-from : (ps : List Parameter) (a : ℕ) → min (numberFrom (min a c) (sizesOf ps) (initialsOf ps)) c ≡ min (numberFrom a (sizesOf ps) (initialsOf ps)) c
+  pub cut-from : (zs vs : List ℕ) (a : ℕ) → min (numberFrom (min a c) zs vs) c ≡ min (numberFrom a zs vs) c
   unfolding numberFrom
-  cut-from [] a = omega arith
-  cut-from (p ∷ ps) a =
-      sym (cut-from ps (min a c * p .size + p .initial))
-      ∙ ap (λ m. min (numberFrom m (sizesOf ps) (initialsOf ps)) c) (cut-once a (p .size) (p .initial))
-      ∙ cut-from ps (a * p .size + p .initial)
+  cut-from [] vs a = omega arith
+  cut-from (z ∷ zs) [] a = omega arith
+  cut-from (z ∷ zs) (v ∷ vs) a =
+      sym (cut-from zs vs (min a c * z + v)) ∙ ap (λ m. min (numberFrom m zs vs) c) (cut-once a z v) ∙ cut-from zs vs (a * z + v)
 
 -- a number counted up from the first value on
 counted : (ps : List Parameter) (a : ℕ) → numberFrom a (sizesOf ps) (initialsOf ps) ≡ a * product (sizesOf ps) + numberOf (sizesOf ps) (initialsOf ps)
@@ -175,7 +174,7 @@ unfolding numberFrom numberLeft
 number-turns f s n i v z x w ew l ez ex inv = step ∙ inv
   where
     step : numberLeft f s n (i + 1) w ≡ numberLeft f s n i v
-    step = rw (each-turn _ (lineFrom f s) n i l, ew, ← ez, ← ex) (cut-from 65535 (parametersFrom f s (n - (i + 1)) (i + 1)) (v * z + x))
+    step = rw (each-turn _ (lineFrom f s) n i l, ew, ← ez, ← ex) (cut-from 65535 (sizesOf (parametersFrom f s (n - (i + 1)) (i + 1))) (initialsOf (parametersFrom f s (n - (i + 1)) (i + 1))) (v * z + x))
 
 pub number-ends : (f s : List ℕ) (n i v : ℕ) → n ≤ i → v ≤ 65535 → numberLeft f s n i v ≡ numberUpTo f s n → v ≡ numberUpTo f s n
 unfolding numberFrom numberLeft

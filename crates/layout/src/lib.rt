@@ -105,7 +105,7 @@ pub fn initial<'a>(fields: &'a limits::Fields, starts: &'a limits::Starts, i: us
 }
 
 // v * z + x, but no more than `most`.
-fn onward(v: u32, z: u16, x: u16, most: u32) -> u32
+pub fn onward(v: u32, z: u16, x: u16, most: u32) -> u32
     ensures { λ r. ⌜ r ≡ min (v * z + x) most ⌝ }
 {
     let w = v as u64 * z as u64 + x as u64;

@@ -20,7 +20,7 @@ use Rattle.design.specs.Loaded.{lineFrom, eachLine}
 use Rattle.design.specs.declared.Process.{Process}
 use Rattle.design.specs.declared.Shape.{Shape}
 use Rattle.layout.proofs.Sizes.{each-on, each-none}
-use Rattle.marks.specs.Marks.{internalIn, countedIf, afterFormulas, markPlace, markedIn}
+use Rattle.marks.specs.Marks.{internalIn, countedIf, afterFormulas, markPlace, markedIn, placeFrom, markHolds}
 
 -- ---- internal rows
 
@@ -111,3 +111,21 @@ module _ (f s : List ℕ) (h : Shape) (k : ℕ) (v : List ℕ) (e : ℕ) where
   pub marked-is : (p : ℕ) (x : Held) → (h .marks .count ≡ 0 → ⊥) → p ≡ markPlace f s h k → x ≡ answerF p v e (readF 32 (drop p f)) → x .holds ≡ markedIn f s h k v e
   unfolding markedIn
   marked-is p x some ep ex = rw (ex, ep, ne-eqb (h .marks .count) 0 some)
+
+-- ---- marks by their place in the line
+
+module _ (s : List ℕ) (h : Shape) (at : ℕ) where
+  pub place-none : at ≡ 0 → 0 ≡ placeFrom s h at
+  place-none z = rw z
+
+  pub place-some : (line : ℕ) → (at ≡ 0 → ⊥) → line ≡ getD s (h .marks .first) 0 → line + at ≡ placeFrom s h at
+  place-some line some el = rw (el, ne-eqb at 0 some)
+
+module _ (f : List ℕ) (p : ℕ) (v : List ℕ) (e : ℕ) where
+  pub holds-none : p ≡ 0 → true ≡ markHolds f p v e
+  unfolding markHolds
+  holds-none z = rw z
+
+  pub holds-some : (x : Held) → (p ≡ 0 → ⊥) → x ≡ answerF p v e (readF 32 (drop p f)) → x .holds ≡ markHolds f p v e
+  unfolding markHolds
+  holds-some x some ex = rw (ex, ne-eqb p 0 some)

@@ -1,5 +1,5 @@
 -- Marks as the code finds them: f the fields, s the starts of lines, h the shape; rows count from 1.
-use mathlib.Core.Bool.{Bool, true, cond}
+use mathlib.Core.Bool.{Bool, true, _||_, cond}
 use mathlib.Core.List.{List}
 use Prim.Native.Nat.{ℕ, _+_, _-_}
 use lib.Dec.{eqb}
@@ -31,3 +31,13 @@ markPlace f s h k = afterFormulas f (getD s (h .marks .first) 0 + 1) (internalIn
 -- whether it holds; without a line of marks each does
 unfoldable pub markedIn : List ℕ → List ℕ → Shape → ℕ → List ℕ → ℕ → Bool
 markedIn f s h k v e = cond (eqb (h .marks .count) 0) true (evalF (readF 32 (drop (markPlace f s h k) f) .tree) v e)
+
+-- ---- by its place in the line of marks, 0 for none
+
+-- where it stands among the fields
+abbrev pub placeFrom : List ℕ → Shape → ℕ → ℕ
+placeFrom s h at = cond (eqb at 0) 0 (getD s (h .marks .first) 0 + at)
+
+-- whether it holds; without one every step is marked
+unfoldable pub markHolds : List ℕ → ℕ → List ℕ → ℕ → Bool
+markHolds f place v e = eqb place 0 || evalF (readF 32 (drop place f) .tree) v e

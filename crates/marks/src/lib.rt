@@ -4,7 +4,7 @@ use design::Process;
 use design::Shape;
 ghost use mathlib.Core.Path.{_≡_};
 ghost use Prim.Native.Nat.{_-_, _<_};
-ghost use Rattle.marks.specs.Marks.{internalIn, countedIf, afterFormulas, markPlace, markedIn};
+ghost use Rattle.marks.specs.Marks.{internalIn, countedIf, afterFormulas, markPlace, markedIn, placeFrom, markHolds};
 
 // ---- internal rows
 
@@ -88,5 +88,29 @@ pub fn marked<'a>(
     }
     let at = place(fields, starts, shape, k);
     let mark = eval::formula(fields, at, v, sum, limits::MAX_DEPTH);
+    mark.holds
+}
+
+// ---- marks by their place in the line of marks; 0, where the line's kind stands, says that there is none
+
+// Where such a mark stands among the fields, 0 for none.
+pub fn place_from(starts: &limits::Starts, shape: Shape, at: u16) -> usize
+    ensures { λ r. ⌜ r ≡ placeFrom (now (starts .entry)) shape at ⌝ }
+{
+    if at == 0 {
+        return 0;
+    }
+    let line = layout::line(starts, shape.marks.first as usize);
+    line as usize + at as usize
+}
+
+// Whether the mark that stands there holds; without one every step is marked.
+pub fn holds(fields: &limits::Fields, place: usize, v: &limits::Values, sum: u16) -> bool
+    ensures { λ r. ⌜ r ≡ markHolds (now (fields .entry)) place (now (v .entry)) sum ⌝ }
+{
+    if place == 0 {
+        return true;
+    }
+    let mark = eval::formula(fields, place, v, sum, limits::MAX_DEPTH);
     mark.holds
 }

@@ -69,6 +69,10 @@ rowPlanOf f s p o whole m k =
 unfoldable pub rowPlanIn : List ℕ → List ℕ → Process → Process → Bool → Mark → ℕ → RowPlan
 rowPlanIn f s p o whole m k = cond (leb k (p .rows .count)) (rowPlanOf f s p o whole m k) noRowPlan
 
+-- that of a row of the implementation after i others
+abbrev pub implPlan : List ℕ → List ℕ → Shape → ℕ → RowPlan
+implPlan f s h i = rowPlanOf f s (h .implementation) (h .specification) true (markIn f s h (i + 1)) (i + 1)
+
 -- number i of them: the rows of the implementation, whole, then those of the specification, of which only the conditions count
 unfoldable pub rowPlanFor : List ℕ → List ℕ → Shape → ℕ → RowPlan
 rowPlanFor f s h i =

@@ -3,27 +3,25 @@
 use mathlib.Core.Path.{_≡_, refl, sym, _∙_, ap}
 use mathlib.Core.Logic.{_⊎_, inl, inr}
 use mathlib.Core.Bool.{Bool, true, false, not, _&&_, _||_, true≢false, or-true, and-true, cond}
-use mathlib.Core.List.{List, [], _∷_}
+use mathlib.Core.List.{List}
 use Prim.Native.Nat.{ℕ, zero, suc, _+_, _-_, _≤_, _<_, min}
 use native.Mathlib.Omega.{arith}
 use native.Mathlib.Numerals.{add-one}
-use native.Mathlib.Decide.{decLt}
-use borrow.Author.Tests.{eqb-true, eq-eqb, ne-eqb}
+use borrow.Author.Tests.{eqb-true}
 use lib.Dec.{eqb, ltb, eqb·suc-zero}
 use lib.ListN.{length, getD, drop, length-map}
 use Rattle.foundation.specs.First.{allIn}
-use Rattle.foundation.specs.Nth.{eachB}
 use Rattle.foundation.specs.Radix.{sameB}
 use Rattle.foundation.specs.Reflects.{_⇒_}
 use Rattle.foundation.proofs.First.{all-alike, all-both, all-from}
 use Rattle.foundation.proofs.All.{all-in, all-yes}
-use Rattle.terms.specs.Tree.{Value, Formula, evalF}
+use Rattle.terms.specs.Tree.{evalF}
 use Rattle.terms.specs.Read.{readF}
 use Rattle.terms.proofs.Read.{place}
 use Rattle.terms.proofs.And.{and-left, and-right}
-use Rattle.sum_free.specs.SumFree.{sumFreeV, sumFreeF}
-use Rattle.sum_free.proofs.SumFree.{same-v, same-f}
-use Rattle.criteria.specs.Design.{Design, Row, State, values, mapped, measureAt}
+use Rattle.sum_free.specs.SumFree.{sumFreeF}
+use Rattle.sum_free.proofs.SumFree.{same-f}
+use Rattle.criteria.specs.Design.{Design, Row, State, mapped, measureAt}
 use Rattle.criteria.specs.Step.{nextState, dataNumber}
 use Rattle.criteria.specs.Rows.{rowAt, markedTest}
 use Rattle.criteria.proofs.Rows.{is-row-below}
@@ -33,13 +31,12 @@ use Rattle.decision.proofs.Quick.{rows-none}
 use Rattle.decision.proofs.Alike.{formula-alike}
 use Rattle.decision.proofs.Find.{Found, Missing, find, found-at, found-partner}
 use Rattle.design.specs.Line as line
-use Rattle.design.specs.Loaded.{lineFrom, processIn, designAt}
+use Rattle.design.specs.Loaded.{processIn, designAt}
 use Rattle.design.specs.declared.Process.{Process}
 use Rattle.design.specs.declared.Shape.{Shape}
 use Rattle.layout.specs.Sizes.{Fits}
 use Rattle.steps.specs.Arrays.{padded, stepOf, valuesAt, lineOf, rowWith, sameIn, measureIn, rowBy, partnerBy}
-use Rattle.marks.specs.Marks.{afterFormulas, markPlace}
-use Rattle.marks.proofs.Held.{mark-none, mark-held}
+use Rattle.marks.specs.Marks.{markHolds}
 use Rattle.steps.specs.declared.Step.{Step}
 use Rattle.steps.proofs.Arrays.{row-there}
 use Rattle.steps.proofs.States as states
@@ -47,12 +44,13 @@ use Rattle.conjuncts.specs.Conjuncts.{frontOf, guardIn}
 use Rattle.conjuncts.proofs.Conjuncts.{guards}
 use Rattle.conjuncts.specs.declared.Guarded.{Guarded}
 use Rattle.row_plan.specs.RowPlan.{noMark, rowPlanAt}
-use Rattle.plan.specs.Plan.{freeOf, partnerFree, looksOf, markThere, markIn, rowPlanOf, planIn}
+use Rattle.plan.specs.Plan.{freeOf, partnerFree, looksOf, markIn, rowPlanOf, planIn}
 use Rattle.row_plan.specs.declared.RowPlan.{RowPlan}
 use Rattle.row_plan.specs.declared.Mark.{Mark}
 use Rattle.plan.proofs.Planned.{impl-row-plan, spec-row-plan}
+use Rattle.plan.proofs.Held.{AsForZero, as-for-zero, condition-free, taken-held, rowIs, row-line, row-by, planned, marks-are}
 use Rattle.step_passes.specs.Steps.{keptIn, answeredIn, internalStep, visibleStep}
-use Rattle.state_passes.specs.Passes.{rowFor, markHolds, stepIn, stepOfRow, seen, looksIn, rowIn, implIn, replyLooks, replyIn, specIn, passesIn}
+use Rattle.state_passes.specs.Passes.{rowFor, stepIn, stepOfRow, seen, looksIn, rowIn, implIn, replyLooks, replyIn, specIn, passesIn}
 use Rattle.state_passes.specs.declared.Seen.{Seen}
 
 -- a row's condition for the sum value e, taken for 0 where it is said to be sum-free
@@ -108,41 +106,6 @@ at-once true true false s4 l5 false j0 d8 s9 h = refl
 at-once true true false s4 l5 true false true s9 h = refl
 at-once true true false s4 l5 true false false s9 h = refl
 at-once true true false s4 l5 true true d8 s9 h = absurd (true≢false (h refl))
-
--- values that do not read the sum value
-values-same : (vs : List Value) (x : State) (e : ℕ) → eachB (λ (t : Value). sumFreeV t) vs ≡ true → values vs x e ≡ values vs x 0
-values-same [] x e h = refl
-values-same (t ∷ vs) x e h =
-    rw (same-v t x e 0 (and-left (sumFreeV t) (eachB (λ (t : Value). sumFreeV t) vs) h), values-same vs x e (and-right (sumFreeV t) (eachB (λ (t : Value). sumFreeV t) vs) h))
-
--- a row does for a sum value what it does for 0
-record AsForZero (r : Row) (x : State) (e : ℕ) : Type 0 where
-  on : enabledB r x e ≡ enabledB r x 0
-  number : dataNumber r x e ≡ dataNumber r x 0
-  next : nextState r x e ≡ nextState r x 0
-
-as-for-zero : (r : Row) (x : State) (e : ℕ) → freeOf true r ≡ true → AsForZero r x e
-unfolding freeOf
-as-for-zero r x e h =
-    let rest : Bool = eachB (λ (t : Value). sumFreeV t) (r .next) in
-    let k = and-right (sumFreeF (r .condition)) (sumFreeV (r .carries) && rest) h in
-    record {
-      on = same-f (r .condition) x e 0 (and-left (sumFreeF (r .condition)) (sumFreeV (r .carries) && rest) h);
-      number = same-v (r .carries) x e 0 (and-left (sumFreeV (r .carries)) rest k);
-      next = values-same (r .next) x e (and-right (sumFreeV (r .carries)) rest k);
-    }
-
-condition-free : (r : Row) → freeOf false r ≡ true → sumFreeF (r .condition) ≡ true
-unfolding freeOf
-condition-free r h = and-left (sumFreeF (r .condition)) true h
-
--- a formula taken for 0 where it does not read the sum value is the formula
-taken-held : (t : Formula) (x : State) (e : ℕ) → evalF t x (cond (sumFreeF t) 0 e) ≡ evalF t x e
-taken-held t x e = go (sumFreeF t) refl
-  where
-    go : (b : Bool) → sumFreeF t ≡ b → evalF t x (cond b 0 e) ≡ evalF t x e
-    go true h = same-f t x 0 e h
-    go false h = refl
 
 on-held : (r : Row) (x : State) (e : ℕ) → onIn r x (sumFreeF (r .condition)) e ≡ enabledB r x e
 on-held r x e = taken-held (r .condition) x e
@@ -235,20 +198,6 @@ module _ (f s : List ℕ) (h : Shape) (v t : List ℕ) (l : ℕ) where
 -- ---- the rows of a process
 
 module _ (f s : List ℕ) (p : Process) where
-  abbrev lineAt : ℕ → List ℕ
-  lineAt i = lineFrom f s (p .rows .first + i)
-
-  abbrev rowIs : ℕ → Row
-  rowIs i = line.rowOf (p .parameters .count) (lineAt i)
-
-  row-line : (i : ℕ) → lineOf s p (i + 1) ≡ getD s (p .rows .first + i) 0
-  unfolding lineOf
-  row-line i = let e : p .rows .first + (i + 1) - 1 ≡ p .rows .first + i = omega arith in rw e
-
-  row-by : (i : ℕ) → rowBy f s p (i + 1) ≡ rowIs i
-  unfolding rowBy
-  row-by i = rw (row-line i)
-
   -- the partner of an action, by its number
   partner-by : (a : ℕ) → partnerBy f s p (rowNumber (processIn f s p) a) ≡ partner (processIn f s p) a
   unfolding partnerBy rowBy lineOf
@@ -264,74 +213,17 @@ module _ (f s : List ℕ) (p : Process) where
       go (suc j) e (inr m) = absurd (let z = m .number in omega arith)
 
   -- what is asked of each row, by its number
-  numbered : (G : ℕ → Row → Bool) → allIn (λ i. G (i + 1) (rowIs i)) (p .rows .count) 0
+  numbered : (G : ℕ → Row → Bool) → allIn (λ i. G (i + 1) (rowIs f s p i)) (p .rows .count) 0
       ≡ allIn (λ k. G k (rowAt (processIn f s p .rows) k)) (length (processIn f s p .rows)) 1
   numbered G =
-      all-in (λ i. G (i + 1) (rowIs i)) (λ i. G (suc i) (rowAt (processIn f s p .rows) (suc i))) (p .rows .count) 0 same
+      all-in (λ i. G (i + 1) (rowIs f s p i)) (λ i. G (suc i) (rowAt (processIn f s p .rows) (suc i))) (p .rows .count) 0 same
       ∙ ap (λ n. allIn (λ i. G (suc i) (rowAt (processIn f s p .rows) (suc i))) n 0) (sym (states.rows-count f s p))
       ∙ sym (all-from (λ k. G k (rowAt (processIn f s p .rows) k)) (length (processIn f s p .rows)) 0)
     where
-      same : (i : ℕ) → 0 ≤ i → i < 0 + p .rows .count → G (i + 1) (rowIs i) ≡ G (suc i) (rowAt (processIn f s p .rows) (suc i))
+      same : (i : ℕ) → 0 ≤ i → i < 0 + p .rows .count → G (i + 1) (rowIs f s p i) ≡ G (suc i) (rowAt (processIn f s p .rows) (suc i))
       same i z l =
           let e : p .rows .first + suc i - 1 ≡ p .rows .first + i = omega arith in
           rw (add-one i, row-there f s p (suc i) (omega arith) (omega arith), e)
-
--- ---- the mark of an internal row, by its plan
-
-module _ (f s : List ℕ) (h : Shape) (v : State) (i : ℕ) where
-  abbrev mark : Mark
-  mark = markIn f s h (i + 1)
-
-  abbrev start : ℕ
-  start = getD s (h .marks .first) 0
-
-  -- where it stands, by the plan and by the arrays
-  abbrev planned : ℕ
-  planned = cond (eqb (mark .at) 0) 0 (start + mark .at)
-
-  abbrev at : ℕ
-  at = markPlace f s h (i + 1)
-
-  after-start : start < at
-  unfolding markPlace afterFormulas
-  after-start = omega arith
-
-  module _ (below : i < h .implementation .rows .count) (int : internalB (rowIs f s (h .implementation) i) ≡ true) where
-    abbrev marks : ℕ → Bool
-    marks e = markHolds f planned v (cond (mark .free) 0 e)
-
-    -- without a line of marks
-    none-given : h .marks .count ≡ 0 → (e : ℕ) → marks e ≡ markedB (designAt f s h) (i + 1) v e
-    unfolding markIn markHolds evalF
-    none-given n e = rw (eq-eqb (h .marks .count) 0 n) (ap (λ (g : Formula). evalF g v e) (sym (mark-none f s h (i + 1) n)))
-
-    -- with one
-    row-internal : rowAt (designAt f s h .impl .rows) (i + 1) .action ≡ 0
-    row-internal =
-        let e : h .implementation .rows .first + (i + 1) - 1 ≡ h .implementation .rows .first + i = omega arith in
-        let is : rowAt (designAt f s h .impl .rows) (i + 1) ≡ rowIs f s (h .implementation) i =
-        row-there f s (h .implementation) (i + 1) (omega arith) (omega arith) ∙ rw e in
-        ap (λ (r : Row). r .action) is ∙ eqb-true (rowIs f s (h .implementation) i .action) 0 int
-
-    mark-is : (h .marks .count ≡ 0 → ⊥) → mark ≡ markThere f s h (i + 1)
-    unfolding markIn
-    mark-is some = rw (ne-eqb (h .marks .count) 0 some, row-by f s (h .implementation) i, int)
-
-    some-given : (h .marks .count ≡ 0 → ⊥) → (e : ℕ) → marks e ≡ markedB (designAt f s h) (i + 1) v e
-    unfolding markThere markHolds
-    some-given some e =
-        let l = after-start in
-        let p : start + (at - start) ≡ at = omega arith in
-        rw (mark-is some, ne-eqb (at - start) 0 (λ z. omega arith), p, ne-eqb at 0 (λ z. omega arith))
-        (taken-held (readF 32 (drop at f) .tree) v e
-        ∙ ap (λ (g : Formula). evalF g v e) (sym (mark-held f s h (i + 1) (omega arith) (omega arith) row-internal some)))
-
-    marks-are : (e : ℕ) → marks e ≡ markedB (designAt f s h) (i + 1) v e
-    marks-are e = go (decLt 0 (h .marks .count))
-      where
-        go : Dec (0 < h .marks .count) → marks e ≡ markedB (designAt f s h) (i + 1) v e
-        go (yes c) = some-given (λ z. omega arith) e
-        go (no c) = none-given (omega arith) e
 
 -- ---- the design
 

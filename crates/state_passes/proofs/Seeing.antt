@@ -7,7 +7,7 @@ use native.Mathlib.Numerals.{add-one}
 use native.Mathlib.Omega.{arith}
 use borrow.Author.Tests.{not-true, not-false, ne-eqb}
 use lib.Dec.{eqb, eqb·suc-zero}
-use lib.ListN.{getD, drop}
+use lib.ListN.{drop}
 use Rattle.foundation.specs.First.{allIn}
 use Rattle.foundation.specs.Reflects.{_⇒_}
 use Rattle.foundation.proofs.First.{all-alike}
@@ -25,10 +25,11 @@ use Rattle.layout.specs.Sizes.{Fits}
 use Rattle.steps.specs.Arrays.{lineOf, belowIn, measureIn, rowBy, partnerBy}
 use Rattle.conjuncts.specs.Conjuncts.{guardIn}
 use Rattle.conjuncts.specs.declared.Guarded.{Guarded}
+use Rattle.marks.specs.Marks.{placeFrom, markHolds}
 use Rattle.row_plan.specs.RowPlan.{rowPlanAt}
 use Rattle.row_plan.specs.declared.RowPlan.{RowPlan}
 use Rattle.step_passes.specs.Steps.{internalStep, visibleStep}
-use Rattle.state_passes.specs.Passes.{rowFor, placeOf, left, onAt, knownIn, markHolds, markAt, knownMark, stepIn, seen, visibleLook, visibleLooks, internalLook, internalLooks, looksIn, rowIn, implIn, repliedIn, replyLooks, replyIn, specIn, passesIn}
+use Rattle.state_passes.specs.Passes.{rowFor, left, onAt, knownIn, markAt, knownMark, stepIn, seen, visibleLook, visibleLooks, internalLook, internalLooks, looksIn, rowIn, implIn, repliedIn, replyLooks, replyIn, specIn, passesIn}
 use Rattle.state_passes.specs.declared.Seen.{Seen}
 use Rattle.state_passes.specs.declared.Row.{Row}
 use Rattle.state_passes.specs.declared.First.{First}
@@ -56,15 +57,6 @@ module _ (f : List ℕ) (row : Row) (v : List ℕ) (first : Held) (e : ℕ) wher
 
 -- ---- and of a mark
 
-module _ (f : List ℕ) (p : ℕ) (v : List ℕ) (e : ℕ) where
-  pub mark-none : p ≡ 0 → true ≡ markHolds f p v e
-  unfolding markHolds
-  mark-none z = rw z
-
-  pub mark-some : (x : Held) → (p ≡ 0 → ⊥) → x ≡ answerF p v e (readF 32 (drop p f)) → x .holds ≡ markHolds f p v e
-  unfolding markHolds
-  mark-some x some ex = rw (ex, ne-eqb p 0 some)
-
 module _ (f : List ℕ) (row : Row) (v : List ℕ) (first : Bool) (e : ℕ) where
   pub mark-kept : row .steady || eqb e 0 ≡ true → first ≡ knownMark f row v first e
   unfolding knownMark
@@ -83,14 +75,6 @@ module _ (f : List ℕ) (row : Row) (v : List ℕ) (first : Bool) (e : ℕ) wher
       go true x = ef
       go false zero = ef
       go false (suc x) = rw (eqb·suc-zero x)
-
--- where it stands
-module _ (s : List ℕ) (h : Shape) (en : RowPlan) where
-  pub place-none : en .mark .at ≡ 0 → 0 ≡ placeOf s h en
-  place-none z = rw z
-
-  pub place-some : (line : ℕ) → (en .mark .at ≡ 0 → ⊥) → line ≡ getD s (h .marks .first) 0 → line + en .mark .at ≡ placeOf s h en
-  place-some line some el = rw (el, ne-eqb (en .mark .at) 0 some)
 
 -- ---- all that are tried one after the other
 
@@ -260,7 +244,7 @@ module _ (f s p v t : List ℕ) (h : Shape) (i k m line n : ℕ) (g : Guarded) (
   unfolding rowIn
   row-off y = rw (← ek, ← el, ← en, ← eg, not-true (g .holds) y)
 
-  pub row-on : (e : RowPlan) (at : ℕ) (row : Row) (r : Seen) → not (g .holds) ≡ false → e ≡ rowPlanAt p i → at ≡ placeOf s h e → row ≡ rowFor g e at → r ≡ looksIn f s h row v t m
+  pub row-on : (e : RowPlan) (at : ℕ) (row : Row) (r : Seen) → not (g .holds) ≡ false → e ≡ rowPlanAt p i → at ≡ placeFrom s h (e .mark .at) → row ≡ rowFor g e at → r ≡ looksIn f s h row v t m
       → r ≡ rowIn f s h (i + 1) planned v t m
   unfolding rowIn
   row-on e at row r y ee ea ew er = er ∙ rw (ew, ea, ee, ← ek, ← el, ← en, ← eg, not-false (g .holds) y)

@@ -4,7 +4,7 @@ use mathlib.Core.Bool.{Bool, true, false, not, _&&_, _||_, cond}
 use mathlib.Core.List.{List}
 use Prim.Native.Nat.{ℕ, _+_}
 use lib.Dec.{eqb}
-use lib.ListN.{getD, drop}
+use lib.ListN.{drop}
 use Rattle.foundation.specs.First.{allIn}
 use Rattle.foundation.specs.Reflects.{_⇒_}
 use Rattle.terms.specs.Tree.{Formula, evalF}
@@ -19,6 +19,7 @@ use Rattle.design.specs.declared.Shape.{Shape}
 use Rattle.steps.specs.Arrays.{padded, lineOf, belowIn, measureIn, partnerBy}
 use Rattle.conjuncts.specs.Conjuncts.{guardIn}
 use Rattle.conjuncts.specs.declared.Guarded.{Guarded}
+use Rattle.marks.specs.Marks.{placeFrom, markHolds}
 use Rattle.row_plan.specs.RowPlan.{rowPlanAt}
 use Rattle.row_plan.specs.declared.RowPlan.{RowPlan}
 use Rattle.step_passes.specs.Steps.{internalTo, visibleTo, internalStep, visibleStep}
@@ -40,10 +41,6 @@ rowFor g e place = record {
   steady = e .mark .free;
 }
 
--- where the mark of a planned row stands, 0 if it has none
-abbrev pub placeOf : List ℕ → Shape → RowPlan → ℕ
-placeOf s h e = cond (eqb (e .mark .at) 0) 0 (getD s (h .marks .first) 0 + e .mark .at)
-
 -- what is left of its condition; whether that holds for the sum value e, taken for 0 where it is said to be sum-free
 abbrev pub left : List ℕ → Row → Read Formula
 left f row = readF (row .depth) (drop (row .at) f)
@@ -55,11 +52,7 @@ onAt f row v e = evalF (left f row .tree) v (cond (row .free) 0 e)
 unfoldable pub knownIn : List ℕ → Row → List ℕ → Held → ℕ → Held
 knownIn f row v first e = cond (row .free || eqb e 0) first (answerF (row .at) v e (left f row))
 
--- the mark at a place; at 0 there is none, and every step is marked
-unfoldable pub markHolds : List ℕ → ℕ → List ℕ → ℕ → Bool
-markHolds f place v e = eqb place 0 || evalF (readF 32 (drop place f) .tree) v e
-
--- that of a row for the sum value e, taken for 0 where it is said to be sum-free
+-- its mark for the sum value e, taken for 0 where it is said to be sum-free
 abbrev pub markAt : List ℕ → Row → List ℕ → ℕ → Bool
 markAt f row v e = markHolds f (row .mark) v (cond (row .steady) 0 e)
 
@@ -115,7 +108,7 @@ looksIn f s h row v t m =
 unfoldable pub rowIn : List ℕ → List ℕ → Shape → ℕ → RowPlan → List ℕ → List ℕ → ℕ → Seen
 rowIn f s h k e v t m =
     let front = guardIn f v 0 (e .front) (lineOf s (h .implementation) k + 3) 32 in
-    cond (front .holds) (looksIn f s h (rowFor front e (placeOf s h e)) v t m) (seen true true)
+    cond (front .holds) (looksIn f s h (rowFor front e (placeFrom s h (e .mark .at))) v t m) (seen true true)
 
 unfoldable pub implIn : List ℕ → List ℕ → Shape → List ℕ → List ℕ → List ℕ → ℕ → Seen
 implIn f s h p v t m =

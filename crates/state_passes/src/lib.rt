@@ -12,7 +12,7 @@ ghost use mathlib.Core.Path.{_≡_};
 ghost use Prim.Native.Nat.{_+_, _<_};
 ghost use Rattle.layout.specs.Sizes.{Fits};
 ghost use Rattle.row_plan.specs.RowPlan.{rowPlanAt};
-ghost use Rattle.state_passes.specs.Passes.{knownIn, markHolds, knownMark, visibleLook, visibleLooks, internalLook, internalLooks, looksIn, rowFor, placeOf, rowIn, implIn, repliedIn, replyLooks, replyIn, specIn, passesIn};
+ghost use Rattle.state_passes.specs.Passes.{knownIn, knownMark, visibleLook, visibleLooks, internalLook, internalLooks, looksIn, rowFor, rowIn, implIn, repliedIn, replyLooks, replyIn, specIn, passesIn};
 
 // What was seen of rows: whether each holds, and, if so, whether none has a marked step.
 pub struct Seen {
@@ -69,25 +69,14 @@ fn on_at(fields: &limits::Fields, row: Row, v: &limits::Values, first: Held, sum
     eval::formula(fields, row.at, v, sum, row.depth)
 }
 
-// Whether a row's mark holds for a sum value; without one every step is marked.
-fn mark_at(fields: &limits::Fields, mark: usize, v: &limits::Values, sum: u16) -> bool
-    ensures { λ r. ⌜ r ≡ markHolds (now (fields .entry)) mark (now (v .entry)) sum ⌝ }
-{
-    if mark == 0 {
-        return true;
-    }
-    let holds = eval::formula(fields, mark, v, sum, limits::MAX_DEPTH);
-    holds.holds
-}
-
-// The same, where it is known for sum value 0.
+// Whether a row's mark holds for a sum value, where that is known for sum value 0.
 fn marked_at(fields: &limits::Fields, row: Row, v: &limits::Values, first: bool, sum: u16) -> bool
     ensures { λ r. ⌜ r ≡ knownMark (now (fields .entry)) row (now (v .entry)) first sum ⌝ }
 {
     if row.steady | (sum == 0) {
         return first;
     }
-    mark_at(fields, row.mark, v, sum)
+    marks::holds(fields, row.mark, v, sum)
 }
 
 // ---- the looks at a visible row
@@ -220,7 +209,7 @@ fn row_looks<'a>(
     if row.internal {
         let first = First {
             on: on,
-            marked: mark_at(fields, row.mark, v, 0),
+            marked: marks::holds(fields, row.mark, v, 0),
         };
         return internal_looks(fields, starts, shape, row, first, v, t, m);
     }
@@ -229,17 +218,6 @@ fn row_looks<'a>(
         holds: holds,
         quiet: holds,
     }
-}
-
-// Where the mark of a planned row stands, 0 if it has none.
-fn place_of(starts: &limits::Starts, shape: Shape, planned: RowPlan) -> usize
-    ensures { λ r. ⌜ r ≡ placeOf (now (starts .entry)) shape planned ⌝ }
-{
-    if planned.mark.at == 0 {
-        return 0;
-    }
-    let line = layout::line(starts, shape.marks.first as usize);
-    line as usize + planned.mark.at as usize
 }
 
 // What is seen of the row after i others: the conjuncts in front of its condition, and if they hold its looks at what is left.
@@ -266,7 +244,7 @@ fn row_seen<'a>(
         };
     }
     let planned = row_plan::planned(plan, i as usize);
-    let mark = place_of(starts, shape, planned);
+    let mark = marks::place_from(starts, shape, planned.mark.at);
     let row = row_for(front, planned, mark);
     row_looks(fields, starts, shape, row, v, t, m)
 }

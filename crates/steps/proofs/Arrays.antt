@@ -3,7 +3,7 @@
 use mathlib.Core.Path.{_≡_, refl, sym, _∙_, ap}
 use mathlib.Core.Bool.{Bool, true, false, cond}
 use mathlib.Core.List.{List, [], _∷_}
-use Prim.Native.Nat.{ℕ, zero, suc, _+_, _-_, _≤_, _<_, _%_, _/_, min}
+use Prim.Native.Nat.{ℕ, zero, suc, _+_, _-_, _*_, _≤_, _<_, _%_, _/_, min}
 use native.Mathlib.Numerals.{add-one}
 use native.Mathlib.Decide.{decLt}
 use native.Mathlib.Omega.{arith}
@@ -11,7 +11,7 @@ use borrow.Author.Tests.{lt-ltb, le-ltb, eq-eqb, ne-eqb}
 use lib.Dec.{eqb}
 use lib.ListN.{length, getD, drop, set, replicate, List·getD-eq-default}
 use lib.Seq.{sets, set-comm, set-out}
-use Rattle.foundation.specs.Radix.{belowB, sameB, splitOf}
+use Rattle.foundation.specs.Radix.{belowB, sameB, product, numberOf, numberFrom, splitOf}
 use Rattle.terms.specs.Tree.{evalV, evalF}
 use Rattle.terms.specs.Read.{readV, readF}
 use Rattle.terms.proofs.Read.{place}
@@ -27,8 +27,8 @@ use Rattle.design.proofs.Loaded.{each-length}
 use Rattle.design.specs.declared.Process.{Process}
 use Rattle.design.specs.declared.Shape.{Shape}
 use Rattle.layout.specs.Sizes.{parametersFrom, sizesOf, initialsOf}
-use Rattle.layout.proofs.Sizes.{each-on, each-none}
-use Rattle.steps.specs.Arrays.{padded, firstValues, valuesAt, stepOf, noStep, lineOf, rowStep, rowSpan, rowWith, stateIn, initialIn, belowIn, sameIn, invariantIn, insideIn, mappedIn, measureIn}
+use Rattle.layout.proofs.Sizes.{each-on, each-none, cut-from}
+use Rattle.steps.specs.Arrays.{padded, firstValues, valuesAt, stepOf, noStep, lineOf, rowStep, rowSpan, rowWith, stateIn, numberIn, initialIn, belowIn, sameIn, invariantIn, insideIn, mappedIn, measureIn}
 use Rattle.steps.specs.declared.Step.{Step}
 
 -- ---- the values of terms, one after the other
@@ -197,6 +197,49 @@ module _ (f s v : List ℕ) (p : Process) where
     where
       go : true ≡ belowLeft i
       go = let k : some - i ≡ 0 = omega arith in rw (each-none parameterOf (lineFrom f s) (from + i) some i l, k)
+
+-- a number counted up from the first value on
+counted : (f s v : List ℕ) (n i j a : ℕ)
+    → numberFrom a (sizesOf (parametersFrom f s n j)) (firstValues n i v) ≡ a * product (sizesOf (parametersFrom f s n j)) + numberOf (sizesOf (parametersFrom f s n j)) (firstValues n i v)
+unfolding numberFrom numberOf firstValues eachLine
+counted f s v zero i j a = omega arith
+counted f s v (suc n) i j a = counted f s v n (suc i) (suc j) _ ∙ omega arith
+
+module _ (f s v : List ℕ) (p : Process) where
+  abbrev places : ℕ
+  places = p .parameters .count
+
+  abbrev onset : ℕ
+  onset = p .parameters .first
+
+  -- what is left to count, from parameter i on
+  unfoldable pub numberLeft : ℕ → ℕ → ℕ
+  numberLeft i k = min (numberFrom k (sizesOf (parametersFrom f s (places - i) (onset + i))) (firstValues (places - i) i v)) 65536
+
+  pub number-starts : numberLeft 0 0 ≡ numberIn f s p v
+  unfolding numberLeft numberIn
+  number-starts =
+      let e : places - 0 ≡ places = omega arith in
+      let m : onset + 0 ≡ onset = omega arith in
+      rw (e, m) (ap (λ k. min k 65536) (counted f s v places 0 onset 0 ∙ omega arith))
+
+  pub number-turns : (i k z x w : ℕ) → i < places → z ≡ getD (lineFrom f s (onset + i)) 1 0 → x ≡ getD v i 0 → w ≡ min (k * z + x) 65536
+      → numberLeft i k ≡ numberIn f s p v → numberLeft (i + 1) w ≡ numberIn f s p v
+  unfolding numberLeft numberFrom firstValues
+  number-turns i k z x w l ez ex ew inv = step ∙ inv
+    where
+      step : numberLeft (i + 1) w ≡ numberLeft i k
+      step =
+          let e : places - i ≡ suc (places - (i + 1)) = omega arith in
+          rw (each-on parameterOf (lineFrom f s) onset places i l, e, ew, ← ez, ← ex, add-one i)
+          (cut-from 65536 (sizesOf (parametersFrom f s (places - suc i) (onset + suc i))) (firstValues (places - suc i) (suc i) v) (k * z + x))
+
+  pub number-ends : (i k : ℕ) → places ≤ i → k ≤ 65536 → numberLeft i k ≡ numberIn f s p v → k ≡ numberIn f s p v
+  unfolding numberLeft numberFrom
+  number-ends i k l small inv = end ∙ inv
+    where
+      end : k ≡ numberLeft i k
+      end = rw (each-none parameterOf (lineFrom f s) (onset + i) places i l) (omega arith)
 
 module _ (v w : List ℕ) (n i : ℕ) where
   unfoldable pub sameLeft : Bool

@@ -11,8 +11,8 @@ use lib.Seq.{sets-eq, getD-append-add, getD-drop}
 use Rattle.foundation.specs.Nth.{EachIs}
 use Rattle.foundation.specs.Radix.{product, belowB, sameB, valuesOf}
 use Rattle.foundation.proofs.Nth.{nth-nil, nth-cons}
-use Rattle.foundation.proofs.Radix.{from-the-last}
-use Rattle.criteria.specs.Design.{Row, sizes, initialState, mapped, measureAt}
+use Rattle.foundation.proofs.Radix.{number-below, values-of-number, from-the-last}
+use Rattle.criteria.specs.Design.{Row, State, InSize, sizes, states, stateNumber, initialState, mapped, measureAt}
 use Rattle.criteria.specs.Step.{nextState}
 use Rattle.criteria.specs.Rows.{noRow, rowAt}
 use Rattle.decision.specs.Tests.{invariantB, invariantStateB}
@@ -24,7 +24,7 @@ use Rattle.design.specs.declared.Process.{Process}
 use Rattle.design.specs.declared.Shape.{Shape}
 use Rattle.design.proofs.Loaded.{each-length}
 use Rattle.layout.specs.Sizes.{FitsIn, Fits}
-use Rattle.steps.specs.Arrays.{padded, firstValues, stepOf, stateIn, belowIn, sameIn, invariantIn, insideIn, mappedIn, measureIn}
+use Rattle.steps.specs.Arrays.{padded, firstValues, stepOf, stateIn, numberIn, belowIn, sameIn, invariantIn, insideIn, mappedIn, measureIn}
 use Rattle.steps.proofs.Arrays.{row-there, row-past}
 
 -- ---- an array that holds a state
@@ -172,3 +172,31 @@ module _ (f s : List ℕ) (h : Shape) where
   unfolding insideIn
   inside-held fits x e =
       rw (below-held f s (h .implementation) (fits .implementation) x e, invariant-held x (rw e (fits .implementation .parameters)))
+
+-- ---- a state by its number
+
+module _ (f s : List ℕ) (h : Shape) (fits : Fits h) (x : State) (in-size : InSize (designAt f s h .impl) x) where
+  abbrev k : ℕ
+  k = stateNumber (designAt f s h) x
+
+  abbrev zs : List ℕ
+  zs = sizes (designAt f s h .impl)
+
+  state-long : length x ≡ h .implementation .parameters .count
+  state-long = ap length (sym (values-of-number zs x in-size)) ∙ state-length f s (h .implementation) k
+
+  pub state-short : length x ≤ 8
+  state-short = rw state-long (fits .implementation .parameters)
+
+  -- the array of its number holds it, and its number is that of the array
+  pub array-of : stateIn f s (h .implementation) k ≡ padded x
+  array-of = state-held f s (h .implementation) (fits .implementation) k (number-below zs x in-size) ∙ ap padded (values-of-number zs x in-size)
+
+  pub invariant-of : invariantIn f s h (padded x) ≡ invariantB (designAt f s h) x
+  invariant-of = invariant-held f s h x state-short
+
+  pub number-of : states (designAt f s h) ≤ 65536 → numberIn f s (h .implementation) (padded x) ≡ k
+  unfolding numberIn
+  number-of few =
+      let b = number-below zs x in-size in
+      rw (first-held x (h .implementation .parameters .count) state-long (fits .implementation .parameters)) (omega arith)

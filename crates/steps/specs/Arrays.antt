@@ -7,7 +7,7 @@ use Prim.Native.Nat.{ℕ, zero, suc, _+_, _-_, min}
 use lib.Dec.{eqb}
 use lib.ListN.{getD, drop, replicate}
 use lib.Seq.{sets}
-use Rattle.foundation.specs.Radix.{belowB, sameB, splitOf}
+use Rattle.foundation.specs.Radix.{belowB, sameB, numberOf, splitOf}
 use Rattle.criteria.specs.Design.{Row, values, sizes, initialState, mapped, measureAt}
 use Rattle.criteria.specs.Step.{nextState, dataNumber}
 use Rattle.criteria.specs.Rows.{noRow, rowAt}
@@ -67,6 +67,10 @@ stateIn f s p k = padded (splitOf (sizesOf (parametersFrom f s (min (p .paramete
 
 unfoldable pub initialIn : List ℕ → List ℕ → Process → List ℕ
 initialIn f s p = padded (initialState (processIn f s p))
+
+-- the number of a state, 65,536 standing for all that are larger
+unfoldable pub numberIn : List ℕ → List ℕ → Process → List ℕ → ℕ
+numberIn f s p v = min (numberOf (sizes (processIn f s p)) (firstValues (p .parameters .count) 0 v)) 65536
 
 -- the values are below the sizes; the first n are the same
 unfoldable pub belowIn : List ℕ → List ℕ → Process → List ℕ → Bool

@@ -9,7 +9,7 @@ ghost use mathlib.Core.Path.{_≡_};
 ghost use Prim.Native.Nat.{_-_, _%_, _/_, min};
 ghost use lib.ListN.{drop};
 ghost use Rattle.design.specs.Line.{rowOf};
-ghost use Rattle.steps.specs.Arrays.{padded, valuesAt, stepOf, noStep, lineOf, rowStep, rowSpan, rowWith, stateIn, initialIn, belowIn, sameIn, invariantIn, insideIn, mappedIn, measureIn};
+ghost use Rattle.steps.specs.Arrays.{padded, valuesAt, stepOf, noStep, lineOf, rowStep, rowSpan, rowWith, stateIn, numberIn, initialIn, belowIn, sameIn, invariantIn, insideIn, mappedIn, measureIn};
 
 // What a row does at a state for a sum value: its action, whether it is enabled, the data number, and the state that it leads to.
 pub struct Step {
@@ -18,6 +18,9 @@ pub struct Step {
     pub carries: u16,
     pub next: limits::Values,
 }
+
+// No state has this number.
+pub const NOWHERE: u32 = limits::MAX_STATES as u32;
 
 // ---- values
 
@@ -87,6 +90,25 @@ pub fn state<'a>(
         left = quotient(left, z);
     }
     out
+}
+
+// The number of a state, and `NOWHERE` for all that are larger than the number of any.
+pub fn number<'a>(
+    fields: &'a limits::Fields,
+    starts: &'a limits::Starts,
+    process: Process,
+    v: &limits::Values,
+) -> usize
+    ensures { λ r. ⌜ r ≡ numberIn (now (fields .entry)) (now (starts .entry)) process (now (v .entry)) ⌝ }
+{
+    let mut k = 0;
+    let mut i = 0;
+    while i < process.parameters.count as usize {
+        let z = layout::size(fields, starts, process.parameters.first as usize + i);
+        k = layout::onward(k, z, terms::field(v, i), NOWHERE);
+        i += 1;
+    }
+    k as usize
 }
 
 // The initial state.
