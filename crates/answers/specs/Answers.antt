@@ -14,6 +14,8 @@ use Rattle.answers.specs.declared.Done.{Done}
 use Rattle.answers.specs.declared.Done.the-variants as done
 use Rattle.answers.specs.declared.Advance.{Advance}
 use Rattle.answers.specs.declared.Advance.the-variants as advance
+use Rattle.answers.specs.declared.Measured.{Measured}
+use Rattle.answers.specs.declared.Measured.the-variants as measured
 use Rattle.answers.specs.declared.Verdict.{Verdict}
 use Rattle.answers.specs.declared.Verdict.the-variants as verdict
 
@@ -49,6 +51,12 @@ verdictNumbers verdict.Accepted = report 0 0 0 0 0
 verdictNumbers (verdict.Failed f) = report 1 (f .criterion) (f .state) (f .row) (f .sum)
 verdictNumbers (verdict.TurnedDown k) = report k 0 0 0 0
 
+-- the number by which a measure is turned down; 0 if it is done: filled, or a loop is named
+abbrev pub measuredNumber : Measured → ℕ
+measuredNumber measured.Filled = 0
+measuredNumber (measured.Loop k) = 0
+measuredNumber (measured.TurnedDown k) = k
+
 -- ---- the number that a call returns by the desk's phase; of a load, an advance or a drop 0 is done
 
 -- 12. "Load on a desk that isn't empty."; on an empty one the text's faults come after this
@@ -72,11 +80,12 @@ verdictNumbersBy phase.Open = report 13 0 0 0 0
 verdictNumbersBy phase.Accepted = report 0 0 0 0 0
 verdictNumbersBy (phase.Failed f) = report 1 (f .criterion) (f .state) (f .row) (f .sum)
 
-abbrev pub dropNumber : Phase → ℕ
-dropNumber phase.Empty = 11
-dropNumber phase.Open = 0
-dropNumber phase.Accepted = 0
-dropNumber (phase.Failed f) = 0
+-- 11, of a drop; and of a measure before 17 and 18 (02, order 4)
+abbrev pub emptyNumber : Phase → ℕ
+emptyNumber phase.Empty = 11
+emptyNumber phase.Open = 0
+emptyNumber phase.Accepted = 0
+emptyNumber (phase.Failed f) = 0
 
 -- ---- the answer itself
 

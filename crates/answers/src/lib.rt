@@ -5,7 +5,7 @@ use verdicts::Outcome;
 use verdicts::Report;
 ghost use mathlib.Core.Path.{_≡_};
 ghost use Rattle.verdicts.specs.Report.{report};
-ghost use Rattle.answers.specs.Answers.{verdictNumbers, loadNumberBy, advanceNumber, dropNumber, toldBy, answerAfter, phaseAfter};
+ghost use Rattle.answers.specs.Answers.{verdictNumbers, loadNumberBy, advanceNumber, emptyNumber, toldBy, answerAfter, phaseAfter};
 
 // What a desk is: empty, open or decided.
 pub enum Phase {
@@ -36,6 +36,13 @@ pub enum Verdict {
     TurnedDown(u16),
 }
 
+// The answer of a measure: the slice holds it; or there is none, as this state is on a loop; or the number by which it is turned down.
+pub enum Measured {
+    Filled,
+    Loop(u16),
+    TurnedDown(u16),
+}
+
 // The number by which a load is turned down before its text is looked at; 0 if it isn't.
 pub fn load_number(phase: Phase) -> u16
     ensures { λ r. ⌜ r ≡ loadNumberBy phase ⌝ }
@@ -60,9 +67,9 @@ pub fn advance_number(phase: Phase, n: u64) -> u16
     }
 }
 
-// The number by which a drop is turned down; 0 if it isn't.
-pub fn drop_number(phase: Phase) -> u16
-    ensures { λ r. ⌜ r ≡ dropNumber phase ⌝ }
+// The number by which a call is turned down that only asks for a desk that isn't empty, a drop or a measure; 0 if it isn't.
+pub fn empty_number(phase: Phase) -> u16
+    ensures { λ r. ⌜ r ≡ emptyNumber phase ⌝ }
 {
     match phase {
         Phase::Empty => 11,

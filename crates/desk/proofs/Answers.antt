@@ -25,7 +25,7 @@ use Rattle.answers.specs.declared.Done.the-variants as done
 use Rattle.answers.specs.declared.Advance.{Advance}
 use Rattle.answers.specs.declared.Advance.the-variants as advance
 use Rattle.answers.specs.declared.Verdict.{Verdict}
-use Rattle.answers.specs.Answers.{loadNumberBy, advanceNumber, dropNumber, toldBy, answerAfter, phaseAfter}
+use Rattle.answers.specs.Answers.{loadNumberBy, advanceNumber, emptyNumber, toldBy, answerAfter, phaseAfter}
 use Rattle.desk.specs.declared.Desk.{Desk}
 use Rattle.desk.specs.declared.AfterLoad.{AfterLoad}
 use Rattle.desk.specs.declared.AfterAdvance.{AfterAdvance}
@@ -68,13 +68,13 @@ module _ (d : Desk) where
   not-advanced-by phase.Accepted n h = refl
   not-advanced-by (phase.Failed f) n h = refl
 
-  drop-by : (p : Phase) → dropNumber p ≡ 0 → record { answer = done.Done; desk = emptyDesk } ≡ dropBy p d
+  drop-by : (p : Phase) → emptyNumber p ≡ 0 → record { answer = done.Done; desk = emptyDesk } ≡ dropBy p d
   drop-by phase.Empty h = absurd (omega (arith, h))
   drop-by phase.Open h = refl
   drop-by phase.Accepted h = refl
   drop-by (phase.Failed f) h = refl
 
-  not-dropped-by : (p : Phase) → dropNumber p ≢ 0 → record { answer = done.TurnedDown (dropNumber p); desk = d } ≡ dropBy p d
+  not-dropped-by : (p : Phase) → emptyNumber p ≢ 0 → record { answer = done.TurnedDown (emptyNumber p); desk = d } ≡ dropBy p d
   not-dropped-by phase.Empty h = refl
   not-dropped-by phase.Open h = absurd (h refl)
   not-dropped-by phase.Accepted h = absurd (h refl)
@@ -104,7 +104,7 @@ module _ (d : Desk) where
     pub refused-count : k ≢ 0 → 0 ≡ advanceCount d n
     refused-count h = advance-count d n (notAdvanced k d) (advance-refused h)
 
-  module _ (k : ℕ) (e : k ≡ dropNumber (d .phase)) where
+  module _ (k : ℕ) (e : k ≡ emptyNumber (d .phase)) where
     pub drop-done : k ≡ 0 → (x : Desk) → x ≡ emptyDesk → record { answer = done.Done; desk = x } ≡ dropOf d
     unfolding dropOf
     drop-done h x ex = ap (λ y. record { answer = done.Done; desk = y }) ex ∙ drop-by (d .phase) (sym e ∙ h)

@@ -1,3 +1,4 @@
 pub mod Answers
+pub mod Measure
 pub mod Numbers
 pub mod Cut

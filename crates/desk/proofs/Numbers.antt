@@ -20,7 +20,7 @@ use Rattle.desk.specs.declared.AfterLoad.{AfterLoad}
 use Rattle.desk.specs.declared.AfterAdvance.{AfterAdvance}
 use Rattle.desk.specs.declared.AfterVerdict.{AfterVerdict}
 use Rattle.desk.specs.declared.AfterDrop.{AfterDrop}
-use Rattle.answers.specs.Answers.{doneNumber, refusalNumber, countSaid, verdictNumbers, advanceNumber, verdictNumbersBy, dropNumber, answerAfter}
+use Rattle.answers.specs.Answers.{doneNumber, refusalNumber, countSaid, verdictNumbers, advanceNumber, verdictNumbersBy, emptyNumber, answerAfter}
 use Rattle.desk.specs.Answers.{loadNumber, countOpen, countBy, advanceCount}
 use Rattle.desk.specs.Desk.{loadEmpty, loadBy, loadOf, afterWalk, walkedOn, failStart, ahead, examineNext, examineOpen, advanceOpen, advanceBy, advanceOf, tellBy, tellOf, dropBy, dropOf}
 
@@ -149,12 +149,12 @@ verdict-numbers d r e = ap (λ (x : AfterVerdict). verdictNumbers (x .answer)) e
 
 -- ---- drop
 
-drop-by : (p : Phase) (d : Desk) → doneNumber (dropBy p d .answer) ≡ dropNumber p
+drop-by : (p : Phase) (d : Desk) → doneNumber (dropBy p d .answer) ≡ emptyNumber p
 drop-by phase.Empty d = refl
 drop-by phase.Open d = refl
 drop-by phase.Accepted d = refl
 drop-by (phase.Failed f) d = refl
 
-pub drop-number : (d : Desk) (r : AfterDrop) → r ≡ dropOf d → doneNumber (r .answer) ≡ dropNumber (d .phase)
+pub drop-number : (d : Desk) (r : AfterDrop) → r ≡ dropOf d → doneNumber (r .answer) ≡ emptyNumber (d .phase)
 unfolding dropOf
 drop-number d r e = ap (λ (x : AfterDrop). doneNumber (x .answer)) e ∙ drop-by (d .phase) d

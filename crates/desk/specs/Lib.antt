@@ -1,3 +1,4 @@
 pub mod Desk
 pub mod Answers
+pub mod Measure
 pub mod Limits

@@ -1,17 +1,20 @@
-// The desk: a design is loaded, its states are examined in as many calls as one likes, and the verdict is told (01, "The desk"). Each
-// call takes the desk and gives the next one back beside its answer; a call turned down gives it back as it was. What each call
-// answers is in specs/Desk, one equation for every desk and every argument; the paper's numbers for it are in specs/Answers and in the
-// crate answers.
+// The desk: a design is loaded, its states are examined in as many calls as one likes, and the verdict is told (01, "The desk"); a measure is
+// made for it (02, order 4). Each call takes the desk and gives the next one back beside its answer; a call turned down gives it back as it
+// was. What each call answers is in specs/Desk and specs/Measure, for every desk and every argument; the paper's numbers for it are in
+// specs/Answers and in the crate answers.
 use answers::Advance;
 use answers::Done;
+use answers::Measured;
 use answers::Phase;
 use answers::Verdict;
 use design::Counts;
 ghost use mathlib.Core.Path.{_≡_};
+ghost use lib.ListN.{length};
 ghost use Rattle.loader.specs.Load.{loadedOf};
-ghost use Rattle.answers.specs.Answers.{doneNumber, refusalNumber, countSaid, verdictNumbers, advanceNumber, verdictNumbersBy, dropNumber};
+ghost use Rattle.answers.specs.Answers.{doneNumber, refusalNumber, countSaid, verdictNumbers, measuredNumber, advanceNumber, verdictNumbersBy, emptyNumber};
 ghost use Rattle.desk.specs.Answers.{loadNumber, advanceCount};
 ghost use Rattle.desk.specs.Limits.{deskLimits};
+ghost use Rattle.desk.specs.Measure.{MeasureNumber, MeasureOf};
 ghost use Rattle.desk.specs.Desk.{emptyDesk, loadEmpty, loadOf, examineNext, examineOpen, advanceOf, tellOf, dropOf, placed, ahead};
 
 pub struct Desk {
@@ -51,6 +54,11 @@ pub struct AfterAdvance {
 
 pub struct AfterVerdict {
     pub answer: Verdict,
+    pub desk: Desk,
+}
+
+pub struct AfterMeasure {
+    pub answer: Measured,
     pub desk: Desk,
 }
 
@@ -159,13 +167,34 @@ impl Desk {
         }
     }
 
+    // Makes a measure in the slice: the length of the longest run of marked steps from each state where the invariant holds, or a loop. The
+    // desk stays as it is.
+    pub fn measure(self, slice: &mut [u16]) -> AfterMeasure
+        ensures { λ r. ⌜ r .desk ≡ self ⌝ }
+        ensures { λ r. ⌜ MeasureOf self (now (slice .entry)) (now (slice .exit)) (r .answer) ⌝ }
+        ensures { λ r. ⌜ MeasureNumber self (length (now (slice .entry))) (measuredNumber (r .answer)) ⌝ }
+    {
+        let phase = self.phase;
+        let number = answers::empty_number(phase);
+        if number != 0 {
+            return AfterMeasure {
+                answer: Measured::TurnedDown(number),
+                desk: self,
+            };
+        }
+        AfterMeasure {
+            answer: measure::measure(&self.fields, &self.starts, self.counts, slice),
+            desk: self,
+        }
+    }
+
     // Empties the desk, open or decided.
     pub fn drop(self) -> AfterDrop
         ensures { λ r. ⌜ r ≡ dropOf self ⌝ }
-        ensures { λ r. ⌜ doneNumber (r .answer) ≡ dropNumber (self .phase) ⌝ }
+        ensures { λ r. ⌜ doneNumber (r .answer) ≡ emptyNumber (self .phase) ⌝ }
     {
         let phase = self.phase;
-        let number = answers::drop_number(phase);
+        let number = answers::empty_number(phase);
         if number == 0 {
             return AfterDrop {
                 answer: Done::Done,
