@@ -16,7 +16,7 @@ use Rattle.desk.specs.declared.AfterLoad.{AfterLoad}
 use Rattle.desk.specs.declared.AfterAdvance.{AfterAdvance}
 use Rattle.stages.specs.Count.{Due}
 use Rattle.claims.specs.Calls.{Called, load, advance, Walked}
-use Rattle.claims.specs.Contracts.{News, Loads, Advances, Calls, new, then-load, then-advance, then-verdict, then-drop}
+use Rattle.claims.specs.Contracts.{News, Loads, Advances, Calls, new, then-load, then-advance, then-verdict, then-measure, then-drop}
 use Rattle.claims.specs.Demand2.{Comes}
 use Rattle.claims.proofs.Lists.{earlier, apart, same-load, same-advance}
 use Rattle.claims.proofs.Outcomes.{opened-by}
@@ -41,6 +41,7 @@ last-advance {n = n} {a = a} (then-advance {d = d} {r = r} i c x) q =
     let same : a ≡ r .answer = sym (p .1) in
     record { desk = d; result = r; made = subst (λ ds. Calls ds d) (earlier q) c; call = subst (λ k. Advances d k r) many x; answer = same; leaves = refl }
 last-advance (then-verdict c x) q = absurd (apart q refl)
+last-advance (then-measure c x) q = absurd (apart q refl)
 last-advance (then-drop c x) q = absurd (apart q refl)
 
 -- a load of a new desk
@@ -57,6 +58,7 @@ new-desk (new x) q = x
 new-desk (then-load c x) q = absurd (nil≢cons (sym q))
 new-desk (then-advance n c x) q = absurd (nil≢cons (sym q))
 new-desk (then-verdict c x) q = absurd (nil≢cons (sym q))
+new-desk (then-measure c x) q = absurd (nil≢cons (sym q))
 new-desk (then-drop c x) q = absurd (nil≢cons (sym q))
 
 pub only-load : {ds : List Called} {text : List ℕ} {a : Done} {e : Desk} → Calls ds e → ds ≡ load text a ∷ [] → Loaded text a e
@@ -68,6 +70,7 @@ only-load {text = text} {a = a} (then-load {d = d} {text = t} {r = r} c x) q =
     record { desk = d; result = r; is-new = new-desk c (earlier q); call = subst (λ u. Loads d u r) of-text x; answer = same; leaves = refl }
 only-load (then-advance n c x) q = absurd (apart q refl)
 only-load (then-verdict c x) q = absurd (apart q refl)
+only-load (then-measure c x) q = absurd (apart q refl)
 only-load (then-drop c x) q = absurd (apart q refl)
 
 -- ---- what is due, call by call

@@ -17,16 +17,17 @@ use Rattle.answers.specs.declared.Phase.the-variants as phase
 use Rattle.answers.specs.declared.Done.{Done}
 use Rattle.answers.specs.declared.Done.the-variants as done
 use Rattle.answers.specs.declared.Advance.the-variants as progress
+use Rattle.answers.specs.declared.Measured.{Measured}
 use Rattle.desk.specs.declared.Desk.{Desk}
 use Rattle.desk.specs.declared.AfterAdvance.{AfterAdvance}
 use Rattle.desk.specs.Desk.{loadEmpty, loadBy, loadOf, notAdvanced, advanceOpen, advanceBy, advanceOf, tellBy, tellOf, dropBy, dropOf}
 use Rattle.design.specs.Lines.{designText}
 use Rattle.stages.proofs.Stages.{Stage, fresh, going, accepts, fails, AdvanceDue, advance-fresh, advance-going}
 use Rattle.stages.proofs.Judging.{opened-stage, loaded-free, loaded-fault}
-use Rattle.claims.specs.Calls.{Called, load, advance, verdict, drop, NoLoad, refused, advanced, told, dropped, LastLoad, here, before, AcceptedIn}
+use Rattle.claims.specs.Calls.{Called, load, advance, verdict, measure, drop, NoLoad, refused, advanced, told, measured, dropped, LastLoad, here, before, AcceptedIn}
 use Rattle.claims.specs.Calls as calls
-use Rattle.claims.specs.Contracts.{Calls, new, then-load, then-advance, then-verdict, then-drop}
-use Rattle.claims.proofs.Lists.{loaded-as, earlier, apart, same-advance}
+use Rattle.claims.specs.Contracts.{Calls, new, then-load, then-advance, then-verdict, then-measure, then-drop}
+use Rattle.claims.proofs.Lists.{loaded-as, made-by, earlier, apart, same-advance}
 
 -- ---- the last load is one
 
@@ -34,6 +35,7 @@ no-done : {call : Called} {text : List ℕ} → NoLoad call → call ≡ load te
 no-done (refused o) e = let z : _≡_ {A = ℕ} 0 1 = cc in omega arith
 no-done advanced e = let z : _≡_ {A = ℕ} 0 1 = cc in omega arith
 no-done told e = let z : _≡_ {A = ℕ} 0 1 = cc in omega arith
+no-done measured e = let z : _≡_ {A = ℕ} 0 1 = cc in omega arith
 no-done dropped e = let z : _≡_ {A = ℕ} 0 1 = cc in omega arith
 
 last-same : {cs ds : List Called} {t u : List ℕ} → LastLoad cs t → LastLoad ds u → cs ≡ ds → t ≡ u
@@ -112,7 +114,7 @@ advance-kept : {cs : List Called} {d : Desk} (n : ℕ) → Kept cs d → Kept (a
 advance-kept {d = d} n (empty e) = rw (advance-at d n e) (empty e)
 advance-kept {d = d} n (holds {text = text} l s) = keeps advanced l (advance-stage text d n s .stage)
 
--- ---- verdict and drop
+-- ---- verdict, measure and drop
 
 pub tell-desk : (d : Desk) (p : Phase) → tellBy p d .desk ≡ d
 tell-desk d phase.Empty = refl
@@ -124,6 +126,10 @@ verdict-kept : {cs : List Called} {d : Desk} → Kept cs d → Kept (verdict (te
 unfolding tellOf
 verdict-kept {d = d} (empty e) = rw (tell-desk d (d .phase)) (empty e)
 verdict-kept {d = d} (holds l s) = rw (tell-desk d (d .phase)) (keeps told l s)
+
+measure-kept : {cs : List Called} {d : Desk} {slice after : List ℕ} {a : Measured} → Kept cs d → Kept (measure slice after a ∷ cs) d
+measure-kept (empty e) = empty e
+measure-kept (holds l s) = keeps measured l s
 
 drop-empty : (d : Desk) (p : Phase) → d .phase ≡ p → dropBy p d .desk .phase ≡ phase.Empty
 drop-empty d phase.Empty e = e
@@ -142,6 +148,7 @@ kept (new e) = empty (ap (λ x. x .phase) e)
 kept (then-load {text = text} c e) = rw (loaded-as e) (load-kept text (kept c))
 kept (then-advance n c e) = rw (e .0) (advance-kept n (kept c))
 kept (then-verdict c e) = rw (e .0) (verdict-kept (kept c))
+kept (then-measure c e) = rw (made-by e .0) (measure-kept (kept c))
 kept (then-drop {d = d} c e) = rw (e .0) (drop-kept d)
 
 -- ---- a text accepted in a list
@@ -173,6 +180,8 @@ accepted-in (then-advance {r = r} n c e) (calls.here {n = m} {k = k} l) q =
 accepted-in (then-advance n c e) (calls.before a) q = accepted-in c a (earlier q)
 accepted-in (then-verdict c e) (calls.here l) q = absurd (apart q refl)
 accepted-in (then-verdict c e) (calls.before a) q = accepted-in c a (earlier q)
+accepted-in (then-measure c e) (calls.here l) q = absurd (apart q refl)
+accepted-in (then-measure c e) (calls.before a) q = accepted-in c a (earlier q)
 accepted-in (then-drop c e) (calls.here l) q = absurd (apart q refl)
 accepted-in (then-drop c e) (calls.before a) q = accepted-in c a (earlier q)
 

@@ -13,3 +13,4 @@ pub mod Pump
 pub mod PumpByFive
 pub mod Text
 pub mod Writers
+pub mod Measures

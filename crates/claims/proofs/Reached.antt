@@ -24,6 +24,7 @@ use Rattle.desk.specs.declared.Desk.{Desk}
 use Rattle.desk.specs.declared.AfterLoad.{AfterLoad}
 use Rattle.desk.specs.declared.AfterAdvance.{AfterAdvance}
 use Rattle.desk.specs.declared.AfterVerdict.{AfterVerdict}
+use Rattle.desk.specs.declared.AfterMeasure.{AfterMeasure}
 use Rattle.answers.specs.declared.Verdict.{Verdict}
 use Rattle.answers.specs.Answers.{countSaid, Decided, verdictNumbers}
 use Rattle.answers.specs.Answers as answers
@@ -36,11 +37,11 @@ use Rattle.design.specs.Lines.{designText}
 use Rattle.stages.specs.Count.{Due}
 use Rattle.stages.proofs.Stages.{Stage, fresh, going, accepts, fails, AdvanceDue, advance-fresh, advance-going, some-states}
 use Rattle.stages.proofs.Judging.{opened-stage, loaded-free, loaded-fault, decided-answer, decided-report}
-use Rattle.claims.specs.Calls.{Called, load, advance, verdict, NoLoad, LastLoad, here, before, AcceptedIn, Walked}
+use Rattle.claims.specs.Calls.{Called, load, advance, verdict, measure, NoLoad, LastLoad, here, before, AcceptedIn, Walked}
 use Rattle.claims.specs.Calls as calls
 use Rattle.claims.specs.Outcomes.{Named, acceptance, failure}
-use Rattle.claims.specs.Contracts.{Tells, Calls, new, then-load, then-advance, then-verdict, then-drop}
-use Rattle.claims.proofs.Lists.{loaded-as, earlier, apart, same-load, same-advance}
+use Rattle.claims.specs.Contracts.{Tells, Makes, Calls, new, then-load, then-advance, then-verdict, then-measure, then-drop}
+use Rattle.claims.proofs.Lists.{loaded-as, made-by, earlier, apart, same-load, same-advance}
 use Rattle.claims.proofs.Kept.{Kept, empty, holds, kept, load-at, advance-at, by-none, tell-desk}
 
 -- after advances by m in all, whose answers counted k
@@ -206,28 +207,42 @@ after-verdict : {cs : List Called} {d : Desk} {text : List ℕ} {m k : ℕ} {r :
     → Reached (verdict (r .answer) ∷ cs) text (r .desk) m k
 after-verdict {d = d} q e = rw e (tells d q)
 
+after-measure : {cs : List Called} {d : Desk} {text slice after : List ℕ} {m k : ℕ} {r : AfterMeasure} → Reached cs text d m k → Makes d slice r after
+    → Reached (measure slice after (r .answer) ∷ cs) text (r .desk) m k
+after-measure q e = rw (made-by e .0) (same _ calls.measured q)
+
 -- ---- every list
 
 reached-in : {cs ds : List Called} {d : Desk} {text : List ℕ} {m k : ℕ} → Calls cs d → Walked ds text m k → cs ≡ ds → Reached cs text d m k
 reached-in (new e) calls.loaded q = absurd (nil≢cons q)
 reached-in (new e) (calls.on w) q = absurd (nil≢cons q)
 reached-in (new e) (calls.told w) q = absurd (nil≢cons q)
+reached-in (new e) (calls.measured w) q = absurd (nil≢cons q)
 reached-in (new e) (calls.refused o w) q = absurd (nil≢cons q)
 reached-in (then-load c e) calls.loaded q = after-load (kept c) (loaded-as e) (same-load q)
 reached-in (then-load c e) (calls.on w) q = absurd (apart q refl)
 reached-in (then-load c e) (calls.told w) q = absurd (apart q refl)
+reached-in (then-load c e) (calls.measured w) q = absurd (apart q refl)
 reached-in (then-load c e) (calls.refused o w) q = after-refusal (reached-in c w (earlier q)) (loaded-as e) (same-load q .1) o
 reached-in (then-advance n c e) calls.loaded q = absurd (apart q refl)
 reached-in (then-advance n c e) (calls.on w) q = after-advance (reached-in c w (earlier q)) (e .0) (same-advance q)
 reached-in (then-advance n c e) (calls.told w) q = absurd (apart q refl)
+reached-in (then-advance n c e) (calls.measured w) q = absurd (apart q refl)
 reached-in (then-advance n c e) (calls.refused o w) q = absurd (apart q refl)
 reached-in (then-verdict c e) calls.loaded q = absurd (apart q refl)
 reached-in (then-verdict c e) (calls.on w) q = absurd (apart q refl)
 reached-in (then-verdict c e) (calls.told w) q = after-verdict (reached-in c w (earlier q)) (e .0)
+reached-in (then-verdict c e) (calls.measured w) q = absurd (apart q refl)
 reached-in (then-verdict c e) (calls.refused o w) q = absurd (apart q refl)
+reached-in (then-measure c e) calls.loaded q = absurd (apart q refl)
+reached-in (then-measure c e) (calls.on w) q = absurd (apart q refl)
+reached-in (then-measure c e) (calls.told w) q = absurd (apart q refl)
+reached-in (then-measure c e) (calls.measured w) q = after-measure (reached-in c w (earlier q)) e
+reached-in (then-measure c e) (calls.refused o w) q = absurd (apart q refl)
 reached-in (then-drop c e) calls.loaded q = absurd (apart q refl)
 reached-in (then-drop c e) (calls.on w) q = absurd (apart q refl)
 reached-in (then-drop c e) (calls.told w) q = absurd (apart q refl)
+reached-in (then-drop c e) (calls.measured w) q = absurd (apart q refl)
 reached-in (then-drop c e) (calls.refused o w) q = absurd (apart q refl)
 
 pub reached : {cs : List Called} {d : Desk} {text : List ℕ} {m k : ℕ} → Calls cs d → Walked cs text m k → Reached cs text d m k

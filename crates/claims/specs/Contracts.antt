@@ -9,17 +9,20 @@ use Rattle.desk.specs.declared.Desk.{Desk}
 use Rattle.desk.specs.declared.AfterLoad.{AfterLoad}
 use Rattle.desk.specs.declared.AfterAdvance.{AfterAdvance}
 use Rattle.desk.specs.declared.AfterVerdict.{AfterVerdict}
+use Rattle.desk.specs.declared.AfterMeasure.{AfterMeasure}
 use Rattle.desk.specs.declared.AfterDrop.{AfterDrop}
 use Rattle.desk.proofs.Desk.empty.Reads as empty-reads
 use Rattle.desk.proofs.Desk.load.Reads as load-reads
 use Rattle.desk.proofs.Desk.advance.Reads as advance-reads
 use Rattle.desk.proofs.Desk.verdict.Reads as verdict-reads
+use Rattle.desk.proofs.Desk.measure.Reads as measure-reads
 use Rattle.desk.proofs.Desk.drop.Reads as drop-reads
 use Rattle.checker.proofs.check_design.Reads as check-reads
 use Rattle.conversion.proofs.mark_design.Reads as mark-reads
 use Rattle.conversion.proofs.unmark_design.Reads as unmark-reads
+use Rattle.measuring.proofs.measure_design.Reads as measuring-reads
 use Rattle.conversion.specs.Result.{Way, there, back}
-use Rattle.claims.specs.Calls.{Called, load, advance, verdict, drop}
+use Rattle.claims.specs.Calls.{Called, load, advance, verdict, measure, drop}
 
 -- ---- one call
 
@@ -36,6 +39,11 @@ Advances desk n r = advance-reads.Post tt (desk, (n, tt)) r (desk, (n, tt))
 
 abbrev pub Tells : Desk → AfterVerdict → Type 0
 Tells desk r = verdict-reads.Post tt (desk, tt) r (desk, tt)
+
+-- of a measure also what the slice holds after the call
+pub data Makes : Desk → List ℕ → AfterMeasure → List ℕ → Type 0 where
+  makes : (κs : Lfts 1) (desk : Desk) (slice after : RefT (List ℕ)) (r : AfterMeasure) → measure-reads.Post κs (desk, (slice, tt)) r (desk, (after, tt))
+      → Makes desk (now slice) r (now after)
 
 abbrev pub Drops : Desk → AfterDrop → Type 0
 Drops desk r = drop-reads.Post tt (desk, tt) r (desk, tt)
@@ -55,6 +63,13 @@ pub data Writes : Way → List ℕ → List ℕ → ℕ → ℕ → List ℕ →
       → unmark-reads.Post κs (text, (buffer, (before, tt))) r (text, (after, (number, tt)))
       → Writes back (now text) (now buffer) (now number) r (now after)
 
+-- a measure for this text in this slice returns this, tells this number, and leaves the slice so; what its place for the number held before
+-- does not matter
+pub data MakesFor : List ℕ → List ℕ → ℕ → ℕ → List ℕ → Type 0 where
+  makes-for : (κs : Lfts 3) (text slice after : RefT (List ℕ)) (before number : RefT ℕ) (r : ℕ)
+      → measuring-reads.Post κs (text, (slice, (before, tt))) r (text, (after, (number, tt)))
+      → MakesFor (now text) (now slice) r (now number) (now after)
+
 -- ---- a list of desk calls
 
 -- after these calls, the latest first, the desk is this
@@ -65,6 +80,8 @@ pub data Calls : List Called → Desk → Type 0 where
   then-load : {calls : List Called} {d : Desk} {text : List ℕ} {r : AfterLoad} → Calls calls d → Loads d text r → Calls (load text (r .answer) ∷ calls) (r .desk)
   then-advance : {calls : List Called} {d : Desk} {r : AfterAdvance} (n : ℕ) → Calls calls d → Advances d n r → Calls (advance n (r .answer) ∷ calls) (r .desk)
   then-verdict : {calls : List Called} {d : Desk} {r : AfterVerdict} → Calls calls d → Tells d r → Calls (verdict (r .answer) ∷ calls) (r .desk)
+  then-measure : {calls : List Called} {d : Desk} {slice after : List ℕ} {r : AfterMeasure} → Calls calls d → Makes d slice r after
+      → Calls (measure slice after (r .answer) ∷ calls) (r .desk)
   then-drop : {calls : List Called} {d : Desk} {r : AfterDrop} → Calls calls d → Drops d r → Calls (drop (r .answer) ∷ calls) (r .desk)
 
 -- ---- nothing is asked, and every call has an answer
@@ -75,16 +92,20 @@ pub record AsksNothing : Type 0 where
   pub of-load : (κs : Lfts 1) (desk : Desk) (text : RefT (List ℕ)) → load-reads.Pre κs (desk, (text, tt))
   pub of-advance : (desk : Desk) (n : ℕ) → advance-reads.Pre tt (desk, (n, tt))
   pub of-verdict : (desk : Desk) → verdict-reads.Pre tt (desk, tt)
+  pub of-measure : (κs : Lfts 1) (desk : Desk) (slice : RefT (List ℕ)) → measure-reads.Pre κs (desk, (slice, tt))
   pub of-drop : (desk : Desk) → drop-reads.Pre tt (desk, tt)
   pub of-check : (κs : Lfts 2) (text report : RefT (List ℕ)) → check-reads.Pre κs (text, (report, tt))
   pub of-mark : (κs : Lfts 3) (text buffer : RefT (List ℕ)) (number : RefT ℕ) → mark-reads.Pre κs (text, (buffer, (number, tt)))
   pub of-unmark : (κs : Lfts 3) (text buffer : RefT (List ℕ)) (number : RefT ℕ) → unmark-reads.Pre κs (text, (buffer, (number, tt)))
+  pub of-measuring : (κs : Lfts 3) (text slice : RefT (List ℕ)) (number : RefT ℕ) → measuring-reads.Pre κs (text, (slice, (number, tt)))
 
 pub record Answered : Type 0 where
   pub new : (desk : Desk) × News desk
   pub load : (desk : Desk) (text : List ℕ) → (r : AfterLoad) × Loads desk text r
   pub advance : (desk : Desk) (n : ℕ) → (r : AfterAdvance) × Advances desk n r
   pub verdict : (desk : Desk) → (r : AfterVerdict) × Tells desk r
+  pub measure : (desk : Desk) (slice : List ℕ) → (r : AfterMeasure) × (after : List ℕ) × Makes desk slice r after
   pub drop : (desk : Desk) → (r : AfterDrop) × Drops desk r
   pub check : (text report : List ℕ) → (r : ℕ) × (after : List ℕ) × Checks text report r after
+  pub measuring : (text slice : List ℕ) → (r number : ℕ) × (after : List ℕ) × MakesFor text slice r number after
   pub writer : (way : Way) (text buffer : List ℕ) → (number r : ℕ) × (after : List ℕ) × Writes way text buffer number r after
