@@ -5,7 +5,9 @@
 import array
 import fcntl
 import os
+import resource
 import select
+import signal
 import socket
 import struct
 import subprocess
@@ -20,7 +22,8 @@ BIN = os.path.abspath(sys.argv[1]) if len(sys.argv) > 1 else os.path.join(HERE, 
 TABLE = open(os.path.join(HERE, "examples", "pump.txt"), "rb").read()
 ACCEPTED = b"     0     0     0     0     0\n"
 TOO_LONG = b"     2     1     0     0     0\n"
-CALLS = b"load %d\n" % len(TABLE) + TABLE + b"\nadvance 5\nadvance 100\nverdict\ndrop\n"
+LOAD = b"load %d\n" % len(TABLE) + TABLE + b"\n"
+CALLS = LOAD + b"advance 5\nadvance 100\nverdict\ndrop\n"
 ANSWERS = b"load 0\nopen 5\naccepted 7\nverdict 0 0 0 0 0\ndrop 0\n"
 
 # Each program with a whole input, and what it then writes.
@@ -129,6 +132,19 @@ def not_blocking_out(program, whole):
     return rest[filled:], err
 
 
+def limited_out(program, whole, size):
+    """a file that may have so many bytes"""
+
+    def limit():
+        signal.signal(signal.SIGXFSZ, signal.SIG_IGN)
+        resource.setrlimit(resource.RLIMIT_FSIZE, (size, size))
+
+    with tempfile.TemporaryFile() as file:
+        _, err = start(program, stdout=file, before=limit).communicate(whole, timeout=SECONDS)
+        file.seek(0)
+        return file.read(), err
+
+
 def try_program(program, whole, answers):
     def case(words):
         return "%s: %s" % (program, words)
@@ -185,6 +201,17 @@ for n in (28672, 28673, 28674, 200000):
     number = 2 if n <= 28672 else 1
     got = start("desk_calls").communicate(calls, timeout=SECONDS)
     expect("desk_calls: load %d" % n, got, b"turned down %d\nturned down 11\n" % number, None)
+
+# The line of a measure is written in pieces: in as many places as there may be; where it can't be written in full; and in one place more.
+most = 131072
+calls = LOAD + b"measure %d\ndrop\n" % most
+answers = b"load 0\nmeasure" + b" 0" * 4 + b" 1" * 4 + b" 0" * 4 + b" 65535" * (most - 12) + b"\ndrop 0\n"
+expect("desk_calls: measure %d" % most, start("desk_calls").communicate(calls, timeout=SECONDS), answers, None)
+for size in (10, 100000, len(answers) - len(b"\ndrop 0\n")):
+    got = limited_out("desk_calls", calls, size)
+    expect("desk_calls: measure %d, in %d bytes" % (most, size), got, answers[:size], "standard output: " + os.strerror(27))
+got = start("desk_calls").communicate(LOAD + b"measure %d\ndrop\n" % (most + 1), timeout=SECONDS)
+expect("desk_calls: measure %d" % (most + 1), got, b"load 0\nline 2: no room for so many places\n", None)
 
 # An answer comes before the next call is read; after a write that fails no more calls are made.
 process = start("desk_calls")

@@ -69,3 +69,6 @@ module _ (why : Stop) (n : ℕ) (e x₁ x₂ : List ℕ) (e₁ : x₁ ≡ take 0
 
   pub no-line-end-line : why ≡ stop.NoLineEnd → x ≡ x₂ ++ stopWords stop.NoLineEnd → x ≡ stopLine why n
   no-line-end-line ew h = rw ew (three e lineWord (decimalOf n) x₁ x₂ e₁ e₂ x (stopWords stop.NoLineEnd) h)
+
+  pub no-room-line : why ≡ stop.NoRoom → x ≡ x₂ ++ stopWords stop.NoRoom → x ≡ stopLine why n
+  no-room-line ew h = rw ew (three e lineWord (decimalOf n) x₁ x₂ e₁ e₂ x (stopWords stop.NoRoom) h)

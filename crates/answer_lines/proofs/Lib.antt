@@ -1,3 +1,4 @@
 pub mod Lines
 pub mod Decimal
 pub mod Answers
+pub mod Pieces

@@ -9,7 +9,7 @@ use lib.ListN.{length, take, drop, length-take, length-drop, take-append-drop}
 use lib.Seq.{take-all}
 use Rattle.columns.specs.Columns.{sameBytes}
 use Rattle.call_lines.specs.Number.{IsNumber, numberOf, decimalOf}
-use Rattle.call_lines.specs.Calls.{loadWord, advanceWord, verdictWord, dropWord, IsCall, is-load, is-advance, is-verdict, is-drop, numberAfter, loadOr, advanceOr, callOf}
+use Rattle.call_lines.specs.Calls.{loadWord, advanceWord, verdictWord, measureWord, dropWord, IsCall, is-load, is-advance, is-verdict, is-measure, is-drop, numberAfter, loadOr, advanceOr, measureOr, callOf}
 use Rattle.call_lines.specs.declared.Number.{Number}
 use Rattle.call_lines.specs.declared.Number.the-variants as number
 use Rattle.call_lines.specs.declared.Call.{Call}
@@ -61,7 +61,7 @@ module _ (line : List ℕ) (v : Bool) (ev : v ≡ sameBytes line verdictWord) wh
         rw (h, g)
 
     module _ (nd : d ≡ false) (l : Number) (el : l ≡ numberAfter loadWord line) where
-      others : loadOr l (advanceOr (numberAfter advanceWord line) call.NoCall) ≡ callOf line
+      others : loadOr l (advanceOr (numberAfter advanceWord line) (measureOr (numberAfter measureWord line) call.NoCall)) ≡ callOf line
       unfolding callOf
       others =
           let h : sameBytes line verdictWord ≡ false = sym ev ∙ nv in
@@ -69,19 +69,24 @@ module _ (line : List ℕ) (v : Bool) (ev : v ≡ sameBytes line verdictWord) wh
           rw (h, g, el)
 
       pub says-load : (n : ℕ) → l ≡ number.Is n → call.Load n ≡ callOf line
-      says-load n e = ap (λ x. loadOr x (advanceOr (numberAfter advanceWord line) call.NoCall)) (sym e) ∙ others
+      says-load n e = rw e at others
 
       module _ (nl : l ≡ number.None) (a : Number) (ea : a ≡ numberAfter advanceWord line) where
-        last : advanceOr a call.NoCall ≡ callOf line
-        last =
-            ap (λ x. advanceOr x call.NoCall) ea
-            ∙ (ap (λ x. loadOr x (advanceOr (numberAfter advanceWord line) call.NoCall)) (sym nl) ∙ others)
+        past-load : advanceOr a (measureOr (numberAfter measureWord line) call.NoCall) ≡ callOf line
+        past-load = rw (nl, ← ea) at others
 
         pub says-advance : (n : ℕ) → a ≡ number.Is n → call.Advance n ≡ callOf line
-        says-advance n e = ap (λ x. advanceOr x call.NoCall) (sym e) ∙ last
+        says-advance n e = rw e at past-load
 
-        pub says-none : a ≡ number.None → call.NoCall ≡ callOf line
-        says-none e = ap (λ x. advanceOr x call.NoCall) (sym e) ∙ last
+        module _ (na : a ≡ number.None) (m : Number) (em : m ≡ numberAfter measureWord line) where
+          last : measureOr m call.NoCall ≡ callOf line
+          last = rw (na, ← em) at past-load
+
+          pub says-measure : (n : ℕ) → m ≡ number.Is n → call.Measure n ≡ callOf line
+          says-measure n e = rw e at last
+
+          pub says-none : m ≡ number.None → call.NoCall ≡ callOf line
+          says-none e = rw e at last
 
 -- ---- what is found
 
@@ -90,6 +95,7 @@ unfolding callOf numberAfter sameBytes
 call-is (is-load {digits = digits} {n = n} i) = rw (number-is digits n i)
 call-is (is-advance {digits = digits} {n = n} i) = rw (number-is digits n i)
 call-is is-verdict = refl
+call-is (is-measure {digits = digits} {n = n} i) = rw (number-is digits n i)
 call-is is-drop = refl
 
 -- a word, and then a number
@@ -112,23 +118,26 @@ after word line n h = go _ refl
         let z : _≡_ {A = ℕ} 0 1 = cc in
         absurd (omega arith)
 
-is-call-by : (line : List ℕ) (v d : Bool) (l a : Number) → sameBytes line verdictWord ≡ v → sameBytes line dropWord ≡ d
-    → numberAfter loadWord line ≡ l → numberAfter advanceWord line ≡ a
-    → (c : Call) → cond v call.Verdict (cond d call.Drop (loadOr l (advanceOr a call.NoCall))) ≡ c → c ≢ call.NoCall → IsCall line c
-is-call-by line true d l a ev ed el ea c e n = rw (same-bytes line verdictWord ev, ← e) is-verdict
-is-call-by line false true l a ev ed el ea c e n = rw (same-bytes line dropWord ed, ← e) is-drop
-is-call-by line false false (number.Is k) a ev ed el ea c e n =
+is-call-by : (line : List ℕ) (v d : Bool) (l a m : Number) → sameBytes line verdictWord ≡ v → sameBytes line dropWord ≡ d
+    → numberAfter loadWord line ≡ l → numberAfter advanceWord line ≡ a → numberAfter measureWord line ≡ m → (c : Call)
+    → cond v call.Verdict (cond d call.Drop (loadOr l (advanceOr a (measureOr m call.NoCall)))) ≡ c → c ≢ call.NoCall → IsCall line c
+is-call-by line true d l a m ev ed el ea em c e n = rw (same-bytes line verdictWord ev, ← e) is-verdict
+is-call-by line false true l a m ev ed el ea em c e n = rw (same-bytes line dropWord ed, ← e) is-drop
+is-call-by line false false (number.Is k) a m ev ed el ea em c e n =
     let f = after loadWord line k el in
     rw (f .whole, ← e) (is-load (f .number))
-is-call-by line false false number.None (number.Is k) ev ed el ea c e n =
+is-call-by line false false number.None (number.Is k) m ev ed el ea em c e n =
     let f = after advanceWord line k ea in
     rw (f .whole, ← e) (is-advance (f .number))
-is-call-by line false false number.None number.None ev ed el ea c e n = absurd (n (sym e))
+is-call-by line false false number.None number.None (number.Is k) ev ed el ea em c e n =
+    let f = after measureWord line k em in
+    rw (f .whole, ← e) (is-measure (f .number))
+is-call-by line false false number.None number.None number.None ev ed el ea em c e n = absurd (n (sym e))
 
 -- a line is a call exactly if it is found to be
 pub call-exactly : (line : List ℕ) (c : Call) → c ≢ call.NoCall → (callOf line ≡ c) ↔ IsCall line c
 unfolding callOf
-call-exactly line c n = (λ e. is-call-by line _ _ _ _ refl refl refl refl c e n, call-is)
+call-exactly line c n = (λ e. is-call-by line _ _ _ _ _ refl refl refl refl refl c e n, call-is)
 
 -- no line is two calls
 pub one-call : {line : List ℕ} {a b : Call} → IsCall line a → IsCall line b → a ≡ b
@@ -142,3 +151,6 @@ load-read n h = call-is (is-load (decimal-number n h))
 
 pub advance-read : (n : ℕ) → n < 18446744073709551616 → callOf (advanceWord ++ decimalOf n) ≡ call.Advance n
 advance-read n h = call-is (is-advance (decimal-number n h))
+
+pub measure-read : (n : ℕ) → n < 18446744073709551616 → callOf (measureWord ++ decimalOf n) ≡ call.Measure n
+measure-read n h = call-is (is-measure (decimal-number n h))

@@ -1,5 +1,5 @@
-// The line of a desk call: `load N`, `advance N`, `verdict` or `drop`, where N is decimal, 1 to 20 digits, up to the largest u64. What a
-// line says is in specs/Calls, one equation for every line.
+// The line of a desk call: `load N`, `advance N`, `verdict`, `measure N` or `drop`, where N is decimal, 1 to 20 digits, up to the largest
+// u64. What a line says is in specs/Calls, one equation for every line.
 ghost use Prim.Native.Nat.{_<_};
 ghost use mathlib.Core.Path.{_≡_};
 ghost use Rattle.columns.specs.Columns.{sameBytes};
@@ -10,6 +10,7 @@ pub enum Call {
     Load(u64),
     Advance(u64),
     Verdict,
+    Measure(u64),
     Drop,
     NoCall,
 }
@@ -19,7 +20,7 @@ pub enum Number {
     None,
 }
 
-// The longest line of a call, `advance` by a number of 20 digits.
+// The longest line of a call, `advance` or `measure` with a number of 20 digits.
 pub const LONGEST: usize = 28;
 
 // The call that a line is, without its byte 10.
@@ -37,8 +38,12 @@ pub fn call_of(line: &[u8]) -> Call
         return Call::Load(n);
     }
     let advance = number_after(line, b"advance ");
-    match advance {
-        Number::Is(n) => Call::Advance(n),
+    if let Number::Is(n) = advance {
+        return Call::Advance(n);
+    }
+    let measure = number_after(line, b"measure ");
+    match measure {
+        Number::Is(n) => Call::Measure(n),
         Number::None => Call::NoCall,
     }
 }

@@ -1,10 +1,11 @@
 // Makes a list of desk calls, one a line of standard input, on one desk, and writes a line with the answer of each.
 //
-// A call is `load N`, followed by N bytes of text and a byte 10; `advance N`; `verdict`; `drop`. N is decimal, 1 to 20 digits, up to the
-// largest u64. The answers are `load 0`, `open N`, `accepted N`, `failed N`, `verdict` and the report's five numbers, `drop 0`, and
-// `turned down N`. A line that is no call, and a text that is not there in full, end the program with a line that has the number of the
-// call's line; the lines of the texts are not counted. Where standard input can't be read or an answer can't be written the program ends
-// with a line on standard error, and makes no more calls.
+// A call is `load N`, followed by N bytes of text and a byte 10; `advance N`; `verdict`; `measure N`, in N places that hold 65535 before;
+// `drop`. N is decimal, 1 to 20 digits, up to the largest u64. The answers are `load 0`, `open N`, `accepted N`, `failed N`, `verdict` and the
+// report's five numbers, `measure` or `loop S` and the numbers of all places, `drop 0`, and `turned down N`. A line that is no call, a text
+// that is not there in full, and a measure in more than 131,072 places end the program with a line that has the number of the call's line; the
+// lines of the texts are not counted. Where standard input can't be read or an answer can't be written the program ends with a line on
+// standard error, and makes no more calls.
 //
 // A line and a text are read by call_input; what a line says is in call_lines, what a call answers in calls and its line in answer_lines.
 use answer_lines::Stop;
@@ -81,6 +82,7 @@ fn run_call(
         Call::Load(n) => run_load(desk, space, ahead, n, line),
         Call::Advance(n) => run_advance(desk, ahead, n),
         Call::Verdict => run_verdict(desk, ahead),
+        Call::Measure(n) => run_measure(desk, ahead, n, line),
         Call::Drop => run_drop(desk, ahead),
         Call::NoCall => stop(desk, ahead, Stop::NoCall, line),
     }
@@ -136,6 +138,58 @@ fn run_verdict(desk: Desk, ahead: Ahead) -> Step {
         ahead,
         more,
     }
+}
+
+fn run_measure(desk: Desk, ahead: Ahead, n: u64, line: u64) -> Step {
+    if (calls::PLACES as u64) < n {
+        return stop(desk, ahead, Stop::NoRoom, line);
+    }
+    let mut places = [0u16; calls::PLACES];
+    measure_in(desk, ahead, &mut places, n)
+}
+
+fn measure_in(desk: Desk, ahead: Ahead, places: &mut [u16; calls::PLACES], n: u64) -> Step {
+    let mut line = [0u8; answer_lines::ROOM];
+    let answered = calls::run_measure(desk, places, n, &mut line);
+    let head = answered.head;
+    let k = head.length;
+    let mut more = write_line(&line[..k]);
+    if more {
+        if head.places {
+            more = write_first(places, n);
+        }
+    }
+    let next = answered.desk;
+    Step {
+        desk: next,
+        ahead,
+        more,
+    }
+}
+
+// Writes the numbers of the first n places, or all, and the end of the line; false if they can't be written.
+fn write_first(places: &[u16; calls::PLACES], n: u64) -> bool {
+    let slice: &[u16] = places;
+    if n < slice.len() as u64 {
+        let k = n as usize;
+        write_places(&slice[0..k])
+    } else {
+        write_places(slice)
+    }
+}
+
+fn write_places(slice: &[u16]) -> bool {
+    let mut piece = [0u8; answer_lines::ROOM];
+    let mut from = 0;
+    while from < slice.len() {
+        let put = answer_lines::put_places(&mut piece, slice, from);
+        let k = put.length;
+        if !write_line(&piece[..k]) {
+            return false;
+        }
+        from = put.next;
+    }
+    write_line(b"\n")
 }
 
 fn run_drop(desk: Desk, ahead: Ahead) -> Step {

@@ -24,7 +24,7 @@ put-spec =
     Inv-loop
     μ-loop
     (λ c.
-    let room : length (c .before .args .line .now) ≡ 128 = search needs in
+    let room : length (c .before .args .line .now) ≡ 4096 = search needs in
     (search needs, omega (arith, c .before .pre), search needs, search lines.starts))
     (λ c. search needs)
     (λ c. search needs)

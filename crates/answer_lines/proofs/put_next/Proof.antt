@@ -11,4 +11,4 @@ put-next-spec =
     (λ c. search needs)
     (λ c κs. search needs)
     (λ c κs. search needs)
-    (λ c. (search needs, search lines.blank)))
+    (λ c. (search needs, (search lines.blank, search needs))))

@@ -24,4 +24,4 @@ put-number-spec =
     let fits : s .args .n < 18446744073709551616 = search needs in
     let d = c .before .before .before .decimal .ensures in
     let most = decimal.few _ _ (d .1 .0) fits in
-    (omega (arith, c .put .ensures .0, d .0 .1), search decimal.decimal-put)))
+    (omega (arith, c .put .ensures .0, d .0 .1), (search decimal.decimal-put, search needs))))

@@ -1,4 +1,4 @@
--- `call_of` tries the four calls.
+-- `call_of` tries the five calls.
 use borrow.Author.Needs.{needs}
 use Rattle.call_lines.proofs.Calls as calls
 use Rattle.call_lines.proofs.call_of.Statement.{statement}
@@ -22,6 +22,11 @@ call-of-spec =
     (λ c. search needs)
     (λ c κs. search needs)
     (λ c. search needs)
-    (λ c. search needs)
     (λ c. search calls.says-advance)
+    (λ c. search needs)
+    (λ c. search needs)
+    (λ c κs. search needs)
+    (λ c. search needs)
+    (λ c. search needs)
+    (λ c. search calls.says-measure)
     (λ c. search calls.says-none))
