@@ -1,16 +1,19 @@
 #!/usr/bin/env bash
 # Checks every table of examples/ with ./check and with the C program buy, and compares with reports.tsv, byte for byte, and the exit status
-# of ./check with the verdict; and gives each table marks by the C program marks. Ends with 1 if any differs.
+# of ./check with the verdict; gives each table marks by the C program marks; and makes a measure for it by the C program measure, which is
+# compared with measures.tsv. Ends with 1 if any differs.
 set -euo pipefail
 cd "$(dirname "$0")/.."
 program=target/bin/check_table
 [ -x "$program" ] || { echo "examples: $program isn't built yet; ./check examples/pump.txt builds it" >&2; exit 1; }
 
-libraries=(target/staticlib/lib{checker,conversion}.a)
-for name in checker conversion; do tools/library.sh $name; done
+libraries=(target/staticlib/lib{checker,conversion,measuring}.a)
+for name in checker conversion measuring; do tools/library.sh $name; done
 work=$(mktemp -d)
 trap 'rm -rf "$work"' EXIT
-for example in buy marks; do ${CC:-cc} -std=c11 -Wall -Wextra -Iinclude "examples/$example.c" "${libraries[@]}" -o "$work/$example"; done
+for example in buy marks measure; do
+    ${CC:-cc} -std=c11 -Wall -Wextra -Iinclude "examples/$example.c" "${libraries[@]}" -o "$work/$example"
+done
 count=0
 differ=0
 for file in examples/*.txt; do
@@ -28,19 +31,28 @@ for file in examples/*.txt; do
     *) due="the same report; the same text again" ;;
     esac
     [ "$("$work/marks" "$file")" = "$due" ] || { echo "examples: $name: marks doesn't write \"$due\""; differ=1; }
+    due=$(awk -F '\t' -v name="$name" '$1 == name { print $2 }' examples/measures.tsv)
+    [ "$("$work/measure" "$file")" = "$due" ] || { echo "examples: $name: measure doesn't write \"$due\""; differ=1; }
     count=$((count + 1))
 done
+# Where losing is marked too, there is a loop.
+status=0
+sed '$d' examples/retry.txt | "$work/measure" /dev/stdin > "$work/got" || status=$?
+if [ "$status" != 1 ] || [ "$(cat "$work/got")" != "no measure: state 4 is on a loop" ]; then
+    echo "examples: measure ends with $status and writes \"$(cat "$work/got")\" for a loop"
+    differ=1
+fi
 # What can't be written is an error, and no verdict.
 if [ -c /dev/full ]; then
-    for example in buy marks; do
+    for example in buy marks measure; do
         status=0
         "$work/$example" examples/pump.txt > /dev/full 2> /dev/null || status=$?
         [ "$status" = 65 ] || { echo "examples: $example ends with $status on a full disk"; differ=1; }
     done
 fi
-# Each report has its table.
+# Each report and each measure has its table.
 while IFS=$'\t' read -r name _; do
-    [ -f "examples/$name.txt" ] || { echo "examples: $name: a report without a table"; differ=1; }
-done < examples/reports.tsv
+    [ -f "examples/$name.txt" ] || { echo "examples: $name: a report or a measure without a table"; differ=1; }
+done < <(cat examples/reports.tsv examples/measures.tsv)
 [ "$differ" = 0 ] || exit 1
-echo "examples: $count tables, by ./check, buy and marks: no difference"
+echo "examples: $count tables, by ./check, buy, marks and measure: no difference"

@@ -1,5 +1,6 @@
-/* The price link checker for C: its one-call check, and the two writers that give a design text a line of kind 8 and take it away. Link with
- * libchecker.a, which `rt staticlib checker` writes to target/staticlib; for the writers with libconversion.a beside it. */
+/* The price link checker for C: its one-call check, the two writers that give a design text a line of kind 8 and take it away, and the
+ * measure that is made for one. Link with libchecker.a, which `rt staticlib checker` writes to target/staticlib; for the writers with
+ * libconversion.a, for the measure with libmeasuring.a beside it. */
 #ifndef CHECKER_H
 #define CHECKER_H
 
@@ -12,7 +13,7 @@ extern "C" {
 
 /* The version, as in the file VERSION: the first number changes if a call that there was answers otherwise, the second if calls or kinds
  * of lines are added, the third if neither. */
-#define CHECKER_VERSION "1.2.1"
+#define CHECKER_VERSION "1.3.0"
 
 /* What check_design returns. */
 #define CHECK_ACCEPTED 0
@@ -94,6 +95,49 @@ uint32_t check_design(const uint8_t *text, size_t text_len, uint8_t *report, siz
  */
 size_t mark_design(const uint8_t *text, size_t text_len, uint8_t *buffer, size_t buffer_len, uint32_t *number);
 size_t unmark_design(const uint8_t *text, size_t text_len, uint8_t *buffer, size_t buffer_len, uint32_t *number);
+
+/* What measure_design returns. */
+#define MEASURE_FILLED 0
+#define MEASURE_LOOP 1
+#define MEASURE_TURNED_DOWN 2
+
+/* The number that it gives when it turns a call down, beside 1 to 7 for a fault of the text. */
+#define MEASURE_SHORT_SLICE 17
+#define MEASURE_CRITERION_3 18
+
+/* The most states that a design has: a slice of so many places is long enough for every text. */
+#define MEASURE_PLACES 65536
+
+/*
+ * Makes the smallest measure there is for the design text of text_len bytes at text, whatever measure the text itself has, in the slice_len
+ * places of 16 bits at slice. Place k is for the state with number k.
+ *
+ * Returns, and gives in *number, which is written in any case,
+ *   0  0        filled: a measure is written
+ *   1  a state  there is none: this state is on a loop, that is, marked steps lead from it to itself, through states where the invariant
+ *               holds; 0 is written for every state
+ *   2  1 to 7   turned down: the text is no design text; this is the number of its lowest fault
+ *      17       turned down: slice_len is below the number of states, those where the invariant does not hold among them
+ *      18       turned down: criterion 3 fails in some state where the invariant holds, for some row, internal or visible
+ * Of several reasons to turn a call down the lowest is given. Whether the other criteria hold does not matter.
+ *
+ * The measure that is written is, in each state where the invariant holds, the length of the longest run of marked steps from there, counted
+ * in steps; elsewhere it is 0. Criterion 5 holds by it, and it is nowhere larger than any other by which criterion 5 holds, be that a term's
+ * value or any other number of 0 to 65,535 for each state. Where a loop is told, criterion 5 holds by none. Without a line of kind 8 all
+ * internal steps are marked.
+ *
+ * The places after those of the states keep their content. A call that is turned down writes nothing to the slice.
+ *
+ * Any bytes may be in the text. It is only read, and nothing of it is kept. The text, the slice and *number must not overlap, slice and
+ * number must be aligned as their types are, and number must not be NULL. An area of length 0 may have any address, NULL among them.
+ *
+ * The function has no state, allocates nothing, makes no system call and always returns; threads may call it at the same time, each with a
+ * slice and a number of its own. It uses less than 512 KiB of stack: 287,000 bytes, measured as above, most of them for two arrays with a
+ * place for each state. That is more than some threads have. How long it takes depends on the design: it looks once at each state, row and
+ * sum value, for criterion 3, and once at each state, internal row and sum value, for the runs, however long these are, and at most once more
+ * for each state.
+ */
+uint32_t measure_design(const uint8_t *text, size_t text_len, uint16_t *slice, size_t slice_len, uint32_t *number);
 
 #ifdef __cplusplus
 }

@@ -9,7 +9,7 @@ static const char *const criteria[] = {
 };
 static const char *const faults[] = {
     "", "length of the text", "columns", "number of fields", "kinds of lines", "sizes, initial values, spans", "terms", "actions",
-    [MARK_OTHER_FORMULA] = "marks", [MARK_TOO_LONG] = "length of the result",
+    [MARK_OTHER_FORMULA] = "marks", [MARK_TOO_LONG] = "length of the result", [MEASURE_CRITERION_3] = "criterion 3",
 };
 
 const char *criterion_word(unsigned criterion) {
@@ -22,31 +22,24 @@ const char *fault_word(unsigned number) {
 
 /* ---- the place ---- */
 
-bool row_is_ours(const struct verdict *v) {
-    return v->criterion == OFFERED;
+bool row_is_ours(const struct failure *f) {
+    return f->criterion == OFFERED;
 }
 
-const struct row *failing_row(const struct verdict *v) {
-    const struct process *p = row_is_ours(v) ? &v->table.spec : &v->table.impl;
-    return v->row >= 1 && v->row <= p->rows ? &p->row[v->row - 1] : NULL;
+const struct row *failing_row(const struct table *t, const struct failure *f) {
+    const struct process *p = row_is_ours(f) ? &t->spec : &t->impl;
+    return f->row >= 1 && f->row <= p->rows ? &p->row[f->row - 1] : NULL;
 }
 
-/* "state 9 = (2, 1)"; the values alone if they are outside the sizes. */
-static void print_numbered(struct output *out, const struct process *p, const struct state *s) {
-    if (outside(p, s) == p->parameters) print(out, "state %lu = ", state_number(p, s));
-    print_state(out, p, s);
-}
-
-static void print_place(struct output *out, const struct verdict *v) {
-    const struct state s = numbered_state(&v->table.impl, v->state);
-    const struct row *row = failing_row(v);
-    put(out, ", ");
-    print_numbered(out, &v->table.impl, &s);
+static void print_place(struct output *out, const struct table *t, const struct failure *f) {
+    const struct state s = numbered_state(&t->impl, f->state);
+    const struct row *row = failing_row(t, f);
+    print_numbered(out, &t->impl, &s);
     if (!row) return;
-    print(out, ", %srow %u ", row_is_ours(v) ? "our " : "", v->row);
+    print(out, ", %srow %u ", row_is_ours(f) ? "our " : "", f->row);
     if (row->action == INTERNAL) put(out, "(internal)");
     else print(out, "(action %u)", row->action);
-    print(out, ", sum value %u", v->sum);
+    print(out, ", sum value %u", f->sum);
 }
 
 /* ---- what differs, for each criterion ---- */
@@ -144,18 +137,23 @@ static void print_next(struct output *out, const struct here *h) {
     print_state(out, &h->t->spec, &our_next);
 }
 
-void print_difference(struct output *out, const struct verdict *v) {
+void print_difference(struct output *out, const struct table *t, const struct failure *f) {
     static void (*const difference[])(struct output *, const struct here *) = {
         [START] = print_start, [MAPPED_VALUES] = print_mapped_values, [KEEPS_INVARIANT] = print_invariant,
         [KEEPS_MAPPING] = print_mapping, [SMALLER_MEASURE] = print_measure, [ALLOWED] = print_allowed,
         [OFFERED] = print_offered, [DATA] = print_data, [NEXT] = print_next,
     };
-    const struct table *t = &v->table;
-    struct here h = {.t = t, .row = failing_row(v), .sum = v->sum, .state = numbered_state(&t->impl, v->state)};
-    if (v->criterion < START || v->criterion > NEXT || (v->criterion >= KEEPS_INVARIANT && !h.row)) return;
+    struct here h = {.t = t, .row = failing_row(t, f), .sum = f->sum, .state = numbered_state(&t->impl, f->state)};
+    if (f->criterion < START || f->criterion > NEXT || (f->criterion >= KEEPS_INVARIANT && !h.row)) return;
     h.mapped = mapped(t, &h.state);
-    if (h.row && !row_is_ours(v)) h.next = next_state(&t->impl, h.row, &h.state, h.sum);
-    difference[v->criterion](out, &h);
+    if (h.row && !row_is_ours(f)) h.next = next_state(&t->impl, h.row, &h.state, h.sum);
+    difference[f->criterion](out, &h);
+}
+
+void print_failure(struct output *out, const struct table *t, const struct failure *f) {
+    print_place(out, t, f);
+    put(out, ": ");
+    print_difference(out, t, f);
 }
 
 void print_turned_down(struct output *out, const struct fault *f) {
@@ -168,10 +166,8 @@ void print_verdict(struct output *out, const struct verdict *v) {
     switch (v->outcome) {
     case CHECK_ACCEPTED: put(out, "accepted"); break;
     case CHECK_FAILED:
-        print(out, "failed: criterion %u (%s)", v->criterion, criterion_word(v->criterion));
-        print_place(out, v);
-        put(out, ": ");
-        print_difference(out, v);
+        print(out, "failed: criterion %u (%s), ", v->failure.criterion, criterion_word(v->failure.criterion));
+        print_failure(out, &v->table, &v->failure);
         break;
     default: print_turned_down(out, &v->fault);
     }

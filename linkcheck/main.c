@@ -3,6 +3,7 @@
 #include "../include/checker.h"
 #include "explain.h"
 #include "input.h"
+#include "measure.h"
 #include "names.h"
 #include "run.h"
 #include "show.h"
@@ -42,6 +43,12 @@ static const char help[] =
     "      The text with a line of kind 8 at its end, which marks all internal steps, as a text without it does; and\n"
     "      the text without the line, if each of its formulas is 10. A text that is so already is copied. The\n"
     "      verdict stays the same.\n"
+    "  linkcheck --measure [--json] FILE\n"
+    "      The smallest measure that meets criterion 5, which in each state is the length of the longest run of\n"
+    "      marked internal steps: its largest number, and whether the text's own measure meets criterion 5 and how\n"
+    "      far it is above the smallest, where the invariant holds. Or a loop of such steps, if there is one, as no\n"
+    "      measure meets criterion 5 then.\n"
+    "      --json    one JSON object, with the numbers of all states or the steps of the loop\n"
     "  linkcheck --aut [impl|spec] FILE\n"
     "      The transition system of the implementation, of the specification, or of both one after the other (a\n"
     "      tool that reads it wants one), in the Aldebaran format: the states that the initial state reaches\n"
@@ -56,7 +63,8 @@ static const char help[] =
     "Exit status: 0 all accepted, 1 some failed, 2 some turned down, 3 something could not be read, checked or\n"
     "written, as a folder without a table, and a message says what; the highest of these; 64 wrong arguments.\n"
     "With --columns, --mark, --unmark, --aut and --dot 0 is done, 2 is a text that is no table, or by --mark and\n"
-    "--unmark one that has no such result, and 1 is a system that cannot be written.\n";
+    "--unmark one that has no such result, and 1 is a system that cannot be written. With --measure 0 is a measure,\n"
+    "1 a loop, 2 a text that is no table, or one where criterion 3 fails.\n";
 
 /* The exit status once all is written; another if it could not be. */
 static int finished(int status) {
@@ -64,7 +72,7 @@ static int finished(int status) {
     return error ? complain(STATUS_UNREAD, "cannot write", strerror(error)) : status;
 }
 
-enum mode { CHECK, SHOW, TYPED_COLUMNS, MARK, UNMARK, AUT, DOT };
+enum mode { CHECK, SHOW, TYPED_COLUMNS, MARK, UNMARK, MAKE_MEASURE, AUT, DOT };
 
 struct arguments {
     enum mode mode;
@@ -115,9 +123,16 @@ static void take_option(struct arguments *a, const char *option) {
     else if (strcmp(option, "--columns") == 0) set_mode(a, TYPED_COLUMNS, option);
     else if (strcmp(option, "--mark") == 0) set_mode(a, MARK, option);
     else if (strcmp(option, "--unmark") == 0) set_mode(a, UNMARK, option);
+    else if (strcmp(option, "--measure") == 0) set_mode(a, MAKE_MEASURE, option);
     else if (strcmp(option, "--aut") == 0) set_mode(a, AUT, option);
     else if (strcmp(option, "--dot") == 0) set_mode(a, DOT, option);
     else usage("unknown option", option);
+}
+
+static void expect_going_together(const struct arguments *a) {
+    const bool measure_as_json = a->mode == MAKE_MEASURE && a->format == JSON;
+    if (a->mode == CHECK || ((a->format == WORDS || measure_as_json) && a->processes == 1)) return;
+    usage(a->mode == MAKE_MEASURE ? "--report and -j do not go with" : "--report, --json and -j do not go with", a->mode_name);
 }
 
 /* Takes the options and moves the operands to the front. */
@@ -143,7 +158,7 @@ static struct arguments take_arguments(int count, char **argument) {
             take_option(&a, arg);
         }
     }
-    if (a.mode != CHECK && (a.format != WORDS || a.processes > 1)) usage("--report, --json and -j do not go with", a.mode_name);
+    expect_going_together(&a);
     return a;
 }
 
@@ -225,6 +240,9 @@ static int perform(const struct arguments *a) {
     case UNMARK:
         expect_operands(a, 1, 1);
         return write_sort(&standard_output, a->operand[0], a->mode == MARK ? MARKED : UNMARKED);
+    case MAKE_MEASURE:
+        expect_operands(a, 1, 1);
+        return write_measure(&standard_output, a->operand[0], a->format);
     case AUT:
     case DOT:
         expect_operands(a, 1, 2);

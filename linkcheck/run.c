@@ -68,7 +68,7 @@ static void give_unread(enum format format, const char *name, const char *why) {
     complain(STATUS_UNREAD, name, why);
     if (format == REPORT) put(&standard_output, not_read);
     if (format == JSON) {
-        json_unreadable(&standard_output, name, why);
+        json_unreadable(&standard_output, "verdict", name, why);
         put(&standard_output, "\n");
     }
 }

@@ -30,6 +30,12 @@ bool same_state(const struct process *p, const struct state *a, const struct sta
     return true;
 }
 
+unsigned long state_count(const struct process *p) {
+    unsigned long count = 1;
+    for (unsigned i = 0; i < p->parameters; i++) count *= p->size[i];
+    return count;
+}
+
 unsigned outside(const struct process *p, const struct state *s) {
     unsigned i = 0;
     while (i < p->parameters && s->value[i] < p->size[i]) i++;
@@ -64,11 +70,16 @@ static bool internal_step(const struct row *r, const struct state *s, unsigned s
     return r->action == INTERNAL && enabled(r, s, sum);
 }
 
+bool marked_step(const struct process *p, const struct state *s, struct step *at) {
+    for (; at->row < p->row + p->rows; at->row++, at->sum = 0)
+        for (; at->sum < at->row->span; at->sum++)
+            if (internal_step(at->row, s, at->sum) && marked(at->row, s, at->sum)) return true;
+    return false;
+}
+
 bool focus_point(const struct process *p, const struct state *s) {
-    for (unsigned r = 0; r < p->rows; r++)
-        for (unsigned sum = 0; sum < p->row[r].span; sum++)
-            if (internal_step(&p->row[r], s, sum) && marked(&p->row[r], s, sum)) return false;
-    return true;
+    struct step first = {p->row, 0};
+    return !marked_step(p, s, &first);
 }
 
 struct step unmarked_step(const struct process *p, const struct state *s) {
@@ -92,8 +103,17 @@ unsigned measure(const struct table *t, const struct state *s) {
     return value_at(t->measure, s->value, NO_SUM);
 }
 
+bool keeps_invariant(const struct table *t, const struct state *next) {
+    return outside(&t->impl, next) == t->impl.parameters && invariant_holds(t, next);
+}
+
 void print_state(struct output *out, const struct process *p, const struct state *s) {
     put(out, "(");
     for (unsigned i = 0; i < p->parameters; i++) print(out, "%s%u", i ? ", " : "", s->value[i]);
     put(out, ")");
+}
+
+void print_numbered(struct output *out, const struct process *p, const struct state *s) {
+    if (outside(p, s) == p->parameters) print(out, "state %lu = ", state_number(p, s));
+    print_state(out, p, s);
 }

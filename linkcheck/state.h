@@ -18,6 +18,9 @@ struct state initial_state(const struct process *p);
 struct state numbered_state(const struct process *p, unsigned long number);
 unsigned long state_number(const struct process *p, const struct state *s);
 
+/* How many states there are within the sizes; of an implementation at most MAX_STATES. */
+unsigned long state_count(const struct process *p);
+
 bool same_state(const struct process *p, const struct state *a, const struct state *b);
 
 /* The first parameter whose value is not below its size; the number of parameters if there is none. */
@@ -33,21 +36,30 @@ const struct row *row_of(const struct process *p, unsigned action);
 /* Whether the step of an enabled internal row is marked. */
 bool marked(const struct row *r, const struct state *s, unsigned sum);
 
-/* No marked step is enabled. */
-bool focus_point(const struct process *p, const struct state *s);
-
-/* The first internal step that is enabled but not marked; its row is NULL if there is none. */
+/* A row for a sum value. */
 struct step {
     const struct row *row;
     unsigned sum;
 };
+
+/* Moves on to the first marked step from the state that is not before `at`. Gives whether there is one. */
+bool marked_step(const struct process *p, const struct state *s, struct step *at);
+
+/* No marked step is enabled. */
+bool focus_point(const struct process *p, const struct state *s);
+
+/* The first internal step that is enabled but not marked; its row is NULL if there is none. */
 struct step unmarked_step(const struct process *p, const struct state *s);
 
 bool invariant_holds(const struct table *t, const struct state *s);
+
+/* Criterion 3 of a step that leads there: it is inside the sizes, and the invariant holds. */
+bool keeps_invariant(const struct table *t, const struct state *next);
 struct state mapped(const struct table *t, const struct state *s);
 unsigned measure(const struct table *t, const struct state *s);
 
-/* Writes the values as (2, 1). */
+/* Writes the values as (2, 1); and with the number, if they are inside the sizes, as state 9 = (2, 1). */
 void print_state(struct output *out, const struct process *p, const struct state *s);
+void print_numbered(struct output *out, const struct process *p, const struct state *s);
 
 #endif

@@ -1,7 +1,7 @@
 #!/usr/bin/env bash
 # Builds linkcheck and tries it: reports against compare/reports.tsv, exit statuses, the stored outputs of expected/, texts with and without
-# a line of kind 8, and every look at every table and at damaged ones with the sanitizers and valgrind, where they are there. Ends with 1 at
-# the first fault.
+# a line of kind 8, measures against those of test/measures.py, and every look at every table and at damaged ones with the sanitizers and
+# valgrind, where they are there. Ends with 1 at the first fault.
 # Usage: test.sh [COUNT [SEED]] for the damaged texts; test.sh --remake stores the outputs of expected/ anew.
 set -euo pipefail
 cd "$(dirname "$0")/.."
@@ -67,8 +67,21 @@ expect() {
     local name=$1
     shift
     (cd "${folder:-.}" && "$linkcheck" "$@") > "$work/out" || [ $? -le 2 ] || fail "$*: status $?"
-    if [ "$remake" = yes ]; then cp "$work/out" "linkcheck/expected/$name"; fi
-    diff "linkcheck/expected/$name" "$work/out" || fail "$* differs from expected/$name"
+    stored "$name" "$*"
+}
+stored() {
+    if [ "$remake" = yes ]; then cp "$work/out" "linkcheck/expected/$1"; fi
+    diff "linkcheck/expected/$1" "$work/out" || fail "$2 differs from expected/$1"
+}
+# expect_each NAME OPTIONS FILE...: what is said of each file, messages too, and the statuses above 0.
+expect_each() {
+    local name=$1 options=$2 file
+    shift 2
+    for file in "$@"; do
+        # shellcheck disable=SC2086
+        "$linkcheck" $options "$file" 2>&1 || echo "status $?"
+    done > "$work/out"
+    stored "$name" "$options"
 }
 expect words.txt "${boards[@]}"
 expect words.json --json "${boards[@]}"
@@ -85,6 +98,12 @@ folder=$work expect marks.json --json marks
 folder=$work expect marked.txt --show marks/given.txt
 folder=$work expect marked.impl.aut --aut impl marks/given.txt
 folder=$work expect marked.impl.dot --dot impl marks/given.txt
+short=(examples/{pump,retry,buffer-two}.txt)
+for name in P_measure_0 P_inv_false P_first_size_2 c1_invariant_middle abp_plain m_c5_both_loops_marked t45 t67; do
+    short+=("$tables/$name.txt")
+done
+expect_each measures.txt --measure "${short[@]}" examples/{buffer-one,alternating-bit,concurrent-alternating-bit-with-loss}.txt
+expect_each measures.json "--measure --json" "${short[@]}"
 cmp "$tables/P_given.txt" linkcheck/expected/columns.txt
 # The pages show what is said.
 shown() { grep -qxF -e "    $1" "$2" || fail "$2 does not show: $1"; }
@@ -94,7 +113,12 @@ while read -r line; do shown "$line" README.md; done < "$work/out"
 for name in retry concurrent-alternating-bit-with-loss; do
     sed '$d' "examples/$name.txt" | "$linkcheck" - > "$work/out" || true
     shown "$(head -n 1 "$work/out")" examples/README.md
+    sed '$d' "examples/$name.txt" | "$linkcheck" --measure - > "$work/out" || true
+    while read -r line; do shown "$line" examples/README.md; done < "$work/out"
 done
+while read -r line; do shown "$line" README.md; done < "$work/out"
+"$linkcheck" --measure examples/buffer-two.txt > "$work/out"
+while read -r line; do shown "$line" README.md; done < "$work/out"
 for look in aut dot; do
     "$linkcheck" --$look "$tables/P_given.txt" > "$work/out" || fail "--$look: status $?"
     cat linkcheck/expected/pump.{impl,spec}.$look | diff - "$work/out" || fail "--$look is not that of both sides"
@@ -208,7 +232,7 @@ while IFS= read -r line <&3 && IFS= read -r report <&4; do
     table=${line%%  *} words=${line#*  }
     # Those about criteria and about many states have nothing new for a writer.
     if [[ $table =~ /[cs][0-9]*_ ]]; then continue; fi
-    if [[ $words == "turned down "* ]]; then for look in --mark --unmark; do turned_down "$words" $look "$table"; done
+    if [[ $words == "turned down "* ]]; then for look in --mark --unmark --measure; do turned_down "$words" $look "$table"; done
     elif tail -n 1 "$table" | grep -q '^     8'; then try_marked "$table"
     else try_unmarked "$table" "$report"; fi
     tried=$((tried + 1))
@@ -238,6 +262,65 @@ for look in --mark --unmark; do
     status 64 $look -j 2 "$good"
     status 64 $look --show "$good"
 done
+
+# ---- measures ----
+
+# measures_of FILE...: what is said of each, held against the table.
+measures_of() {
+    local file
+    for file in "$@"; do
+        "$linkcheck" --measure --json "$file" || [ $? -le 2 ] || fail "--measure --json $file"
+    done > "$work/measures"
+    linkcheck/test/measures.py < "$work/measures" || fail "a measure is not the smallest"
+}
+measures_of "$tables"/*.txt "$work"/marks/*.txt
+${CC:-cc} -std=c11 -Wall -Wextra -O2 linkcheck/test/slices.c target/staticlib/libmeasuring.a -o "$work/slices"
+"$work/slices" "$tables"/*.txt "$work"/marks/*.txt || fail "a slice is not written as it should be"
+if paste "$work/words" "$work/measures" | grep '  accepted' | grep -v '"own_meets":true'; then fail "accepted by another measure"; fi
+sed '$d' examples/retry.txt > "$work/loop"
+out_of_size=$tables/P_first_size_2.txt
+# The longest run and the longest loop that can be: each state has a step to the next, the last to the first if it has one.
+while read -r name condition; do
+    "$linkcheck" --columns > "$work/$name" << END
+1 256 0
+1 256 0
+2 1 0
+3 0 1 $condition 0 0 6 12 1 1 0 255 5 3 1 0 0 1 0 256 1 0 5 3 1 1 0 1 0 256
+5 10
+6 0 0
+7 0 0
+END
+done << 'END'
+chain 14 15 12 1 0 0 255 12 1 1 0 255
+ring 10
+END
+status 0 --measure "$work/chain"
+grep -qxF "$work/chain  smallest measure: at most 65535, first in state 0 = (0, 0)" "$work/out" || fail "a long run"
+status 1 --measure "$work/ring"
+[ "$(wc -l < "$work/out")" = 65538 ] || fail "a long loop: $(wc -l < "$work/out") lines"
+[ "$(sed -n 2p "$work/out")" = "$(tail -n 1 "$work/out"), row 1, sum value 0 ->" ] || fail "a long loop does not come back"
+status 0 --measure "$good"
+status 0 --measure "$bad"
+status 1 --measure "$work/loop"
+status 2 --measure "$out_of_size"
+status 2 --measure "$none"
+for options in --measure "--measure --json" "--json --measure"; do
+    read -ra options <<< "$options"
+    input=$good status 0 "${options[@]}" -
+    input=$work/loop status 1 "${options[@]}" -
+    status 2 "${options[@]}" -
+    status 2 "${options[@]}" /dev/zero
+    status 3 "${options[@]}" "$work/missing"
+    status 3 "${options[@]}" "$work"
+    status 64 "${options[@]}"
+    status 64 "${options[@]}" "$good" "$bad"
+    status 64 "${options[@]}" --report "$good"
+    status 64 "${options[@]}" -j 2 "$good"
+    status 64 "${options[@]}" --show "$good"
+    status 64 "${options[@]}" --measure "$good"
+done
+status 64 --measure --mark "$good"
+status 64 --aut --measure "$good"
 
 # Too many states.
 "$linkcheck" --columns linkcheck/test/wide.txt > "$work/wide.txt"
@@ -272,6 +355,7 @@ mapfile -t whole < <(printf '%s\n' $tables/*.txt | grep -Ev '/(t[1-7]|s_[0-9])')
 for found in "$work/words" "$work/plain"; do
     if grep 'turned down [0-9] ([^)]*)\(, line [0-9]*\)\?$' "$found"; then fail "a fault is not found"; fi
 done
+measures_of "$work"/damaged/*[0-9] "$work"/damaged/marks/*
 # What is said to differ differs.
 for found in "$work/words" "$work/plain"; do
     if grep -e "data \([0-9]*\), ours \1\$" -e 'mapped to \(([^)]*)\), ours to \1$' -e 'mapped to \(([^)]*)\), our initial state is \1$' \
@@ -294,7 +378,7 @@ looks() {
 looks_at_each() {
     local look file
     for file in "${few[@]}"; do
-        for look in "--show" "--aut" "--aut spec" "--dot" "--columns" "--mark" "--unmark"; do
+        for look in "--show" "--aut" "--aut spec" "--dot" "--columns" "--mark" "--unmark" "--measure" "--measure --json"; do
             # shellcheck disable=SC2086
             "$@" $look "$file" > /dev/null 2> "$work/error" || [ $? -le 2 ] || fail "$* $look $file: $(cat "$work/error")"
         done

@@ -19,6 +19,8 @@ compile linkcheck/test/nonblocking.c -o "$work/nonblocking"
 tables=compare/tables
 good=$tables/P_given.txt bad=$tables/P_data_row3.txt none=$tables/t45.txt
 marked=$tables/m_P_given.txt other=examples/retry.txt full=$tables/m_t3_fields_4096_without.txt
+leads_out=$tables/P_first_size_2.txt loop=$work/loop still=$tables/buffer1.txt
+sed '$d' "$other" > "$loop"
 EIO=5 EINTR=4 EAGAIN=11 ENOMEM=12 EACCES=13 EMFILE=24 ENOSPC=28 ECHILD=10 ECONNRESET=104
 
 fail() {
@@ -54,13 +56,14 @@ faulty() {
 # A whole table has come when reading fails: no verdict, and no columns. The pipe stays open for writing, so that its end is never told.
 mkfifo "$work/pipe"
 exec 9<> "$work/pipe"
-for arguments in "-" "--json -" "-j 2 - $good" "--show -" "--aut -" "--columns" "--columns -" "--mark -" "--unmark -"; do
+for arguments in "-" "--json -" "-j 2 - $good" "--show -" "--aut -" "--columns" "--columns -" "--mark -" "--unmark -" \
+    "--measure -" "--measure --json -"; do
     cat "$good" >&9
     # shellcheck disable=SC2086
     due 3 "linkcheck: -: Resource temporarily unavailable" "$work/nonblocking" "$linkcheck" $arguments <&9
     if grep -v -e unreadable -e 'not read$' -e "^$good  accepted" "$work/out"; then fail "$arguments: written after a read error"; fi
 done
-for look in --columns --show --aut --dot --mark --unmark; do
+for look in --columns --show --aut --dot --mark --unmark --measure; do
     due 3 "linkcheck: -: Connection reset by peer" faulty read 2 $ECONNRESET "$linkcheck" $look - < "$good"
     written "" "$look after a read error"
     due 3 "linkcheck: $good: Input/output error" faulty read 2 $EIO "$linkcheck" $look "$good"
@@ -128,6 +131,7 @@ done
 closed '2>&-' 3 --columns README.md
 closed '2>&-' 3 --columns "$work/missing"
 closed '2>&-' 3 --unmark "$other"
+closed '2>&-' 3 --measure "$leads_out"
 
 # What a process sends is looked at: if any byte of its first header is another, its four tables are not checked, named and counted.
 four=("$good" "$good" "$good" "$good")
@@ -139,7 +143,8 @@ for ((place = 0; place < 32; place++)); do
 done
 
 # A library that was made for other rules: another verdict, a report that says something else, a text that is no table; a result that can't
-# be, a number without or beside one, another number than is due.
+# be, a number without or beside one, another number than is due; a measure that is none, or too large, a state that there isn't, or that is
+# on no loop.
 if [ $# = 0 ]; then
     compile linkcheck/*.c linkcheck/test/other_rules.c -o "$work/other"
     while read -r returns verdict table; do
@@ -173,17 +178,60 @@ END
 800 4 --mark $none
 800 15 --unmark $other
 END
+    while read -r returns number places table; do
+        for format in "" --json; do
+            OTHER_RETURNS=$returns OTHER_VERDICT=$number OTHER_PLACES=$places due 3 "the library was built for other rules" \
+                "$work/other" --measure $format "$table"
+            written "" "--measure $format $table by other rules"
+        done
+    done << END
+0 0 0 $good
+0 0 1 $good
+0 0 1 $still
+0 1 0 $still
+0 0 0 $leads_out
+0 0 0 $loop
+0 0 0 $none
+1 0 0 $good
+1 12 0 $good
+1 4294967295 0 $good
+1 0 0 $still
+1 8 0 $loop
+1 4 1 $loop
+1 4 0 $leads_out
+1 0 0 $none
+2 0 0 $good
+2 4 0 $good
+2 17 0 $good
+2 18 0 $good
+2 0 0 $none
+2 5 0 $none
+2 18 0 $none
+2 0 0 $leads_out
+2 17 0 $leads_out
+3 0 0 $still
+4294967295 0 0 $still
+END
+    # With the right answers there is something to write.
+    while read -r returns number table; do
+        OTHER_RETURNS=$returns OTHER_VERDICT=$number OTHER_PLACES=0 due "$returns" "" "$work/other" --measure --json "$table"
+    done << END
+0 0 $still
+1 7 $loop
+2 18 $leads_out
+2 4 $none
+END
 fi
 
 # ---- writing ----
 
 # A full disk, and one that tells so when the output is closed.
-for look in --show --mark --unmark; do
+for look in --show --mark --unmark --measure; do
     due 3 "linkcheck: cannot write: Input/output error" faulty close 1 $EIO "$linkcheck" $look - < "$good"
 done
 if [ -c /dev/full ]; then
     for arguments in "$good" "-j 2 $good $bad" "--report $good" "--json $good" "--show $good" "--aut $good" "--dot $good" \
-        "--columns $good" "--mark $good" "--unmark $marked" "--help"; do
+        "--columns $good" "--mark $good" "--unmark $marked" "--measure $good" "--measure --json $good" "--measure $loop" "--help"; do
         got=0
         # shellcheck disable=SC2086
         "$linkcheck" $arguments > /dev/full 2> "$work/error" || got=$?
@@ -208,14 +256,15 @@ named error 64 "linkcheck: unknown option: --$shown" "--$odd"
 named error 64 "linkcheck: -j takes a number from 1 to 256: $shown" -j "$odd" "$good"
 named error 64 "linkcheck: impl or spec is due, not: $shown" --aut "$odd" "$good"
 named error 64 "linkcheck: too many arguments: $shown" --show "$good" "$odd"
-for look in "" --json --report --show --columns --aut --dot --mark --unmark; do
+for look in "" --json --report --show --columns --aut --dot --mark --unmark --measure; do
     named error 3 "linkcheck: $work/$shown: No such file or directory" $look "$work/$odd"
 done
 escaped="\\u001b[31m\\u000a\\ufffd\\u009b\\u007f"$'\303\251\342\202\254'"\\ufffd\\ufffd\\ufffd"
 named out 3 "{\"file\":\"$work/$escaped\",\"verdict\":\"unreadable\",\"why\":\"No such file or directory\"}" --json "$work/$odd"
+named out 3 "{\"file\":\"$work/$escaped\",\"measure\":\"unreadable\",\"why\":\"No such file or directory\"}" --measure --json "$work/$odd"
 echo x > "$work/$odd"
 named error 2 "linkcheck: $work/$shown: line 1, field 1: not a number from 0 to 65535" --columns "$work/$odd"
-for look in --aut --dot --mark --unmark; do
+for look in --aut --dot --mark --unmark --measure; do
     named error 2 "linkcheck: $work/$shown: turned down 2 (columns), line 1: 1 bytes are not whole fields of six columns" $look "$work/$odd"
 done
 named out 2 "$work/$shown  turned down 2 (columns), line 1: 1 bytes are not whole fields of six columns" "$work/$odd"
@@ -231,7 +280,7 @@ declare -A seen known
 # A line of a run that ended with 3: one of the run without a fault, or one that says that something was not read.
 right_line() {
     [ -n "${known["x$1"]:-}" ] || [[ $1 =~ $summary_line ]] || [ "$1" = "     9 not read               " ] ||
-        [[ $1 == '{"file":"'*'","verdict":"unreadable","why":"'*'"}' ]]
+        [[ $1 == '{"file":"'*'","'@(verdict|measure)'":"unreadable","why":"'*'"}' ]]
 }
 summary_line='^([0-9]+) tables?: ([0-9]+) accepted, ([0-9]+) failed, ([0-9]+) turned down(; ([0-9]+) not read)?$'
 # The summary of such a run counts as many tables as have their line, and all, unless a folder could not be looked at.
@@ -313,6 +362,14 @@ with_every_fault --aut "$none"
 with_every_fault --mark "$good"
 input=$marked with_every_fault --unmark -
 with_every_fault --unmark "$other"
+with_every_fault --measure "$good"
+input=$loop with_every_fault --measure -
+with_every_fault --measure "$leads_out"
+with_every_fault --measure "$none"
+with_every_fault --measure --json "$tables/s_0_256_256.txt"
+input=$loop with_every_fault --measure --json -
+with_every_fault --measure --json "$leads_out"
+with_every_fault --measure --json "$work/missing"
 sanitized="no sanitizer"
 export ASAN_OPTIONS=exitcode=99:verify_asan_link_order=0 UBSAN_OPTIONS=print_stacktrace=1
 if [ $# = 0 ] && linkcheck/build.sh "$work/sanitized" -g -fsanitize=address,undefined -fno-sanitize-recover=all 2> "$work/error" &&
@@ -322,6 +379,8 @@ if [ $# = 0 ] && linkcheck/build.sh "$work/sanitized" -g -fsanitize=address,unde
     input=$good with_every_fault --columns
     with_every_fault --dot spec "$good"
     with_every_fault --mark "$good"
+    with_every_fault --measure "$loop"
+    with_every_fault --measure --json "$good"
     linkcheck=$plain
 fi
 unset FAULT_REACHED MALLOC_PERTURB_

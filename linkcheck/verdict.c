@@ -28,11 +28,9 @@ _Noreturn void other_rules(void) {
 void verdict_of(struct verdict *v, const struct text *t) {
     v->outcome = check_design(t->bytes, t->len, v->report, sizeof v->report);
     if (v->outcome > CHECK_TURNED_DOWN || report_number(v->report, 0) != v->outcome) other_rules();
-    v->criterion = report_number(v->report, 1);
-    v->state = report_number(v->report, 2);
-    v->row = report_number(v->report, 3);
-    v->sum = report_number(v->report, 4);
+    const unsigned second = report_number(v->report, 1);
+    v->failure = (struct failure){second, report_number(v->report, 2), report_number(v->report, 3), report_number(v->report, 4)};
     v->fault = table_read(&v->table, t->bytes, t->len);
-    if (v->outcome == CHECK_TURNED_DOWN && v->fault.number != v->criterion) v->fault = (struct fault){.number = v->criterion};
+    if (v->outcome == CHECK_TURNED_DOWN && v->fault.number != second) v->fault = (struct fault){.number = second};
     if (v->outcome != CHECK_TURNED_DOWN && v->fault.number) other_rules();
 }

@@ -16,13 +16,17 @@ struct text {
 /* Reads the file, or standard input for "-". Gives 0, or the errno of what went wrong. */
 int text_read(struct text *t, const char *path);
 
+/* A criterion that does not hold, and where. The row is counted from 1, and 0 if there is none. */
+struct failure {
+    unsigned criterion, state, row, sum;
+};
+
 struct verdict {
     uint8_t report[CHECK_REPORT_BYTES];
-    unsigned outcome;   /* CHECK_ACCEPTED, CHECK_FAILED or CHECK_TURNED_DOWN */
-    unsigned criterion; /* of a failed one; the turned-down number of one turned down */
-    unsigned state, row, sum;
-    struct table table; /* whole if the text was not turned down */
-    struct fault fault; /* of a text turned down; its line is 0 and its words are empty if it isn't found */
+    unsigned outcome;       /* CHECK_ACCEPTED, CHECK_FAILED or CHECK_TURNED_DOWN */
+    struct table table;     /* whole if the text was not turned down */
+    struct failure failure; /* of a failed one */
+    struct fault fault;     /* of a text turned down; its line is 0 and its words are empty if it isn't found */
 };
 
 /* Checks the text. Everything that decides comes from check_design. */

@@ -7,7 +7,7 @@ import re
 import subprocess
 import sys
 
-LIBRARIES = ['checker', 'conversion']
+LIBRARIES = ['checker', 'conversion', 'measuring']
 BLANKS = '$0x2020202020202020'
 # a whole 64-bit register, and eight bytes of memory that are neither on the stack nor a constant
 WORD = r'%r(?:[a-d]x|[sd]i|bp|8|9|1[0-5])'

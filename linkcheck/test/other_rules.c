@@ -1,5 +1,6 @@
 /* Functions by other rules, in place of the library's. check_design accepts every text, but returns OTHER_RETURNS and has OTHER_VERDICT in
- * the report's first field. mark_design and unmark_design return OTHER_RETURNS, give the number OTHER_VERDICT, and write nothing. */
+ * the report's first field. The others return OTHER_RETURNS and give the number OTHER_VERDICT; mark_design and unmark_design write nothing,
+ * measure_design writes OTHER_PLACES to every place. */
 #include "../../include/checker.h"
 
 #include <stdio.h>
@@ -22,4 +23,10 @@ size_t mark_design(const uint8_t *text, size_t text_len, uint8_t *buffer, size_t
 
 size_t unmark_design(const uint8_t *text, size_t text_len, uint8_t *buffer, size_t buffer_len, uint32_t *number) {
     return mark_design(text, text_len, buffer, buffer_len, number);
+}
+
+uint32_t measure_design(const uint8_t *text, size_t text_len, uint16_t *slice, size_t slice_len, uint32_t *number) {
+    const uint16_t written = (uint16_t)atoi(getenv("OTHER_PLACES"));
+    for (size_t i = 0; i < slice_len; i++) slice[i] = written;
+    return (uint32_t)mark_design(text, text_len, NULL, 0, number);
 }

@@ -1,5 +1,5 @@
 #!/usr/bin/env bash
-# Times linkcheck over many small tables: copies of the pump table and its nine changes. Usage: measure.sh [COUNT]
+# Times linkcheck over many small tables: copies of the pump table and its nine changes. Usage: many.sh [COUNT]
 set -euo pipefail
 cd "$(dirname "$0")/.."
 count=${1:-10000}

@@ -1,0 +1,40 @@
+/* The smallest measure of a table, which measure_design makes, and what serves to tell of it. */
+#ifndef MEASURE_H
+#define MEASURE_H
+
+#include "answer.h"
+#include "output.h"
+#include "verdict.h"
+
+/* A state, and a marked step from it: a row, counted from 1, and a sum value. */
+struct stop {
+    unsigned state, row, sum;
+};
+
+struct measured {
+    unsigned outcome;   /* MEASURE_FILLED, MEASURE_LOOP or MEASURE_TURNED_DOWN */
+    struct table table; /* whole if the text was not turned down by 1 to 7 */
+    unsigned states;
+    uint16_t number[MEASURE_PLACES]; /* the smallest measure of each state */
+
+    uint16_t own[MEASURE_PLACES]; /* filled: the text's own measure of each state, 0 where the invariant does not hold */
+    unsigned largest;             /* the lowest state with the largest number */
+    bool own_meets;               /* the text's own measure meets criterion 5 */
+    unsigned above;               /* the lowest state where it is above the smallest by most */
+    struct failure own_failure;   /* the lowest state, row and sum value where it fails criterion 5 */
+
+    struct stop loop[MEASURE_PLACES]; /* a loop: its states in order, from the one that was named */
+    size_t length;
+
+    struct fault fault;     /* turned down; its line is 0 and its words are empty for 18 */
+    struct failure failure; /* for 18, the lowest state, row and sum value where criterion 3 fails */
+};
+
+/* By how much the text's own measure is above the smallest in a state. */
+unsigned excess(const struct measured *m, unsigned state);
+
+/* Writes what there is to say of a measure for the table in a file, or in standard input for "-": in words, or as a JSON object on a line.
+ * Gives the exit status: 0 for a measure, 1 for a loop, 2 for a text that is turned down, 3 if it could not be read. */
+int write_measure(struct output *out, const char *name, enum format format);
+
+#endif
