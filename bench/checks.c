@@ -1,7 +1,8 @@
-/* checks ROUNDS LIMITS ROOM TABLE..: the time of check_design on each table against a plain C walk and the reference checker; that of
- * loading the text LIMITS, of writing it again without marks, and of writing ROOM with them, the last two also against a load; and that of
- * advancing by 1 over the states of each table that has 65,536. All are run in turn, ROUNDS times; the least time of each counts, as that
- * with the least other work beside it. A ratio is our time over theirs. */
+/* checks ROUNDS LIMITS ROOM TABLE.. -- CHAIN..: the time of check_design on each table against a plain C walk and the reference checker; that
+ * of loading the text LIMITS, of writing it again without marks, and of writing ROOM with them, the last two also against a load; that of
+ * advancing by 1 over the states of each table that has 65,536; and that of making a measure for each table and chain, also against our
+ * check. All are run in turn, ROUNDS times; the least time of each counts, as that with the least other work beside it. A ratio is our time
+ * over theirs. */
 #define _POSIX_C_SOURCE 200809L
 #include <time.h>
 #include "../include/checker.h"
@@ -19,9 +20,10 @@ struct text {
     size_t len;
 };
 
-/* What is timed: a text, the same as a table, and for each of the sorts what is done with it; 0 is a fault. */
+/* What is timed: a text, one with the same rows that is accepted, the first as a table, and for each of the sorts what is done with them; 0
+ * is a fault. */
 struct job {
-    struct text text;
+    struct text text, accepted;
     struct table table;
     int (*run[SORTS])(const struct job *);
 };
@@ -98,6 +100,36 @@ static int hoisted_advances(const struct job *j)
     return 1;
 }
 
+static uint16_t slice[65536];
+
+static int our_measure(const struct job *j)
+{
+    uint32_t number;
+    return measure_design(j->text.bytes, j->text.len, slice, j->table.states, &number) == MEASURE_FILLED;
+}
+
+static int reference_measures(const struct job *j)
+{
+    uint32_t number;
+    return reference_measure(j->text.bytes, j->text.len, slice, j->table.states, &number) == REFERENCE_FILLED;
+}
+
+/* Whether both write the same. */
+static int same_measures(const struct job *j)
+{
+    static uint16_t other[65536];
+    if (!reference_measures(j)) return 0;
+    memcpy(other, slice, j->table.states * sizeof *slice);
+    memset(slice, 255, sizeof slice);
+    return our_measure(j) && !memcmp(slice, other, j->table.states * sizeof *slice);
+}
+
+static int our_walk(const struct job *j)
+{
+    uint8_t report[CHECK_REPORT_BYTES];
+    return check_design(j->accepted.bytes, j->accepted.len, report, sizeof report) == CHECK_ACCEPTED;
+}
+
 /* ---- the clock ---- */
 
 static double now(void)
@@ -142,6 +174,16 @@ static void read_job(const char *path, struct job *j)
     read_table(path, &j->table);
 }
 
+/* The text itself, or if its measure doesn't do, the text with its one internal row unmarked. */
+static void find_accepted(struct job *j)
+{
+    static const char unmarked[] = "     8    11\n";
+    j->accepted = j->text;
+    if (our_walk(j)) return;
+    memcpy(j->accepted.bytes + j->accepted.len, unmarked, sizeof unmarked - 1);
+    j->accepted.len += sizeof unmarked - 1;
+}
+
 static const char *last_name(const char *path)
 {
     const char *slash = strrchr(path, '/');
@@ -168,18 +210,28 @@ int main(int n, char **words)
 {
     static run *const checks[SORTS] = {ours, plain, hoisted, reference}, *const loads[SORTS] = {our_load, NULL, NULL, reference_loads},
         *const unmarks[SORTS] = {our_unmark, our_load, NULL, reference_unmarks}, *const marks[SORTS] = {our_mark, our_load, NULL, reference_marks},
-        *const advances[SORTS] = {our_advances, plain_advances, hoisted_advances, reference_advances};
+        *const advances[SORTS] = {our_advances, plain_advances, hoisted_advances, reference_advances},
+        *const measures[SORTS] = {our_measure, our_walk, NULL, reference_measures};
     static struct job j;
-    int rounds = n > 4 ? atoi(words[1]) : 0;
-    if (rounds < 1) { fprintf(stderr, "usage: checks ROUNDS LIMITS ROOM TABLE..\n"); return 2; }
+    int rounds = n > 4 ? atoi(words[1]) : 0, chains = 4;
+    while (chains < n && strcmp(words[chains], "--")) chains++;
+    if (rounds < 1 || chains == n) { fprintf(stderr, "usage: checks ROUNDS LIMITS ROOM TABLE.. -- CHAIN..\n"); return 2; }
     head("C", "C hoisted");
-    for (int i = 4; i < n; i++) {
+    for (int i = 4; i < chains; i++) {
         read_job(words[i], &j);
         time_it("check", words[i], &j, rounds, checks);
     }
-    for (int i = 4; i < n; i++) {
+    for (int i = 4; i < chains; i++) {
         read_job(words[i], &j);
         if (j.table.states == 65536) time_it("advances by 1,", words[i], &j, rounds, advances);
+    }
+    head("our check", "");
+    for (int i = 4; i < n; i++) {
+        if (i == chains) continue;
+        read_job(words[i], &j);
+        find_accepted(&j);
+        if (!same_measures(&j)) { fprintf(stderr, "%s: two measures\n", words[i]); return 1; }
+        time_it("measure", words[i], &j, rounds, measures);
     }
     head("our load", "");
     read_job(words[2], &j);

@@ -1,4 +1,4 @@
-/* stack TEXT..: the deepest stack that each function of the library uses over the texts, in bytes, on a stack of its own that is painted
+/* stack TEXT..: the deepest stack that each function of the libraries uses over the texts, in bytes, on a stack of its own that is painted
  * before. */
 #define _XOPEN_SOURCE 700
 #include <stdint.h>
@@ -12,6 +12,7 @@ enum { STACK = 1 << 20, PAINT = 0xA5 };
 
 static ucontext_t here, there;
 static uint8_t stack[STACK], text[1 << 16], report[CHECK_REPORT_BYTES], result[MARK_RESULT_BYTES];
+static uint16_t slice[MEASURE_PLACES];
 static size_t len;
 static uint32_t number;
 
@@ -23,12 +24,14 @@ static void mark(void) { mark_design(text, len, result, sizeof result, &number);
 
 static void unmark(void) { unmark_design(text, len, result, sizeof result, &number); }
 
+static void measure(void) { measure_design(text, len, slice, MEASURE_PLACES, &number); }
+
 static const struct {
     const char *name;
     void (*call)(void);
-} functions[] = {{"check_design", check}, {"mark_design", mark}, {"unmark_design", unmark}};
+} functions[] = {{"check_design", check}, {"mark_design", mark}, {"unmark_design", unmark}, {"measure_design", measure}};
 
-enum { FUNCTIONS = 3 };
+enum { FUNCTIONS = sizeof functions / sizeof *functions };
 
 /* The bytes of the stack that a call writes, from its top down to the lowest that changed. */
 static size_t depth_of(void (*call)(void))
@@ -48,7 +51,7 @@ static size_t depth_of(void (*call)(void))
 int main(int n, char **names)
 {
     size_t least = depth_of(nothing), most[FUNCTIONS] = {0};
-    const char *deepest[FUNCTIONS] = {"", "", ""};
+    const char *deepest[FUNCTIONS] = {"", "", "", ""};
     for (int i = 1; i < n; i++) {
         FILE *f = fopen(names[i], "rb");
         if (!f) { perror(names[i]); return 1; }

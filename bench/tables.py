@@ -8,6 +8,9 @@ d   4,096 states, 16 internal rows of span 16 with a measure, 8 visible rows
 e     256 states, 8 rows of span 256 with large terms
 f  65,536 states, the rows of the pump table
 
+rising, falling, scattered  a chain of 65,535 internal steps over 65,536 states, in that order of their numbers; the first two have their
+measure and are accepted
+
 limits   as many parameters, rows and fields as a text may have; two fields in three have two digits
 room     the same, with room for a line of marks
 blanks   as many fields, nearly all of one digit
@@ -91,6 +94,28 @@ def f():
                 [choice(equal(phase, num(0)), num(0), num(1)), price], choice(equal(phase, num(1)), num(1), num(0)))
 
 
+HALF = num(32768)
+NUMBER = add(par(1), choice(equal(par(0), num(0)), num(0), HALF))
+
+
+def chain(following, last, measure):
+    """from each state but the last to that of this number"""
+    step = (0, 1, negation(equal(NUMBER, num(last))), num(0), [choice(less(following, HALF), num(0), num(1)), rem(following, HALF)])
+    return text([(2, 0), (32768, 0)], [(1, 0)], [step], [], TRUE, [num(0)], measure)
+
+
+def rising():
+    return chain(add(NUMBER, num(1)), 65535, sub(num(65535), NUMBER))
+
+
+def falling():
+    return chain(sub(NUMBER, num(1)), 0, NUMBER)
+
+
+def scattered():
+    return chain(add(NUMBER, num(40503)), 20000, num(0))
+
+
 def all_of(n, formula):
     """a formula n times, each joined to those behind it"""
     return formula if n == 1 else both(formula, all_of(n - 1, formula))
@@ -141,6 +166,6 @@ def digits():
     return (' 65535' * 64 + '\n') * 64
 
 
-for table in (a, b, c, d, e, f, limits, room, blanks, numbers, digits):
+for table in (a, b, c, d, e, f, rising, falling, scattered, limits, room, blanks, numbers, digits):
     with open(sys.argv[1] + '/' + table.__name__ + '.txt', 'w') as out:
         out.write(table())

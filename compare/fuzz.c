@@ -1,6 +1,6 @@
 // Compares the checker with the reference over the texts of texts.h: check_design with buffers of five lengths, mark_design and
-// unmark_design with two each, every byte of them. Writes lists of desk calls for desk_calls to CALLS, and what the reference answers to
-// them, in desk_calls' words, to DUE.
+// unmark_design with two each, every byte of them; measure_design with slices of five lengths, every place. Writes lists of desk calls for
+// desk_calls to CALLS, and what the reference answers to them, in desk_calls' words, to DUE.
 //
 //   fuzz COUNT SEED CALLS DUE TABLE..
 //
@@ -29,7 +29,7 @@ static void read_text(const char *path, struct text *t) {
     fclose(f);
 }
 
-// A call with text i and a buffer.
+// A call with text i and a buffer of so many bytes, or a slice of so many places.
 struct call {
     const char *function;
     int i;
@@ -41,7 +41,7 @@ static void differ(const char *what, struct call c) {
     FILE *f = opened("target/differs.txt", "wb");
     fwrite(c.t->bytes, 1, c.t->len, f);
     fclose(f);
-    fprintf(stderr, "fuzz: text %d, in target/differs.txt: %s with a buffer of %zu bytes: %s\n", c.i, c.function, c.room, what);
+    fprintf(stderr, "fuzz: text %d, in target/differs.txt: %s with a length of %zu: %s\n", c.i, c.function, c.room, what);
     exit(1);
 }
 
@@ -189,52 +189,154 @@ static void print_writer(const struct both *s) {
            results, s->copies, s->by_fit[EMPTY], s->by_fit[SHORTER], s->by_fit[ONE_SHORT], s->by_fit[EXACT], s->by_fit[LONGER]);
 }
 
+// Measures.
+
+// No slice has more than MOST_PLACES, and so many places stand before and after it.
+enum { MOST_PLACES = 66000, PLACES_AROUND = 64, MOST_NUMBER = 19, STEPS = 3 };
+
+// What is known of a text's measure: the number of states, or 0 if it is turned down; and if it has a loop, the state that our call names.
+struct known {
+    size_t states;
+    uint32_t named;
+};
+
+static const unsigned over[STEPS] = {0, 10, 100};
+
+// What came of all calls, and of those with a slice of just so many places as there are states.
+struct measures {
+    unsigned calls, filled, loops, by_number[MOST_NUMBER], exact, exact_filled, exact_over[STEPS], exact_loops, exact_18;
+};
+
+// Both with a slice of so many places, among places that they must leave alone. Which state is named on a loop is free, so the reference
+// judges ours. Gives what is returned, the number, and the slice.
+static uint32_t measure_both(int i, const struct text *t, size_t room, uint32_t *number, const uint16_t **slice) {
+    static uint16_t before[PLACES_AROUND + MOST_PLACES + PLACES_AROUND], due[sizeof before / 2], got[sizeof before / 2];
+    const struct call call = {"measure_design", i, t, room};
+    const size_t area = PLACES_AROUND + room + PLACES_AROUND;
+    uint32_t due_number = 0;
+    for (size_t b = 0; b < area; b++) before[b] = due[b] = got[b] = (uint16_t)(65535 - b * 7 * i);
+    uint32_t due_result = reference_measure(t->bytes, t->len, due + PLACES_AROUND, room, &due_number);
+    *number = UINT32_MAX;
+    uint32_t result = measure_design(lend(t), t->len, room ? got + PLACES_AROUND : NULL, room, number);
+    if (result != due_result) differ("another result", call);
+    if (result != REFERENCE_LOOP && *number != due_number) differ("another number", call);
+    if (memcmp(got, due, area * sizeof *got)) differ("another slice", call);
+    if (is_changed(t)) differ("the text was written", call);
+    *slice = got + PLACES_AROUND;
+    int has_design = result != REFERENCE_NO_MEASURE || *number > 7;
+    if (has_design && !reference_judge(t->bytes, t->len, before + PLACES_AROUND, *slice, room, result, *number)) differ("judged wrong", call);
+    return result;
+}
+
+static unsigned largest(const uint16_t *slice, size_t n) {
+    unsigned most = 0;
+    for (size_t k = 0; k < n; k++) most = slice[k] > most ? slice[k] : most;
+    return most;
+}
+
+// With a slice of just as many places as there are states, of more, of one less, of any less, and of none.
+static struct known measure_one(int i, const struct text *t, struct measures *seen) {
+    struct known known = {reference_states(t->bytes, t->len), 0};
+    const size_t n = known.states, room[] = {n, n + 1 + rnd(300), n ? n - 1 : 0, rnd(n + 1), 0};
+    for (int k = 0; k < 5; k++) {
+        uint32_t number;
+        const uint16_t *slice;
+        uint32_t result = measure_both(i, t, room[k], &number, &slice);
+        seen->calls++;
+        seen->filled += result == REFERENCE_FILLED;
+        seen->loops += result == REFERENCE_LOOP;
+        if (result == REFERENCE_NO_MEASURE) seen->by_number[number]++;
+        if (result == REFERENCE_LOOP) known.named = number;
+        if (k || !n) continue;
+        seen->exact++;
+        seen->exact_filled += result == REFERENCE_FILLED;
+        seen->exact_loops += result == REFERENCE_LOOP;
+        seen->exact_18 += result == REFERENCE_NO_MEASURE;
+        for (int s = 0; s < STEPS; s++) seen->exact_over[s] += result == REFERENCE_FILLED && largest(slice, n) > over[s];
+    }
+    return known;
+}
+
+static void print_measures(const struct measures *seen) {
+    printf("fuzz: %u calls of measure_design: filled %u, loops %u; turned down by number", seen->calls, seen->filled, seen->loops);
+    for (int n = 1; n <= 7; n++) printf(" %u", seen->by_number[n]);
+    printf(", 17: %u, 18: %u\n", seen->by_number[17], seen->by_number[18]);
+    printf("fuzz: %u of them with a place for each state: filled %u, the largest number", seen->exact, seen->exact_filled);
+    for (int s = 0; s < STEPS; s++) printf(" over %u in %u,", over[s], seen->exact_over[s]);
+    printf(" loops %u, 18: %u\n", seen->exact_loops, seen->exact_18);
+}
+
 // Lists of desk calls.
 
-static void answered(FILE *due, const char *call, uint32_t number) {
-    if (number) fprintf(due, "turned down %u\n", number);
-    else fprintf(due, "%s 0\n", call);
+// A desk of the reference, and what is known of what it has loaded.
+struct list {
+    struct reference_desk *desk;
+    struct known known;
+    FILE *calls, *due;
+};
+
+static void answered(const struct list *l, const char *call, uint32_t number) {
+    if (number) fprintf(l->due, "turned down %u\n", number);
+    else fprintf(l->due, "%s 0\n", call);
 }
 
-static void load(struct reference_desk *desk, const struct text *t, FILE *calls, FILE *due) {
-    fprintf(calls, "load %zu\n", t->len);
-    fwrite(t->bytes, 1, t->len, calls);
-    fprintf(calls, "\n");
-    answered(due, "load", reference_load(desk, t->bytes, t->len));
+static void load(struct list *l, const struct text *t, struct known known) {
+    uint32_t number = reference_load(l->desk, t->bytes, t->len);
+    fprintf(l->calls, "load %zu\n", t->len);
+    fwrite(t->bytes, 1, t->len, l->calls);
+    fprintf(l->calls, "\n");
+    answered(l, "load", number);
+    if (!number) l->known = known;
 }
 
-static void advance(struct reference_desk *desk, uint64_t n, FILE *calls, FILE *due) {
+static void advance(struct list *l, uint64_t n) {
     static const char *const words[] = {"open", "accepted", "failed", "turned down"};
     uint64_t number;
-    uint32_t stands = reference_advance(desk, n, &number);
-    fprintf(calls, "advance %llu\n", (unsigned long long)n);
-    fprintf(due, "%s %llu\n", words[stands], (unsigned long long)number);
+    uint32_t stands = reference_advance(l->desk, n, &number);
+    fprintf(l->calls, "advance %llu\n", (unsigned long long)n);
+    fprintf(l->due, "%s %llu\n", words[stands], (unsigned long long)number);
 }
 
-static void verdict(struct reference_desk *desk, FILE *calls, FILE *due) {
+static void verdict(struct list *l) {
     uint16_t r[5];
-    uint32_t number = reference_verdict(desk, r);
-    fprintf(calls, "verdict\n");
-    if (number) fprintf(due, "turned down %u\n", number);
-    else fprintf(due, "verdict %u %u %u %u %u\n", r[0], r[1], r[2], r[3], r[4]);
+    uint32_t number = reference_verdict(l->desk, r);
+    fprintf(l->calls, "verdict\n");
+    if (number) fprintf(l->due, "turned down %u\n", number);
+    else fprintf(l->due, "verdict %u %u %u %u %u\n", r[0], r[1], r[2], r[3], r[4]);
 }
 
-static void drop(struct reference_desk *desk, FILE *calls, FILE *due) {
-    fprintf(calls, "drop\n");
-    answered(due, "drop", reference_drop(desk));
+// The state on a loop that is due is the one that measure_design names, which was judged: the desk searches in the same way.
+static void measure(struct list *l) {
+    static uint16_t slice[MOST_PLACES];
+    const size_t states = l->known.states, rooms[] = {states, states, states + 1 + rnd(20), states ? states - 1 : 0, rnd(states + 1), 0};
+    const size_t room = rooms[rnd(6)];
+    uint32_t number;
+    for (size_t k = 0; k < room; k++) slice[k] = UINT16_MAX;
+    uint32_t result = reference_desk_measure(l->desk, slice, room, &number);
+    fprintf(l->calls, "measure %zu\n", room);
+    if (result == REFERENCE_NO_MEASURE) { fprintf(l->due, "turned down %u\n", number); return; }
+    if (result == REFERENCE_LOOP) fprintf(l->due, "loop %u", l->known.named); else fprintf(l->due, "measure");
+    for (size_t k = 0; k < room; k++) fprintf(l->due, " %u", slice[k]);
+    fprintf(l->due, "\n");
+}
+
+static void drop(struct list *l) {
+    fprintf(l->calls, "drop\n");
+    answered(l, "drop", reference_drop(l->desk));
 }
 
 // Loads the text, calls the desk up to eleven times, and mostly drops it.
-static void desk_one(struct reference_desk *desk, const struct text *t, FILE *calls, FILE *due) {
+static void desk_one(struct list *l, const struct text *t, struct known known) {
     static const uint64_t steps[] = {1, 2, 3, 7, 50, 1, 2, 5, 1000, UINT64_MAX, 0};
-    load(desk, t, calls, due);
+    load(l, t, known);
     for (int k = rnd(12); k > 0; k--) {
-        unsigned pick = rnd(rnd(4) ? 13 : 14);
-        if (pick < 11) advance(desk, steps[pick], calls, due);
-        else if (pick < 13) verdict(desk, calls, due);
-        else drop(desk, calls, due);
+        unsigned pick = rnd(rnd(4) ? 15 : 16);
+        if (pick < 11) advance(l, steps[pick]);
+        else if (pick < 13) verdict(l);
+        else if (pick < 15) measure(l);
+        else drop(l);
     }
-    if (rnd(8)) drop(desk, calls, due);
+    if (rnd(8)) drop(l);
 }
 
 static int is_accepted(const struct text *t) {
@@ -258,27 +360,28 @@ int main(int n, char **words) {
     if (n < 6) fail("usage", "COUNT SEED CALLS DUE TABLE..");
     int texts = atoi(words[1]);
     seed = strtoull(words[2], NULL, 10) * 2 + 1;
-    FILE *calls = opened(words[3], "wb"), *due = opened(words[4], "w");
+    struct list list = {reference_desk(), {0, 0}, opened(words[3], "wb"), opened(words[4], "w")};
     static struct pool pool;
     static struct text t;
     static struct counts seen;
+    static struct measures measures;
     static struct both writers[] = {
         {.name = "mark_design", .ours = mark_design, .reference = reference_mark},
         {.name = "unmark_design", .ours = unmark_design, .reference = reference_unmark},
     };
     read_pool(&pool, n - 5, words + 5);
-    struct reference_desk *desk = reference_desk();
     for (int i = 0; i < texts; i++) {
         make_text(&t, &pool);
         check_one(i, &t, &seen);
         for (int k = 0; k < 2; k++) write_one(i, &t, &writers[k]);
-        desk_one(desk, &t, calls, due);
+        desk_one(&list, &t, measure_one(i, &t, &measures));
     }
-    reference_free(desk);
-    if (fclose(calls) || fclose(due)) fail("cannot write", words[3]);
+    reference_free(list.desk);
+    if (fclose(list.calls) || fclose(list.due)) fail("cannot write", words[3]);
     printf("fuzz: %d texts, %d buffers each: no difference\n", texts, LENGTHS);
     print_counts("texts", seen.all);
     print_counts("of them with marks", seen.marked);
     printf("fuzz: %u of these get another report without the line of kind 8\n", seen.by_marks);
     for (int k = 0; k < 2; k++) print_writer(&writers[k]);
+    print_measures(&measures);
 }

@@ -1,6 +1,7 @@
 #!/usr/bin/env bash
 # Compares the checker with the stored reports of compare/reports.tsv: each table by check_table, and by desk_calls in five divisions of
-# its states, every answer of every call. Ends with 1 at the first difference. compare/remake.sh makes the stored reports.
+# its states, every answer of every call; then with the stored measures of compare/measures.tsv, by desk_calls. Ends with 1 at the first
+# difference. compare/remake.sh makes what is stored.
 # Usage: run.sh [MOST]. A division that takes more than MOST advances, 5,000 if not given, is left out; 70000 leaves out none.
 set -euo pipefail
 cd "$(dirname "$0")/.."
@@ -83,3 +84,46 @@ if ! cut -f 1 "$work/due" | cmp -s - "$work/answers"; then
 fi
 lists=$(wc -l < "$work/plan")
 echo "compare: $count tables, $lists lists of desk calls with $(wc -l < "$work/answers") answers: no difference; $((count * 5 - lists)) lists left out as too long"
+
+# The measures: no slice long enough, then just long enough; longer ones in the middle of the walk and after it.
+echo 'measure 4' > "$work/calls"
+while IFS=$'\t' read -r name states _; do
+    text=$(< "compare/tables/$name.txt")
+    printf 'load %s\n%s\n\nmeasure %s\nmeasure %s\n' $((${#text} + 1)) "$text" $((states - 1)) "$states"
+    printf 'advance 1\nmeasure %s\nadvance 65536\nverdict\nmeasure %s\ndrop\n' $((states + 3)) $((states + 300))
+done < compare/measures.tsv >> "$work/calls"
+target/bin/desk_calls < "$work/calls" > "$work/answers"
+awk -F '\t' '
+    function due(words) { print words "\t" $1 }
+    function measure(more,    words, i) {
+        words = $3
+        if (words ~ /^loop/) for (i = 0; i < $2; i++) words = words " 0"
+        if (words !~ /^turned/) for (i = 0; i < more; i++) words = words " 65535"
+        due(words)
+    }
+    BEGIN { print "turned down 11\tthe empty desk" }
+    FNR == NR { report[$1] = $2; next }
+    {
+        split(report[$1], r, " ")
+        end = r[1] == 0 ? "accepted" : "failed"
+        examined = r[1] == 0 ? $2 : r[2] == 1 ? 0 : r[3] + 1
+        due("load 0")
+        due("turned down 17")
+        measure(0)
+        due(examined > 1 ? "open 1" : end " " examined)
+        measure(3)
+        due(examined > 1 ? end " " examined - 1 : "turned down 14")
+        due("verdict " r[1] + 0 " " r[2] + 0 " " r[3] + 0 " " r[4] + 0 " " r[5] + 0)
+        measure(300)
+        due("drop 0")
+    }' compare/reports.tsv compare/measures.tsv > "$work/due"
+# Of a loop any of the states that are listed may be named.
+paste "$work/due" "$work/answers" | awk -F '\t' '
+    function is_due(due, got,    d, g) {
+        if (due !~ /^loop/) return due == got
+        split(due, d, " ")
+        split(got, g, " ")
+        return g[1] == "loop" && index("," d[2] ",", "," g[2] ",") && substr(due, 6 + length(d[2])) == substr(got, 6 + length(g[2]))
+    }
+    NF != 3 || !is_due($1, $3) { print "compare: " $2 ": \"" $1 "\" is due, desk_calls writes \"" $3 "\""; exit 1 }'
+echo "compare: $(wc -l < compare/measures.tsv) measures, $(wc -l < "$work/answers") answers: no difference"

@@ -1,5 +1,5 @@
 #!/usr/bin/env python3
-"""Writes the tables of compare/tables that are edges of the rules: each limit, turned-down number and criterion, and marks.
+"""Writes the tables of compare/tables that are edges of the rules: each limit, turned-down number and criterion, marks, and measures.
 
 Usage: tables.py DIRECTORY. The same files come out each time. The other tables there are kept by hand.
 """
@@ -694,9 +694,104 @@ def wide_marks():
                 put("m_%s_alone_marked_%d_%d" % (name, price, s), marked(table, [16] + here + [14] + at_state(1, price)))
 
 
+# Measures. An edge is a row of its own: where it starts, where it leads, and its formula, which is true if it isn't given.
+
+def edges(states, *listed, visible=(), outside=()):
+    """So many states in one parameter, and steps along these edges; the invariant holds but in the states outside."""
+    rows = [[0, 1, 12, 1, 0, 0, start, 0, 0, 0, end] for start, end, *_ in listed]
+    invariant = [10]
+    for state in outside:
+        invariant = [15, 14, 12, 1, 0, 0, state] + invariant
+    table = small(parameters=[(states, 0)], rows=rows + list(visible), invariant=invariant)
+    return marked(table, *[rest[0] if rest else [10] for _, _, *rest in listed])
+
+
+def along(*states):
+    return list(zip(states, states[1:]))
+
+
+def runs():
+    put("o_no_row", small(parameters=[(3, 0)]))
+    put("o_never_enabled", small(parameters=[(3, 0)], rows=[[0, 4, 11, 0, 0, 1, 0]]))
+    put("o_one_step", edges(2, (1, 0)))
+    put("o_rising", edges(8, *along(*range(8))))
+    put("o_falling", edges(8, *along(*range(7, -1, -1))))
+    put("o_scattered", edges(8, *along(5, 2, 7, 0, 3, 6, 1, 4)))
+    put("o_scattered_rows_too", edges(8, (3, 6), (1, 4), (7, 0), (5, 2), (6, 1), (2, 7), (0, 3)))
+    put("o_longer_way_first", edges(5, *along(0, 1, 2, 3), (0, 3)))
+    put("o_longer_way_last", edges(5, (0, 3), *along(0, 1, 2, 3)))
+    put("o_two_ends", edges(6, *along(0, 1, 2), *along(0, 3, 4, 5)))
+    put("o_same_edge_twice", edges(4, (2, 1), (2, 1), (3, 2), (3, 1), (3, 2)))
+    put("o_unmarked_between", edges(5, (4, 3), (3, 2, [11]), (2, 1), (1, 0)))
+    put("o_unmarked_longer", edges(4, (3, 0), (3, 2, [11]), (2, 1), (1, 0)))
+    put("o_mark_elsewhere", edges(3, (2, 1, [12, 1, 0, 0, 1]), (1, 0, [12, 1, 0, 0, 1])))
+    put("o_outside", edges(5, *along(4, 3, 2, 1, 0), outside=[4]))
+    put("o_outside_all_but_initial", edges(3, (2, 1), (1, 2), outside=[1, 2]))
+    # 5 states; from each to all below by the sum value, and where that is not below, to itself unmarked.
+    below = [0, 256, 10, 0, 0, 6, 13, 2, 1, 0, 2, 1, 0]
+    put("o_all_below", marked(small(parameters=[(5, 0)], rows=[below]), [13, 2, 1, 0]))
+    put("o_next_below", marked(small(parameters=[(5, 0)], rows=[below]), [12, 3, 2, 0, 1, 1, 0]))
+    put("o_loop_at_last_sum", marked(small(parameters=[(5, 0)], rows=[below]), [16, 13, 2, 1, 0, 12, 2, 0, 255]))
+    # The second parameter counts down, then the first.
+    not_first = [14, 15, 12, 1, 0, 0, 0, 12, 1, 1, 0, 0]
+    down = [0, 0, 6, 12, 1, 1, 0, 0, 4, 1, 0, 0, 1, 1, 0, 6, 12, 1, 1, 0, 0, 0, 4, 4, 1, 1, 0, 1]
+    put("o_two_parameters", small(parameters=[(6, 0), (5, 0)], rows=[[0, 1, *not_first, *down]]))
+    put("o_18_two_parameters_unmarked", marked(small(parameters=[(6, 0), (5, 0)], rows=[[0, 1, 10, *down]]), not_first))
+
+
+def loops():
+    put("o_loop_itself", edges(3, (1, 1)))
+    put("o_loop_itself_only_state", edges(1, (0, 0)))
+    put("o_loop_itself_last_of_chain", edges(6, *along(0, 1, 2, 3, 4, 5), (5, 5)))
+    put("o_loop_two", edges(2, (0, 1), (1, 0)))
+    put("o_loop_all", edges(7, *along(0, 3, 6, 2, 5, 1, 4, 0)))
+    put("o_loop_led_to", edges(8, *along(0, 1, 2, 3), *along(6, 7, 4, 6), (3, 4)))
+    put("o_loop_left", edges(8, *along(4, 7, 5, 4), *along(5, 0, 1, 2)))
+    put("o_loop_led_to_and_left", edges(7, *along(0, 1, 2), *along(2, 4, 2), *along(4, 5, 6)))
+    put("o_loops_apart", edges(7, *along(1, 2, 1), *along(4, 6, 5, 4)))
+    put("o_loops_state_between", edges(7, *along(5, 6, 5), *along(6, 0, 2), *along(2, 3, 2)))
+    put("o_loops_state_between_falling", edges(7, *along(0, 1, 0), *along(1, 4, 6), *along(6, 5, 6)))
+    put("o_loops_that_meet", edges(6, *along(0, 1, 2, 0), *along(2, 3, 4, 2)))
+    put("o_loop_by_second_way", edges(5, *along(0, 1, 2, 3), (1, 3), (3, 1)))
+    put("o_near_loop_unmarked", edges(5, *along(0, 1, 2, 3, 4), (4, 0, [11])))
+    put("o_near_loop_marked_elsewhere", edges(5, *along(0, 1, 2, 3, 4), (4, 0, [13, 1, 0, 0, 4])))
+    put("o_near_loop_outside", edges(5, *along(4, 0, 1, 2, 3), outside=[4]))
+    put("o_loop_outside", edges(6, *along(3, 4, 5, 3), (5, 1), (1, 0), outside=[3, 4, 5]))
+    put("o_loop_led_to_from_outside", edges(5, *along(4, 0, 1, 0), outside=[4]))
+    put("o_loop_unmarked", edges(4, (3, 2), (2, 3, [11]), (1, 1, [11]), (1, 0)))
+    put("o_loop_visible", edges(3, (2, 1), (1, 0), visible=[[1, 1, 10, 0, 0, 0, 2]]))
+    put("o_loop_no_line", edges(4, *along(0, 1, 2, 3), (3, 1, [11]))[:-1])
+
+
+def steps_that_leave():
+    chain = along(3, 2, 1)
+    put("o_18_size", edges(4, *chain, (1, 4)))
+    put("o_18_size_unmarked", edges(4, *chain, (1, 4, [11])))
+    put("o_18_invariant", edges(4, *chain, (1, 0), outside=[0]))
+    put("o_18_invariant_unmarked", edges(4, *chain, (1, 0, [11]), outside=[0]))
+    put("o_18_visible_size", edges(4, *chain, visible=[[1, 1, 12, 1, 0, 0, 3, 0, 0, 0, 4]]))
+    put("o_18_visible_invariant", edges(4, *chain, visible=[[1, 1, 12, 1, 0, 0, 3, 0, 0, 0, 0]], outside=[0]))
+    put("o_18_visible_last_sum", edges(4, *chain, visible=[[1, 256, 10, 0, 0, 6, 12, 2, 0, 255, 0, 4, 1, 0]]))
+    put("o_18_and_loop", edges(4, *chain, (1, 3), (2, 4)))
+    put("o_leaves_outside", edges(4, *chain, (0, 4), visible=[[1, 1, 12, 1, 0, 0, 0, 0, 0, 0, 9]], outside=[0]))
+
+
+def long_runs():
+    """300 states in a chain that rises, falls or is scattered, and what comes after its last state, 7."""
+    for name, by in (("rising", 1), ("falling", 299), ("scattered", 197)):
+        after = [5, 3, 1, 0, 0, by, 0, 300]
+        stops = [0, 1, 14, 12, 1, 0, 0, 7, 0, 0] + after
+        goes_on = [0, 1, 10, 0, 0]
+        put("o_long_" + name, small(parameters=[(300, 0)], rows=[stops]))
+        put("o_long_%s_unmarked" % name, marked(small(parameters=[(300, 0)], rows=[goes_on + after]), [14, 12, 1, 0, 0, 7]))
+        put("o_loop_long_%s_stays" % name, small(parameters=[(300, 0)], rows=[goes_on + choice([12, 1, 0, 0, 7], [0, 7], after)]))
+        middle = (7 + 280 * by) % 300
+        put("o_loop_long_%s_back" % name, small(parameters=[(300, 0)], rows=[goes_on + choice([12, 1, 0, 0, 7], [0, middle], after)]))
+
+
 for part in (long_texts, bad_columns, many_fields, shapes, bounds, terms, actions, together, criteria, many_states, all_marked,
              marks_of_designs, count_of_marks, place_of_marks, terms_of_marks, fields_of_marks, faults_with_marks, marks_by_sum,
-             order_of_marks, focus_points, marks_and_criteria, wide_marks):
+             order_of_marks, focus_points, marks_and_criteria, wide_marks, runs, loops, steps_that_leave, long_runs):
     part()
 for name, table in made.items():
     with open(os.path.join(directory, name + ".txt"), "wb") as file:

@@ -1,4 +1,5 @@
-// Texts made from a seed: designs, those that try again among them, with and without marks; changed and damaged ones; and what is long.
+// Texts made from a seed: designs, those that try again and those about measures among them, with and without marks; changed and damaged
+// ones; and what is long.
 #ifndef TEXTS_H
 #define TEXTS_H
 #include <stdint.h>
@@ -363,6 +364,241 @@ static void trying(struct text *t) {
     line_end(t);
 }
 
+// Designs about measures: internal steps along edges that are listed, or along a chain of all states. Some are loops, or nearly so. The
+// specification has one state.
+
+enum { MOST_EDGES = 24, EDGES_IN_ROW = 8 };
+
+struct runs {
+    unsigned params, size[2], states, outside[4], outsides; // the states where the invariant doesn't hold
+    struct text rows, marks;
+};
+
+// So many states, or some more, in one parameter or two.
+static void shape(struct runs *d, unsigned states) {
+    unsigned low = rnd(2) ? 1 : 2 + rnd(5);
+    d->params = low == 1 ? 1 : 2;
+    d->size[0] = (states + low - 1) / low;
+    d->size[1] = low;
+    d->states = d->size[0] * low;
+    d->outsides = d->rows.len = d->marks.len = 0;
+}
+
+// A parameter's value. The state after the last is out of the sizes.
+static unsigned part(const struct runs *d, unsigned i, unsigned state) { return i ? state % d->size[1] : state / d->size[1]; }
+
+// Holds in this state.
+static void at(struct text *t, const struct runs *d, unsigned state) {
+    if (d->params == 2) field(t, 15);
+    for (unsigned i = 0; i < d->params; i++) fields(t, 5, (unsigned[]){12, 1, i, 0, part(d, i, state)});
+}
+
+static void next_is(struct text *t, const struct runs *d, unsigned state) {
+    for (unsigned i = 0; i < d->params; i++) fields(t, 2, (unsigned[]){0, part(d, i, state)});
+}
+
+// Anywhere or at a state; leads to a state, or stays.
+static void visible_step(struct runs *d) {
+    fields(&d->rows, 3, (unsigned[]){3, 1, 2});
+    if (rnd(2)) field(&d->rows, 10); else at(&d->rows, d, rnd(d->states));
+    fields(&d->rows, 2, (unsigned[]){0, 0});
+    if (rnd(8) == 0) next_is(&d->rows, d, d->outsides ? d->outside[0] : d->states);
+    else for (unsigned i = 0; i < d->params; i++) fields(&d->rows, 2, (unsigned[]){1, i});
+    line_end(&d->rows);
+}
+
+// Edges.
+
+struct edge {
+    unsigned from, to, marked;
+};
+
+struct edges {
+    struct edge edge[MOST_EDGES];
+    unsigned n;
+};
+
+static void edge(struct edges *e, unsigned from, unsigned to, unsigned marked) {
+    if (e->n < MOST_EDGES) e->edge[e->n++] = (struct edge){from, to, marked};
+}
+
+// Where up to five marked edges lead.
+static unsigned on_from(const struct edges *e, unsigned state) {
+    for (unsigned steps = rnd(6); steps > 0; steps--) {
+        unsigned first = rnd(e->n), i = 0;
+        while (i < e->n && !(e->edge[(first + i) % e->n].marked && e->edge[(first + i) % e->n].from == state)) i++;
+        if (i == e->n) return state;
+        state = e->edge[(first + i) % e->n].to;
+    }
+    return state;
+}
+
+// These numbers, by the sum value.
+static void by_sum(struct text *t, const unsigned *numbers, unsigned from, unsigned below) {
+    unsigned middle = (from + below) / 2;
+    if (below - from == 1) { fields(t, 2, (unsigned[]){0, numbers[from]}); return; }
+    fields(t, 5, (unsigned[]){6, 13, 2, 0, middle});
+    by_sum(t, numbers, from, middle);
+    by_sum(t, numbers, middle, below);
+}
+
+// A row with an edge for each sum value.
+static void row_of_edges(struct runs *d, const struct edge *e, unsigned n) {
+    unsigned numbers[EDGES_IN_ROW], unmarked = 0;
+    fields(&d->rows, 3, (unsigned[]){3, 0, n});
+    if (d->params == 2) field(&d->rows, 15);
+    for (unsigned i = 0; i < d->params; i++) {
+        for (unsigned k = 0; k < n; k++) numbers[k] = part(d, i, e[k].from);
+        fields(&d->rows, 3, (unsigned[]){12, 1, i});
+        by_sum(&d->rows, numbers, 0, n);
+    }
+    fields(&d->rows, 2, (unsigned[]){0, 0});
+    for (unsigned i = 0; i < d->params; i++) {
+        for (unsigned k = 0; k < n; k++) numbers[k] = part(d, i, e[k].to);
+        by_sum(&d->rows, numbers, 0, n);
+    }
+    line_end(&d->rows);
+    for (unsigned k = 0; k < n; k++) { numbers[k] = e[k].marked; unmarked += !e[k].marked; }
+    if (!unmarked && rnd(2)) { field(&d->marks, 10); return; }
+    fields(&d->marks, 3, (unsigned[]){12, 0, 1});
+    by_sum(&d->marks, numbers, 0, n);
+}
+
+static void rows_of_edges(struct runs *d, struct edges *e) {
+    for (unsigned i = e->n; i-- > 1;) {
+        unsigned j = rnd(i + 1);
+        struct edge other = e->edge[j];
+        e->edge[j] = e->edge[i];
+        e->edge[i] = other;
+    }
+    for (unsigned i = 0, n; i < e->n; i += n) {
+        unsigned left = e->n - i;
+        n = 1 + rnd(left < EDGES_IN_ROW ? left : EDGES_IN_ROW);
+        row_of_edges(d, &e->edge[i], n);
+    }
+}
+
+// One edge more: one that closes a loop of steps that are marked, or nearly so; one outside the invariant; one that leaves; one that is there
+// already; or any that is unmarked.
+static void another_edge(const struct runs *d, const unsigned *order, struct edges *e) {
+    unsigned inside = order[d->outsides + rnd(d->states - d->outsides)];
+    switch (rnd(8)) {
+    case 0: case 1: edge(e, on_from(e, inside), inside, 1); break;
+    case 2: case 3: edge(e, on_from(e, inside), inside, 0); break;
+    case 4: if (d->outsides) edge(e, order[rnd(d->outsides)], order[rnd(d->outsides)], 1); break;
+    case 5: edge(e, order[rnd(d->states)], d->outsides && rnd(2) ? order[0] : d->states, rnd(2)); break;
+    case 6: edge(e, e->edge[0].from, e->edge[0].to, rnd(2)); break;
+    default: edge(e, order[rnd(d->states)], inside, 0);
+    }
+}
+
+// Edges that lead on in an order of the states, the first of which are outside the invariant, and others.
+static void listed(struct runs *d) {
+    unsigned order[32];
+    struct edges e = {.n = 0};
+    shape(d, 2 + rnd(14));
+    for (unsigned i = 0; i < d->states; i++) {
+        unsigned j = rnd(i + 1);
+        order[i] = order[j];
+        order[j] = i;
+    }
+    unsigned last = d->states - 1, outsides = rnd(2) ? 0 : rnd(last < 4 ? last + 1 : 5);
+    while (d->outsides < outsides) { d->outside[d->outsides] = order[d->outsides]; d->outsides++; }
+    for (unsigned edges = 1 + rnd(16); edges > 0; edges--) {
+        unsigned i = rnd(last);
+        edge(&e, order[i], order[rnd(2) ? i + 1 : i + 1 + rnd(last - i)], rnd(8) > 0);
+    }
+    for (unsigned others = rnd(4); others > 0; others--) another_edge(d, order, &e);
+    if (rnd(4) == 0) visible_step(d);
+    rows_of_edges(d, &e);
+    if (rnd(4) == 0) visible_step(d);
+}
+
+// Chains.
+
+static unsigned gcd(unsigned a, unsigned b) { return b ? gcd(b, a % b) : a; }
+
+// Rising, falling, or scattered: each state's number and this one give the next, by the number of states.
+static unsigned stride(unsigned states) {
+    unsigned by = rnd(3) ? 1 + rnd(states) : rnd(2) ? 1 : states - 1;
+    while (gcd(by, states) != 1) by = by % states + 1;
+    return by;
+}
+
+// The next value of a parameter along the chain.
+static void along(struct text *t, const struct runs *d, unsigned i, unsigned by) {
+    fields(t, 2, (unsigned[]){5, 3});
+    if (i == 0 && d->params == 2) fields(t, 11, (unsigned[]){3, 6, 13, 1, 1, 0, d->size[1] - part(d, 1, by), 0, 0, 0, 1});
+    fields(t, 6, (unsigned[]){1, i, 0, part(d, i, by), 0, d->size[i]});
+}
+
+// How a chain ends, if at all.
+enum chain_end { STOPS, UNMARKED, UNMARKED_ONCE, MARKED_ONCE, GOES_ROUND, STAYS, GOES_BACK, OUT_OF_SIZE, OUT_OF_INVARIANT, CHAIN_ENDS };
+
+// An internal step from any state to the next one of the chain; something is otherwise in its end.
+static void chain_row(struct runs *d, unsigned by, unsigned end, enum chain_end how) {
+    unsigned span = rnd(2) ? 1 : 1 + rnd(4), before = (end + d->states - by) % d->states;
+    unsigned other = how == STAYS ? end : how == GOES_BACK ? rnd(d->states) : d->states;
+    struct text here = {.len = 0};
+    at(&here, d, how == OUT_OF_INVARIANT ? before : end);
+    fields(&d->rows, 3, (unsigned[]){3, 0, span});
+    if (how == STOPS || (how == OUT_OF_INVARIANT && rnd(2))) { field(&d->rows, 14); add(&d->rows, &here); } else field(&d->rows, 10);
+    fields(&d->rows, 2, (unsigned[]){0, 0});
+    for (unsigned i = 0; i < d->params; i++) {
+        if (how == STAYS || how == GOES_BACK || how == OUT_OF_SIZE) {
+            field(&d->rows, 6);
+            add(&d->rows, &here);
+            fields(&d->rows, 2, (unsigned[]){0, part(d, i, other)});
+        }
+        along(&d->rows, d, i, by);
+    }
+    line_end(&d->rows);
+    if (how == UNMARKED) { field(&d->marks, 14); add(&d->marks, &here); }
+    else if (how == UNMARKED_ONCE) { fields(&d->marks, 6, (unsigned[]){14, 15, 12, 2, 0, rnd(span)}); add(&d->marks, &here); }
+    else if (how == MARKED_ONCE) { fields(&d->marks, 6, (unsigned[]){16, 12, 2, 0, rnd(span + 1), 14}); add(&d->marks, &here); }
+    else field(&d->marks, 10);
+    if (how == OUT_OF_INVARIANT) { d->outside[0] = end; d->outsides = 1; }
+}
+
+// From a state of the chain to one further on, seldom further back; marked always, never or for one sum value.
+static void jump_row(struct runs *d, unsigned by, unsigned end) {
+    unsigned n = d->states, span = 1 + rnd(3), from = rnd(n), on = rnd(n), back = rnd(8) == 0, mark = rnd(3);
+    if ((from > on) != back) { unsigned first = from; from = on; on = first; }
+    fields(&d->rows, 3, (unsigned[]){3, 0, span});
+    at(&d->rows, d, (end + (from + 1) * by) % n);
+    fields(&d->rows, 2, (unsigned[]){0, 0});
+    next_is(&d->rows, d, (end + (on + 1) * by) % n);
+    line_end(&d->rows);
+    if (mark == 2) fields(&d->marks, 4, (unsigned[]){12, 2, 0, rnd(span)}); else field(&d->marks, 10 + mark);
+}
+
+static void chain(struct runs *d) {
+    shape(d, rnd(2) ? 2 + rnd(12) : rnd(3) ? 10 + rnd(60) : 100 + rnd(250));
+    unsigned by = stride(d->states), end = rnd(d->states);
+    enum chain_end how = rnd(3) ? rnd(CHAIN_ENDS) : rnd(GOES_ROUND);
+    if (rnd(4) == 0) visible_step(d);
+    chain_row(d, by, end, how);
+    for (unsigned jumps = rnd(2) * rnd(4); jumps > 0; jumps--) jump_row(d, by, end);
+    if (rnd(4) == 0) visible_step(d);
+}
+
+static void about_measures(struct text *t) {
+    static struct runs d;
+    if (rnd(2)) listed(&d); else chain(&d);
+    t->len = 0;
+    for (unsigned i = 0; i < d.params; i++) { fields(t, 3, (unsigned[]){1, d.size[i], rnd(d.size[i])}); line_end(t); }
+    fields(t, 3, (unsigned[]){2, 1, 0}); line_end(t);
+    add(t, &d.rows);
+    if (rnd(2)) { fields(t, 8, (unsigned[]){4, 1, 2, 10, 0, 0, 0, 0}); line_end(t); }
+    field(t, 5);
+    for (unsigned i = 0; i < d.outsides; i++) { fields(t, 2, (unsigned[]){15, 14}); at(t, &d, d.outside[i]); }
+    field(t, 10); line_end(t);
+    fields(t, 3, (unsigned[]){6, 0, 0}); line_end(t);
+    field(t, 7); value(t, 1 + rnd(2), d.params, 0); line_end(t);
+    if (rnd(8) == 0) return;
+    field(t, 8); add(t, &d.marks); line_end(t);
+}
+
 // Lines of kind 8 for any text.
 
 // The lines that begin so.
@@ -577,7 +813,7 @@ static void made(struct text *t) {
 }
 
 static void make_text(struct text *t, const struct pool *p) {
-    switch (rnd(24)) {
+    switch (rnd(32)) {
     case 0: case 1: case 2: case 3: case 4: made(t); break;
     case 5: case 6: made(t); mutate(t); break;
     case 7: made(t); damage(t); break;
@@ -592,6 +828,9 @@ static void make_text(struct text *t, const struct pool *p) {
     case 20: from_pool(t, p); for (int i = 1 + rnd(2); i > 0; i--) damage(t); break;
     case 21: from_pool(t, p); mark_text(t); if (rnd(2)) mutate(t); break;
     case 22: from_pool(t, p); mutate(t); damage(t); break;
+    case 23: case 24: case 25: case 26: case 27: case 28: about_measures(t); break;
+    case 29: about_measures(t); flip(t, some_field(t)); break;
+    case 30: about_measures(t); if (rnd(2)) mutate(t); else mark_text(t); break;
     default: if (rnd(4)) { made(t); for (int i = 1 + rnd(6); i > 0; i--) mutate(t); } else if (rnd(2)) filled(t); else full(t);
     }
 }

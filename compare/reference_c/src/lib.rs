@@ -1,7 +1,11 @@
-//! The reference checker for C programs: its one-call check, its two writers and its desk. reference.h says what each function does.
+//! The reference checker for C programs: its one-call check, its two writers, its measures and their judge, and its desk. reference.h says
+//! what each function does.
 
+use reference_checker::criteria::state_count;
+use reference_checker::design::load_at;
 use reference_checker::desk::{Advanced, Desk, Standing};
 use reference_checker::level::Level;
+use reference_checker::made::{judge, Made};
 use reference_checker::sorts::{to_marked, to_unmarked};
 use std::slice;
 use std::sync::LazyLock;
@@ -12,19 +16,19 @@ static LEVEL: LazyLock<Level> = LazyLock::new(|| {
     number.and_then(Level::new).expect("compare/level has a number that the reference knows")
 });
 
-unsafe fn lent<'a>(bytes: *const u8, len: usize) -> &'a [u8] {
+unsafe fn lent<'a, T>(first: *const T, len: usize) -> &'a [T] {
     if len == 0 {
         &[]
     } else {
-        slice::from_raw_parts(bytes, len)
+        slice::from_raw_parts(first, len)
     }
 }
 
-unsafe fn lent_to_write<'a>(bytes: *mut u8, len: usize) -> &'a mut [u8] {
+unsafe fn lent_to_write<'a, T>(first: *mut T, len: usize) -> &'a mut [T] {
     if len == 0 {
         &mut []
     } else {
-        slice::from_raw_parts_mut(bytes, len)
+        slice::from_raw_parts_mut(first, len)
     }
 }
 
@@ -57,6 +61,49 @@ pub unsafe extern "C" fn reference_mark(text: *const u8, text_len: usize, buffer
 #[no_mangle]
 pub unsafe extern "C" fn reference_unmark(text: *const u8, text_len: usize, buffer: *mut u8, buffer_len: usize, number: *mut u32) -> usize {
     written(to_unmarked(*LEVEL, lent(text, text_len), lent_to_write(buffer, buffer_len)), number)
+}
+
+/// What is returned for a measure, and the number that is told beside it.
+fn returned(answer: Result<Made, u8>) -> (u32, u32) {
+    match answer {
+        Ok(Made::Measure) => (0, 0),
+        Ok(Made::Loop(state)) => (1, state),
+        Err(refusal) => (2, u32::from(refusal)),
+    }
+}
+
+/// # Safety
+/// The text's bytes are there, and so are the slice and the number, which nothing else uses.
+#[no_mangle]
+pub unsafe extern "C" fn reference_measure(text: *const u8, text_len: usize, slice: *mut u16, slice_len: usize, number: *mut u32) -> u32 {
+    let mut desk = Desk::new();
+    let loaded = desk.load_at(*LEVEL, lent(text, text_len));
+    let (result, told) = returned(loaded.and_then(|()| desk.make_measure(lent_to_write(slice, slice_len))));
+    *number = told;
+    result
+}
+
+/// # Safety
+/// The text's bytes are there.
+#[no_mangle]
+pub unsafe extern "C" fn reference_states(text: *const u8, text_len: usize) -> usize {
+    load_at(*LEVEL, lent(text, text_len)).map_or(0, |design| state_count(&design) as usize)
+}
+
+/// # Safety
+/// The text's bytes are there, and so are the slice's numbers before and after.
+#[no_mangle]
+pub unsafe extern "C" fn reference_judge(
+    text: *const u8, text_len: usize, before: *const u16, after: *const u16, slice_len: usize, result: u32, number: u32,
+) -> i32 {
+    let answer = match (result, u8::try_from(number)) {
+        (0, Ok(0)) => Ok(Made::Measure),
+        (1, _) => Ok(Made::Loop(number)),
+        (2, Ok(refusal)) => Err(refusal),
+        _ => return 0,
+    };
+    let right = |design| judge(&design, lent(before, slice_len), answer, lent(after, slice_len)).is_ok();
+    i32::from(load_at(*LEVEL, lent(text, text_len)).is_ok_and(right))
 }
 
 #[no_mangle]
@@ -117,4 +164,13 @@ pub unsafe extern "C" fn reference_verdict(desk: *const Desk, numbers: *mut u16)
 #[no_mangle]
 pub unsafe extern "C" fn reference_drop(desk: *mut Desk) -> u32 {
     done((*desk).drop())
+}
+
+/// # Safety
+/// The desk comes from `reference_desk`; the slice and the number are there, and nothing else uses them.
+#[no_mangle]
+pub unsafe extern "C" fn reference_desk_measure(desk: *const Desk, slice: *mut u16, slice_len: usize, number: *mut u32) -> u32 {
+    let (result, told) = returned((*desk).make_measure(lent_to_write(slice, slice_len)));
+    *number = told;
+    result
 }
