@@ -31,7 +31,7 @@ use Rattle.answers.specs.declared.Measured.the-variants.{Filled, Loop, TurnedDo
 use Rattle.answers.specs.Answers.{measuredNumber}
 use Rattle.longest_runs.specs.Runs.{KeptPast}
 use Rattle.longest_runs.proofs.Kept.{kept-none}
-use Rattle.measure.specs.Made.{numberAt, LongestRuns, Made, leaves, filled, loop, SameAnswer, both-filled, both-loop, both-refused, MeasureIn, short, has-room}
+use Rattle.measure.specs.Answer.{numberAt, LongestRuns, Made, leaves, filled, loop, SameAnswer, both-filled, both-loop, both-refused, MeasureIn, short, has-room}
 use Rattle.measuring.proofs.Laws.{one-text}
 use Rattle.measuring.specs.Measured.{MeasureText, faulty, design-text, Tells, resultOf, numberTold}
 use Rattle.desk.specs.declared.Desk.{Desk}

@@ -17,7 +17,7 @@ use Rattle.design.specs.Faults.{DesignText}
 use Rattle.answers.specs.declared.Measured.{Measured}
 use Rattle.answers.specs.declared.Measured.the-variants.{Filled, Loop, TurnedDown}
 use Rattle.longest_runs.specs.Runs.{KeptPast}
-use Rattle.measure.specs.Made.{numberAt, LongestRuns, AllZero, SameAnswer}
+use Rattle.measure.specs.Answer.{numberAt, LongestRuns, AllZero, SameAnswer}
 use Rattle.measuring.specs.Measured.{resultOf, numberTold}
 use Rattle.desk.specs.declared.Desk.{Desk}
 use Rattle.desk.specs.declared.AfterMeasure.{AfterMeasure}

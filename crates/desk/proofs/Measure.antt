@@ -11,9 +11,9 @@ use Rattle.answers.specs.declared.Phase.the-variants as phase
 use Rattle.answers.specs.declared.Measured.{Measured}
 use Rattle.answers.specs.declared.Measured.the-variants as measured
 use Rattle.answers.specs.Answers.{measuredNumber, emptyNumber}
-use Rattle.measure.specs.Made.{leaves, filled, loop, MeasureIn, short, has-room, SameAnswer, both-refused}
-use Rattle.measure.proofs.There.{measure-there}
-use Rattle.measure.proofs.One.{one-measure, refused-unwritten}
+use Rattle.measure.specs.Answer.{leaves, filled, loop, MeasureIn, short, has-room, SameAnswer, both-refused}
+use Rattle.measure.proofs.Existence.{measure-there}
+use Rattle.measure.proofs.Determined.{one-measure, refused-unwritten}
 use Rattle.desk.specs.declared.Desk.{Desk}
 use Rattle.desk.specs.Measure.{MeasureNumber, on-empty, without-room, criterion-fails, done, MeasureOf, refused-empty, on-loaded}
 

@@ -1,5 +1,5 @@
 -- What a measure answers and writes on a desk (02, order 4): "Answers: after 11, 17 .., then 18". `before` and `after` are what the slice holds
--- before the call and after it; the rest is in measure/specs/Made. That there is an answer, and but for the state that it names one only, is in
+-- before the call and after it; the rest is in measure/specs/Answer. That there is an answer, and but for the state that it names one only, is in
 -- proofs/Measure.
 use mathlib.Core.Path.{_≡_}
 use mathlib.Core.Logic.{_≢_}
@@ -10,7 +10,7 @@ use Rattle.answers.specs.declared.Measured.{Measured}
 use Rattle.answers.specs.declared.Measured.the-variants.{TurnedDown}
 use Rattle.criteria.specs.Measure.{MeetsThird, FailsThird}
 use Rattle.design.specs.Loaded.{designIn}
-use Rattle.measure.specs.Made.{HasRoom, MeasureIn}
+use Rattle.measure.specs.Answer.{HasRoom, MeasureIn}
 use Rattle.desk.specs.declared.Desk.{Desk}
 
 -- the number that it returns in n places: 11 on an empty desk, else 17 without room, else 18 where criterion 3 fails in some state; 0 is done

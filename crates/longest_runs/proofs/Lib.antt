@@ -5,4 +5,4 @@ pub mod Underway
 pub mod Kept
 pub mod Looks
 pub mod Turns
-pub mod There
+pub mod Existence

@@ -1,4 +1,4 @@
 pub mod Runs
 pub mod Room
-pub mod There
-pub mod One
+pub mod Existence
+pub mod Determined

@@ -28,7 +28,7 @@ use Rattle.longest_runs.specs.declared.Lengths.the-variants as lengths
 use Rattle.criterion3.specs.Third.{Third, meets, fails}
 use Rattle.answers.specs.declared.Measured.{Measured}
 use Rattle.answers.specs.declared.Measured.the-variants as measured
-use Rattle.measure.specs.Made.{HasRoom, Made, leaves, MeasureIn, short, has-room, answerOf}
+use Rattle.measure.specs.Answer.{HasRoom, Made, leaves, MeasureIn, short, has-room, answerOf}
 use Rattle.measure.proofs.Runs.{made-is}
 
 -- ---- spans

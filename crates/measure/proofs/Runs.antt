@@ -1,4 +1,4 @@
--- Runs over steps by number are runs of marked steps of the design: so what the search wrote is what specs/Made says.
+-- Runs over steps by number are runs of marked steps of the design: so what the search wrote is what specs/Answer says.
 use mathlib.Core.Path.{_≡_, refl, sym, _∙_, ap, subst}
 use mathlib.Core.Bool.{Bool, true, false, true≢false, cond}
 use mathlib.Core.List.{List}
@@ -22,7 +22,7 @@ use Rattle.longest_runs.specs.Runs as numbers
 use Rattle.longest_runs.specs.Runs.{Step, Run, stay, more, LongestIs, Written}
 use Rattle.longest_runs.specs.declared.Lengths.{Lengths}
 use Rattle.answers.specs.declared.Measured.the-variants.{Loop}
-use Rattle.measure.specs.Made.{numberAt, Made, filled, loop, answerOf}
+use Rattle.measure.specs.Answer.{numberAt, Made, filled, loop, answerOf}
 
 module _ (f s : List ℕ) (h : Shape) (fits : Fits h) (few : states (designAt f s h) ≤ 65536) (spans : SumsNumbered f s (h .implementation)) (third : MeetsThird (designAt f s h)) where
   abbrev d : Design

@@ -1,6 +1,6 @@
 // A measure for the design in a desk's arrays (02, order 4): the length of the longest run of marked steps from each state where the invariant
 // holds, written in a lent slice, or zeros and a state on a loop; turned down where the slice has not a place for each state, and where
-// criterion 3 fails in some state. What is answered and written is in specs/Made, for any arrays and any slice.
+// criterion 3 fails in some state. What is answered and written is in specs/Answer, for any arrays and any slice.
 use answers::Measured;
 use design::Counts;
 use design::Process;
@@ -8,7 +8,7 @@ use longest_runs::Lengths;
 ghost use mathlib.Core.Path.{_≡_};
 ghost use Rattle.foundation.specs.Reflects.{Reflects};
 ghost use Rattle.marked_edges.specs.Edges.{SumsNumbered};
-ghost use Rattle.measure.specs.Made.{HasRoom, answerOf, MeasureIn};
+ghost use Rattle.measure.specs.Answer.{HasRoom, answerOf, MeasureIn};
 
 // Writes the measure in the slice, or zeros for a loop; turned down, nothing.
 pub fn measure<'a>(

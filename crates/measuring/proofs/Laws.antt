@@ -10,9 +10,9 @@ use Rattle.loader.specs.Load.{faultOf, loadedOf}
 use Rattle.loader.proofs.Passed.{fault-kept}
 use Rattle.answers.specs.declared.Measured.{Measured}
 use Rattle.answers.specs.declared.Measured.the-variants.{TurnedDown}
-use Rattle.measure.specs.Made.{MeasureIn, SameAnswer, both-refused}
-use Rattle.measure.proofs.There.{measure-there}
-use Rattle.measure.proofs.One.{one-measure}
+use Rattle.measure.specs.Answer.{MeasureIn, SameAnswer, both-refused}
+use Rattle.measure.proofs.Existence.{measure-there}
+use Rattle.measure.proofs.Determined.{one-measure}
 use Rattle.measuring.specs.Measured.{MeasureText, faulty, design-text}
 
 module _ (text : List ℕ) (l : Loaded) (el : l ≡ loadedOf text) where

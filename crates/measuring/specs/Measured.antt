@@ -6,7 +6,7 @@ use mathlib.Core.List.{List}
 use Rattle.loader.specs.Load.{faultOf, loadedOf}
 use Rattle.answers.specs.declared.Measured.{Measured}
 use Rattle.answers.specs.declared.Measured.the-variants.{Filled, Loop, TurnedDown}
-use Rattle.measure.specs.Made.{MeasureIn}
+use Rattle.measure.specs.Answer.{MeasureIn}
 
 -- 1 to 7 come first: the text's lowest fault
 pub data MeasureText (text before after : List ℕ) : Measured → Type 0 where

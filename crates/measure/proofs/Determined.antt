@@ -17,7 +17,7 @@ use Rattle.design.specs.declared.Counts.{Counts}
 use Rattle.answers.specs.declared.Measured.{Measured}
 use Rattle.answers.specs.declared.Measured.the-variants.{TurnedDown}
 use Rattle.longest_runs.specs.Runs.{KeptPast}
-use Rattle.measure.specs.Made.{numberAt, LongestRuns, Made, leaves, filled, loop, SameAnswer, both-filled, both-loop, both-refused, MeasureIn, short, has-room}
+use Rattle.measure.specs.Answer.{numberAt, LongestRuns, Made, leaves, filled, loop, SameAnswer, both-filled, both-loop, both-refused, MeasureIn, short, has-room}
 
 module _ (d : Design) (before a b : List ℕ) where
   -- slices that have the same number for each state, and the same past these

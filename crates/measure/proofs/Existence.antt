@@ -20,11 +20,11 @@ use Rattle.design.specs.declared.Shape.{Shape}
 use Rattle.layout.specs.Sizes.{countsFit, shapeOf, stateCountIn}
 use Rattle.steps.specs.Arrays.{rowSpan}
 use Rattle.marked_edges.specs.Edges.{nextIn, SumsNumbered}
-use Rattle.longest_runs.proofs.There.{written-there}
+use Rattle.longest_runs.proofs.Existence.{written-there}
 use Rattle.criterion3.specs.Third.{meets, fails}
 use Rattle.answers.specs.declared.Measured.{Measured}
 use Rattle.answers.specs.declared.Measured.the-variants as measured
-use Rattle.measure.specs.Made.{HasRoom, MeasureIn, short, answerOf}
+use Rattle.measure.specs.Answer.{HasRoom, MeasureIn, short, answerOf}
 use Rattle.measure.proofs.Room.{SpansTo, spans-turn, spans-fail, spans-end, enough, measure-leaves, measure-made}
 
 -- ---- room, or none
