@@ -1,5 +1,6 @@
--- Longest runs as a measure (02, order 4): where criterion 3 holds, what is the length of a longest run in each state where the invariant holds
--- meets criterion 5 and is nowhere larger than any measure that does; a loop rules every such measure out.
+-- Longest runs as a measure (02, order 4): where criterion 3 holds, and criterion 10 but for the measure, what is the length of a longest
+-- run in each state where the invariant holds meets criterion 5 and is nowhere larger than any measure that does; a loop rules every such
+-- measure out.
 use mathlib.Core.Path.{_≡_, _∙_, subst}
 use Prim.Native.Nat.{ℕ, zero, suc, _+_, _≤_, _<_}
 use native.Mathlib.Omega.{arith}
@@ -7,7 +8,7 @@ use Rattle.foundation.specs.Nth.{Nth, first}
 use Rattle.foundation.proofs.Nth.{nth-nil, nth-cons}
 use Rattle.criteria.specs.Design.{Design, State, InvariantState}
 use Rattle.criteria.specs.Step.{MarkedStep, Run, none, more, statesOf, nextState}
-use Rattle.criteria.specs.Measure.{LongestRun, OnLoop, MeetsThird, FailsThird, MeetsFifth}
+use Rattle.criteria.specs.Measure.{LongestRun, OnLoop, Measurable, Unmeasurable, third-fails, tenth-fails, MeetsFifth}
 use Rattle.criteria.proofs.Rows.{step-of}
 
 -- there is one such length
@@ -17,9 +18,10 @@ one-length d s n m a b =
     let u = a .none-longer m (b .end) (b .run) in
     omega arith
 
--- criterion 3 doesn't both hold and fail
-pub not-both : (d : Design) → MeetsThird d → FailsThird d → ⊥
-not-both d all one = one .fails (all (one .state) (one .invariant) (one .at) (one .row) (one .sum) (one .is-row))
+-- criteria 3 and 10 don't both hold and fail
+pub not-both : (d : Design) → Measurable d → Unmeasurable d → ⊥
+not-both d m (third-fails {s = s} {k = k} {e = e} {r = r} i is fails) = fails (m .third s i k r e is)
+not-both d m (tenth-fails {s = s} i fails) = fails (m .tenth s i)
 
 -- a run starts in its first state, and so the invariant holds in a state on a loop
 start-of : {d : Design} {s s′ : State} {n : ℕ} (run : Run d s n s′) → Nth (statesOf run) 1 s
@@ -29,12 +31,12 @@ start-of (more t rest) = first
 pub loop-inside : (d : Design) (s : State) → OnLoop d s → InvariantState d s
 loop-inside d s o = o .among 1 s (start-of (o .run))
 
-module _ (d : Design) (third : MeetsThird d) where
+module _ (d : Design) (measurable : Measurable d) where
   -- a marked step leads inside
   pub marked-inside : (s u : State) → InvariantState d s → MarkedStep d s u → InvariantState d u
   marked-inside s u i t =
       let st = t .internal .step in
-      subst (InvariantState d) (st .goes) (third s i (st .at) (st .row) (st .sum) (st .is-row) (st .enabled))
+      subst (InvariantState d) (st .goes .same) (measurable .third s i (st .at) (st .row) (st .sum) (st .is-row) (st .enabled))
 
   -- and so does a run, all along
   pub run-among : (s s′ : State) (n : ℕ) → InvariantState d s → (run : Run d s n s′) → (k : ℕ) (u : State) → Nth (statesOf run) k u → InvariantState d u
@@ -47,7 +49,7 @@ module _ (d : Design) (third : MeetsThird d) where
     pub step-lowers : (s u : State) → InvariantState d s → MarkedStep d s u → μ u < μ s
     step-lowers s u i t =
         let st = t .internal .step in
-        subst (λ w. μ w < μ s) (st .goes) (fifth s i (st .at) (st .row) (st .sum) (st .is-row) (st .enabled) (st .action ∙ t .internal .zero) (t .marked))
+        subst (λ w. μ w < μ s) (st .goes .same) (fifth s i (st .at) (st .row) (st .sum) (st .is-row) (st .enabled) (st .action ∙ t .internal .zero) (t .marked))
 
     pub run-lowers : (s s′ : State) (n : ℕ) → InvariantState d s → Run d s n s′ → μ s′ + n ≤ μ s
     run-lowers s s′ n i none = omega arith
@@ -69,8 +71,8 @@ module _ (d : Design) (third : MeetsThird d) where
   pub longest-meets : (μ : State → ℕ) → ((s : State) → InvariantState d s → LongestRun d s (μ s)) → MeetsFifth d μ
   longest-meets μ longest s i k r e is on zero-is mark =
       let u : State = nextState r s e in
-      let j : InvariantState d u = third s i k r e is on in
-      let t : MarkedStep d s u = step-of d s (record { at = k; row = r; sum = e; is-row = is; zero = zero-is; enabled = on; marked = mark }) in
+      let j : InvariantState d u = measurable .third s i k r e is on in
+      let t : MarkedStep d s u = step-of d s (measurable .tenth s (i .in-size) .others (i .invariant)) (record { at = k; row = r; sum = e; is-row = is; zero = zero-is; enabled = on; marked = mark }) in
       let a = longest u j in
       let l = longest s i .none-longer (suc (μ u)) (a .end) (more t (a .run)) in
       omega arith

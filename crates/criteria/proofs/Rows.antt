@@ -12,11 +12,14 @@ use lib.ListN.{length, getD, take, List·getD-eq-default}
 use lib.Dec.{eqb}
 use Rattle.foundation.specs.First.{Outcome, pass, fail}
 use Rattle.foundation.proofs.Trial.{place-pass, place-fail}
-use Rattle.terms.specs.Tree.{Formula, noFormula, evalF}
+use Rattle.terms.specs.Tree.{Formula, noFormula, evalF, hasF}
+use Rattle.terms.specs.Meaning.{meantF, Has, Holds}
+use Rattle.terms.proofs.Meaning.{holds-says, says-holds, has-says-f, says-has-f, says-value, has-says-v}
 use Rattle.criteria.specs.Design.{Design, Row, State, RowIs}
 use Rattle.foundation.specs.Nth.{Nth, first, later}
 use Rattle.foundation.proofs.Nth.{nth-positive}
-use Rattle.criteria.specs.Step.{Enabled, InternalRow, internalRows, MarkIs, here, past-internal, past-visible, Marked, all-marked, by-formula, FocusPoint, MarkedStep, nextState, dataNumber}
+use Rattle.criteria.specs.Step.{Enabled, InternalRow, internalRows, MarkIs, here, past-internal, past-visible, Marked, all-marked, by-formula, MarkHas, no-marks, has-mark, FocusPoint, MarkedStep, nextState, dataNumber}
+use Rattle.criteria.specs.Criteria.{OthersHave}
 use Rattle.criteria.specs.Rows.{rowAt, markBy, markOf, firstRow, markedTest, firstMarked}
 
 pub is-row-at : {rows : List Row} {k : ℕ} {r : Row} → RowIs rows k r → rowAt rows k ≡ r
@@ -94,34 +97,65 @@ mark-there {k = suc k} (later {y = y} {xs = rows} is) z fs (suc j) e l = go (eqb
     go false h fs l rest = past-visible (eqb-false (y .action) 0 h) (rest fs l)
 
 module _ (d : Design) (k : ℕ) (s : State) (e : ℕ) where
-  -- a marked step's formula, as it is computed, holds
-  pub marked-holds : Marked d k s e → evalF (markOf d k) s e ≡ true
-  unfolding evalF
-  marked-holds (all-marked none) = rw none
-  marked-holds (by-formula {fs = fs} {f = f} line is h) = go (d .marks) line
-    where
-      j : ℕ
-      j = internalRows (take (k - 1) (d .impl .rows))
+  j : ℕ
+  j = internalRows (take (k - 1) (d .impl .rows))
 
-      go : (marks : List (List Formula)) → Nth marks 1 fs → evalF (markBy marks j) s e ≡ true
-      go marks first = rw (mark-from is (k - 1) (let p = mark-positive is in omega arith)) h
+  -- row k's formula is the one by its number
+  mark-is : {fs : List Formula} {f : Formula} → Nth (d .marks) 1 fs → MarkIs (d .impl .rows) fs k f → markOf d k ≡ f
+  unfolding j
+  mark-is {fs} {f} line is = go (d .marks) line
+    where
+      go : (marks : List (List Formula)) → Nth marks 1 fs → markBy marks (internalRows (take (k - 1) (d .impl .rows))) ≡ f
+      go marks first = mark-from is (k - 1) (let p = mark-positive is in omega arith)
       go marks (later n) = absurd (nth-positive n (omega arith))
 
-  -- and the other way round, of an internal row
-  pub holds-marked : {r : Row} → RowIs (d .impl .rows) k r → InternalRow r → evalF (markOf d k) s e ≡ true → Marked d k s e
-  unfolding evalF
-  holds-marked is z h = go (d .marks) refl h
-    where
-      j : ℕ
-      j = internalRows (take (k - 1) (d .impl .rows))
+  -- a marked step's formula, as it is computed, has a value and holds
+  pub marked-holds : Marked d k s e → (hasF (markOf d k) s e ≡ true) × (evalF (markOf d k) s e ≡ true)
+  unfolding evalF hasF
+  marked-holds (all-marked none) = (rw none, rw none)
+  marked-holds (by-formula line is h) = rw (mark-is line is) (holds-says _ s e h)
 
-      by : (fs : List Formula) → Nth (d .marks) 1 fs → Dec (j < length fs) → evalF (getD fs j noFormula) s e ≡ true → Marked d k s e
-      by fs line (yes l) h = by-formula line (mark-there is z fs (k - 1) (let p = nth-positive is in omega arith) l) h
-      by fs line (no l) h = absurd (true≢false (sym h ∙ ap (λ (f : Formula). evalF f s e) (List·getD-eq-default fs noFormula {n = j} (omega arith))))
+  -- and one that has a value, has it as it is computed
+  pub mark-has : MarkHas d k s e → hasF (markOf d k) s e ≡ true
+  unfolding hasF
+  mark-has (no-marks none) = rw none
+  mark-has (has-mark line is h) = rw (mark-is line is) (has-says-f _ s e h)
 
-      go : (marks : List (List Formula)) → d .marks ≡ marks → evalF (markBy marks j) s e ≡ true → Marked d k s e
-      go [] is-none h = all-marked is-none
-      go (fs ∷ more) are h = by fs (rw are first) (decLt j (length fs)) h
+  -- the other way round, of an internal row
+  module _ {r : Row} (is : RowIs (d .impl .rows) k r) (z : InternalRow r) where
+    -- there are no marks, or row k has a formula, or what stands for it has no value
+    data Marking : Type 0 where
+      none-there : d .marks ≡ [] → Marking
+      there : {fs : List Formula} → Nth (d .marks) 1 fs → MarkIs (d .impl .rows) fs k (markOf d k) → Marking
+      lost : hasF (markOf d k) s e ≡ false → Marking
+
+    marking : Marking
+    unfolding j hasF
+    marking = go (d .marks) refl
+      where
+        by : (fs : List Formula) → Nth (d .marks) 1 fs → markOf d k ≡ getD fs j noFormula → Dec (j < length fs) → Marking
+        by fs line same (yes l) = there line (rw same (mark-there is z fs (k - 1) (let p = nth-positive is in omega arith) l))
+        by fs line same (no l) = lost (ap (λ (f : Formula). hasF f s e) (same ∙ List·getD-eq-default fs noFormula {n = j} (omega arith)))
+
+        go : (marks : List (List Formula)) → d .marks ≡ marks → Marking
+        go [] is-none = none-there is-none
+        go (fs ∷ more) are = by fs (rw are first) (rw are) (decLt j (length fs))
+
+    pub holds-marked : hasF (markOf d k) s e ≡ true → evalF (markOf d k) s e ≡ true → Marked d k s e
+    holds-marked has h = go marking
+      where
+        go : Marking → Marked d k s e
+        go (none-there n) = all-marked n
+        go (there line m) = by-formula line m (says-holds (markOf d k) s e has h)
+        go (lost n) = absurd (true≢false (sym has ∙ n))
+
+    pub has-marked : hasF (markOf d k) s e ≡ true → MarkHas d k s e
+    has-marked has = go marking
+      where
+        go : Marking → MarkHas d k s e
+        go (none-there n) = no-marks n
+        go (there line m) = has-mark line m (says-has-f (markOf d k) s e has)
+        go (lost n) = absurd (true≢false (sym has ∙ n))
 
 -- ---- the search through rows and sum values
 
@@ -161,7 +195,7 @@ true-and a b p q = rw (p, q)
 pub pass-focus : (d : Design) (s : State) → firstMarked d s ≡ pass → FocusPoint d s
 pass-focus d s h k r e is z on mark =
     true≢false
-    (sym (true-and _ _ (eq-eqb (r .action) 0 z) (true-and _ _ (on .condition) (marked-holds d k s e mark))) ∙ no-row (d .impl .rows) (markedTest d s) (λ k e. (k, e)) h k r e is (on .in-span))
+    (sym (true-and _ _ (eq-eqb (r .action) 0 z) (true-and _ _ (holds-says (r .condition) s e (on .condition) .1) (marked-holds d k s e mark .1))) ∙ no-row (d .impl .rows) (markedTest d s) (λ k e. (k, e)) h k r e is (on .in-span))
 
 -- an internal row is enabled at s, and its step is marked
 pub record SomeMarked (d : Design) (s : State) : Type 0 where
@@ -173,36 +207,50 @@ pub record SomeMarked (d : Design) (s : State) : Type 0 where
   pub enabled : Enabled row s sum
   pub marked : Marked d at s sum
 
-pub fail-marked : (d : Design) (s : State) (x : ℕ × ℕ) → firstMarked d s ≡ fail x → SomeMarked d s
-fail-marked d s x h =
+pub fail-marked : (d : Design) (s : State) → OthersHave d s → (x : ℕ × ℕ) → firstMarked d s ≡ fail x → SomeMarked d s
+fail-marked d s have x h =
     let f = row-found (d .impl .rows) (markedTest d s) (λ k e. (k, e)) x h in
     let b = and-true (eqb (f .row .action) 0) (evalF (f .row .condition) s (f .sum) && evalF (markOf d (f .at)) s (f .sum)) (f .says) in
     let c = and-true (evalF (f .row .condition) s (f .sum)) (evalF (markOf d (f .at)) s (f .sum)) (b .1) in
+    let z = eqb-true (f .row .action) 0 (b .0) in
+    let on = has-says-f (f .row .condition) s (f .sum) (have .impl (f .at) (f .row) (f .is-row) .condition (f .sum) (f .in-span)) in
+    let mark = mark-has d (f .at) s (f .sum) (have .marks (f .at) (f .row) (f .is-row) z (f .sum) (f .in-span)) in
     record {
       at = f .at;
       row = f .row;
       sum = f .sum;
       is-row = f .is-row;
-      zero = eqb-true (f .row .action) 0 (b .0);
-      enabled = record { in-span = f .in-span; condition = c .0 };
-      marked = holds-marked d (f .at) s (f .sum) (f .is-row) (eqb-true (f .row .action) 0 (b .0)) (c .1);
+      zero = z;
+      enabled = record { in-span = f .in-span; condition = says-holds (f .row .condition) s (f .sum) on (c .0) };
+      marked = holds-marked d (f .at) s (f .sum) (f .is-row) z mark (c .1);
     }
 
--- evaluation decides it
-pub focus-or-marked : (d : Design) (s : State) → FocusPoint d s ⊎ SomeMarked d s
-focus-or-marked d s = go (firstMarked d s) refl
+-- evaluation decides it, where all have values
+pub focus-or-marked : (d : Design) (s : State) → OthersHave d s → FocusPoint d s ⊎ SomeMarked d s
+focus-or-marked d s have = go (firstMarked d s) refl
   where
     go : (o : Outcome (ℕ × ℕ)) → firstMarked d s ≡ o → FocusPoint d s ⊎ SomeMarked d s
     go pass h = inl (pass-focus d s h)
-    go (fail x) h = inr (fail-marked d s x h)
+    go (fail x) h = inr (fail-marked d s have x h)
 
 -- it gives its step
-pub step-of : (d : Design) (s : State) (i : SomeMarked d s) → MarkedStep d s (nextState (i .row) s (i .sum))
-step-of d s i =
+pub step-of : (d : Design) (s : State) → OthersHave d s → (i : SomeMarked d s) → MarkedStep d s (nextState (i .row) s (i .sum))
+step-of d s have i =
+    let h = have .impl (i .at) (i .row) (i .is-row) in
+    let data-has = has-says-v (i .row .carries) s (i .sum) (h .carries (i .sum) (i .enabled)) in
     record {
       internal = record {
         label = record { action = i .row .action; number = dataNumber (i .row) s (i .sum) };
-        step = record { at = i .at; row = i .row; sum = i .sum; is-row = i .is-row; enabled = i .enabled; action = refl; number = refl; goes = refl };
+        step = record {
+          at = i .at;
+          row = i .row;
+          sum = i .sum;
+          is-row = i .is-row;
+          enabled = i .enabled;
+          action = refl;
+          number = says-value (i .row .carries) s (i .sum) data-has;
+          goes = record { have = h .next (i .sum) (i .enabled); same = refl };
+        };
         zero = i .zero;
       };
       marked = i .marked;

@@ -8,24 +8,24 @@ use native.Mathlib.Nat.{le-refl}
 use Rattle.foundation.proofs.Nth.{nth-nil, nth-cons}
 use Rattle.criteria.specs.Design.{Design, State, InvariantState, mapped, measureAt}
 use Rattle.criteria.specs.Step.{Label, Step, Internal, MarkedStep, FocusPoint, Steps, Chain, Run, none, more, CantGoOn, nextState}
-use Rattle.criteria.specs.Criteria.{Criteria}
+use Rattle.criteria.specs.Criteria.{Criteria, OthersHave}
 use Rattle.criteria.specs.Bisimilar.{Stays, RunKept, Reaches}
 use Rattle.criteria.proofs.Rows.{SomeMarked, focus-or-marked, step-of}
 
--- a state where nothing goes on is a focus point, whatever the criteria
-pub stopped-focus : (d : Design) (s : State) → CantGoOn d s → FocusPoint d s
-stopped-focus d s stop k r e is z on mark =
-    stop (nextState r s e) (step-of d s (record { at = k; row = r; sum = e; is-row = is; zero = z; enabled = on; marked = mark }))
+-- a state where nothing goes on is a focus point, where all have values
+pub stopped-focus : (d : Design) (s : State) → OthersHave d s → CantGoOn d s → FocusPoint d s
+stopped-focus d s have stop k r e is z on mark =
+    stop (nextState r s e) (step-of d s have (record { at = k; row = r; sum = e; is-row = is; zero = z; enabled = on; marked = mark }))
 
 -- a run is a chain
 pub run-chain : (d : Design) {s s′ : State} {n : ℕ} → Run d s n s′ → Chain d s n s′
 run-chain d none = none
 run-chain d (more t run) = more (t .internal) (run-chain d run)
 
-module _ (d : Design) (others : (s : State) → InvariantState d s → Criteria d s) where
+module _ (d : Design) (have : (s : State) → InvariantState d s → OthersHave d s) (others : (s : State) → InvariantState d s → Criteria d s) where
   -- criterion 3
   pub step-inside : (s s′ : State) (l : Label) → InvariantState d s → Step (d .impl) l s s′ → InvariantState d s′
-  step-inside s s′ l i st = subst (InvariantState d) (st .goes) (others s i .third (st .at) (st .row) (st .sum) (st .is-row) (st .enabled))
+  step-inside s s′ l i st = subst (InvariantState d) (st .goes .same) (others s i .third (st .at) (st .row) (st .sum) (st .is-row) (st .enabled))
 
   pub internal-inside : (s s′ : State) → InvariantState d s → Internal (d .impl) s s′ → InvariantState d s′
   internal-inside s s′ i t = step-inside s s′ (t .label) i (t .step)
@@ -34,14 +34,14 @@ module _ (d : Design) (others : (s : State) → InvariantState d s → Criteria 
   pub internal-mapped : (s s′ : State) → InvariantState d s → Internal (d .impl) s s′ → mapped d s′ ≡ mapped d s
   internal-mapped s s′ i t =
       let st = t .step in
-      subst (λ u. mapped d u ≡ mapped d s) (st .goes) (sym (others s i .fourth (st .at) (st .row) (st .sum) (st .is-row) (st .enabled) (st .action ∙ t .zero)))
+      subst (λ u. mapped d u ≡ mapped d s) (st .goes .same) (others s i .fourth (st .at) (st .row) (st .sum) (st .is-row) (st .enabled) (st .action ∙ t .zero) .same)
 
   -- criterion 5
   pub marked-measure : (s s′ : State) → InvariantState d s → MarkedStep d s s′ → measureAt d s′ < measureAt d s
   marked-measure s s′ i t =
       let st = t .internal .step in
-      subst (λ u. measureAt d u < measureAt d s) (st .goes)
-      (others s i .fifth (st .at) (st .row) (st .sum) (st .is-row) (st .enabled) (st .action ∙ t .internal .zero) (t .marked))
+      subst (λ u. measureAt d u < measureAt d s) (st .goes .same)
+      (others s i .fifth (st .at) (st .row) (st .sum) (st .is-row) (st .enabled) (st .action ∙ t .internal .zero) (t .marked) .1)
 
   -- a run of n steps lowers the measure by n at least
   pub record Along (s : State) (n : ℕ) (s′ : State) : Type 0 where
@@ -69,13 +69,13 @@ module _ (d : Design) (others : (s : State) → InvariantState d s → Criteria 
   pub run-kept : (s : State) → InvariantState d s → (n : ℕ) (s′ : State) (run : Run d s n s′) → RunKept d run
   run-kept s i n s′ run =
       let r = along s s′ n i run in
-      record { at-most = omega arith; stays = stays-along (λ u w t. t .internal) s s′ n i run; stopped = stopped-focus d s′ }
+      record { at-most = omega arith; stays = stays-along (λ u w t. t .internal) s s′ n i run; stopped = stopped-focus d s′ (have s′ (r .inside)) }
 
   -- any marked step will do at each stage; the measure says how often
-  reach-by : (limit : ℕ) (s : State) → measureAt d s ≤ limit → ((s′ : State) → MarkedStep d s s′ → Reaches d s′ × (measureAt d s′ < measureAt d s)) → FocusPoint d s ⊎ SomeMarked d s → Reaches d s
-  reach-by limit s h go (inl f) = record { length = 0; end = s; run = none; within = omega arith; focus = f }
-  reach-by limit s h go (inr i) =
-      let t = step-of d s i in
+  reach-by : (limit : ℕ) (s : State) → OthersHave d s → measureAt d s ≤ limit → ((s′ : State) → MarkedStep d s s′ → Reaches d s′ × (measureAt d s′ < measureAt d s)) → FocusPoint d s ⊎ SomeMarked d s → Reaches d s
+  reach-by limit s all h go (inl f) = record { length = 0; end = s; run = none; within = omega arith; focus = f }
+  reach-by limit s all h go (inr i) =
+      let t = step-of d s all i in
       let g = go (nextState (i .row) s (i .sum)) t in
       let r = g .0 in
       let near = r .within in
@@ -83,10 +83,10 @@ module _ (d : Design) (others : (s : State) → InvariantState d s → Criteria 
       record { length = suc (r .length); end = r .end; run = more t (r .run); within = omega arith; focus = r .focus }
 
   reach : (limit : ℕ) (s : State) → InvariantState d s → measureAt d s ≤ limit → Reaches d s
-  reach zero s i h = reach-by zero s h (λ s′ t. absurd (let falls = marked-measure s s′ i t in omega arith)) (focus-or-marked d s)
+  reach zero s i h = reach-by zero s (have s i) h (λ s′ t. absurd (let falls = marked-measure s s′ i t in omega arith)) (focus-or-marked d s (have s i))
   reach (suc limit) s i h =
-      reach-by (suc limit) s h
-      (λ s′ t. (reach limit s′ (internal-inside s s′ i (t .internal)) (let falls = marked-measure s s′ i t in omega arith), marked-measure s s′ i t)) (focus-or-marked d s)
+      reach-by (suc limit) s (have s i) h
+      (λ s′ t. (reach limit s′ (internal-inside s s′ i (t .internal)) (let falls = marked-measure s s′ i t in omega arith), marked-measure s s′ i t)) (focus-or-marked d s (have s i))
 
   pub reaches : (s : State) → InvariantState d s → Reaches d s
   reaches s i = reach (measureAt d s) s i (le-refl (measureAt d s))

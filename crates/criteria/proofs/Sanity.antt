@@ -11,8 +11,10 @@ use native.Mathlib.Omega.{arith}
 use Rattle.foundation.specs.Nth.{first, later, EachIs}
 use Rattle.foundation.proofs.Nth.{nth-nil, nth-cons}
 use Rattle.terms.specs.Tree.{Formula, const, num, par, compare, evalV, evalF}
+use Rattle.terms.specs.Meaning.{meantV, meantF, Has}
+use Rattle.terms.proofs.Meaning.{holds-says, value-says}
 use Rattle.terms.specs.declared.Compare.the-variants.{Equal}
-use Rattle.criteria.specs.Design.{Design, Row, Process, State}
+use Rattle.criteria.specs.Design.{Design, Row, Process, State, Have}
 use Rattle.criteria.specs.Step.{Label, Step, Chain, none, more, dataNumber, nextState}
 use Rattle.criteria.specs.Bisimilar.{Bisimilar}
 
@@ -33,9 +35,14 @@ label n = record { action = 1; number = n }
 abbrev beside : List Row → Design
 beside rows = record { impl = one-state rows; spec = one-state (always 7 ∷ []); invariant = const true; mapping = num 0 ∷ []; measure = num 0; marks = [] }
 
+-- a number has its value
+number-has : (n : ℕ) (s : State) (e : ℕ) → Have (num n ∷ []) s e
+unfolding meantV
+number-has n s e = nth-cons (λ v. Has (meantV v s e)) (record { value = n; is = refl }) (λ k x at. absurd (nth-nil at))
+
 steps : (n : ℕ) → Step (one-state (always n ∷ [])) (label n) one one
-unfolding evalF
-steps n = record { at = 1; row = always n; sum = 0; is-row = first; enabled = record { in-span = omega arith; condition = refl }; action = refl; number = refl; goes = refl }
+unfolding evalV meantV meantF
+steps n = record { at = 1; row = always n; sum = 0; is-row = first; enabled = record { in-span = omega arith; condition = refl }; action = refl; number = refl; goes = record { have = number-has 0 one 0; same = refl } }
 
 -- it can do nothing
 pub stuck-differs : Bisimilar (beside []) one one → ⊥
@@ -49,7 +56,7 @@ seven = nth-cons (λ r. (t : State) (e : ℕ) → dataNumber r t e ≡ 5 → ⊥
 pub data-differs : Bisimilar (beside (always 5 ∷ [])) one one → ⊥
 data-differs b =
     let answer = b .is-bisimulation .visible one one one (label 5) (b .relates) (record { step = steps 5; nonzero = λ h. omega arith }) .step in
-    seven (answer .at) (answer .row) (answer .is-row) one (answer .sum) (answer .number)
+    seven (answer .at) (answer .row) (answer .is-row) one (answer .sum) (value-says (answer .row .carries) one (answer .sum) 5 (answer .number) .1)
 
 -- ---- into a stuck state
 
@@ -74,8 +81,8 @@ abbrev stuck : State
 stuck = 1 ∷ []
 
 falling : (a n : ℕ) → Step (two-states a n) (record { action = a; number = n }) one stuck
-unfolding evalF
-falling a n = record { at = 2; row = falls a n; sum = 0; is-row = later first; enabled = record { in-span = omega arith; condition = refl }; action = refl; number = refl; goes = refl }
+unfolding evalV meantV meantF
+falling a n = record { at = 2; row = falls a n; sum = 0; is-row = later first; enabled = record { in-span = omega arith; condition = refl }; action = refl; number = refl; goes = record { have = number-has 1 one 0; same = refl } }
 
 module _ (a n : ℕ) where
   none-enabled : EachIs (two-states a n .rows) (λ r. (e : ℕ) → evalF (r .condition) stuck e ≡ true → ⊥)
@@ -85,7 +92,7 @@ module _ (a n : ℕ) where
       (nth-cons (λ r. (e : ℕ) → evalF (r .condition) stuck e ≡ true → ⊥) (λ e h. true≢false (sym h)) (λ k x at. absurd (nth-nil at)))
 
   no-step : {l : Label} {s : State} → Step (two-states a n) l stuck s → ⊥
-  no-step x = none-enabled (x .at) (x .row) (x .is-row) (x .sum) (x .enabled .condition)
+  no-step x = none-enabled (x .at) (x .row) (x .is-row) (x .sum) (holds-says (x .row .condition) stuck (x .sum) (x .enabled .condition) .1)
 
   -- beside a specification that does action 1 with the number 7 at any time
   abbrev trap : Design
@@ -108,7 +115,7 @@ trap-differs b =
 -- the action leads there: its answer leads elsewhere
 only-one : {l : Label} {t : State} → Step (one-state (always 7 ∷ [])) l one t → t ≡ one
 unfolding evalV
-only-one {t = t} x = goes-one (x .at) (x .row) (x .is-row) (x .sum) t (x .goes)
+only-one {t = t} x = goes-one (x .at) (x .row) (x .is-row) (x .sum) t (x .goes .same)
   where
     goes-one : EachIs (always 7 ∷ []) (λ r. (e : ℕ) (u : State) → nextState r one e ≡ u → u ≡ one)
     goes-one = nth-cons (λ r. (e : ℕ) (u : State) → nextState r one e ≡ u → u ≡ one) (λ e u h. sym h) (λ k y at. absurd (nth-nil at))

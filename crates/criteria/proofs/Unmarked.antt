@@ -9,11 +9,11 @@ use native.Mathlib.Omega.{arith}
 use lib.ListN.{take, replicate, getD-replicate}
 use Rattle.foundation.specs.Trial.{Place}
 use Rattle.foundation.proofs.Nth.{nth-positive}
-use Rattle.terms.specs.Tree.{Formula, const, noFormula, evalF}
+use Rattle.terms.specs.Tree.{Formula, const, noFormula, evalF, hasF}
 use Rattle.criteria.specs.Design.{Design, Row, State, RowIs, InvariantState, withMarks}
-use Rattle.criteria.specs.Step.{InternalRow, Internal, Marked, all-marked, internalRows, MarkedStep, FocusPoint, Chain, Run, none, more, statesOf}
-use Rattle.criteria.specs.Criteria.{Criterion1, Criteria, Meets}
-use Rattle.criteria.specs.Failure.{Failure, FailsAt, second, third, fourth, fifth, sixth, seventh, eighth, ninth, Fails, start, at, LowestFailure}
+use Rattle.criteria.specs.Step.{InternalRow, Internal, Marked, all-marked, by-formula, MarkHas, no-marks, has-mark, internalRows, MarkedStep, FocusPoint, Chain, Run, none, more, statesOf}
+use Rattle.criteria.specs.Criteria.{Criterion1, Criteria, Criterion10, Meets}
+use Rattle.criteria.specs.Failure.{Failure, FailsAt, second, third, fourth, fifth, sixth, seventh, eighth, ninth, Fails, start, tenth, at, LowestFailure}
 use Rattle.criteria.specs.Bisimilar.{Promised, Demand3}
 use Rattle.criteria.specs.Unmarked as plain
 use Rattle.criteria.specs.Unmarked.{Unmarked}
@@ -29,13 +29,14 @@ unmarked-all d unmarked k r is z s e = all-marked unmarked
 
 -- and so they are if each formula is `10`
 pub tens-all : (d : Design) → d .marks ≡ replicate (internalRows (d .impl .rows)) (const true) ∷ [] → AllMarked d
-unfolding evalF
+unfolding evalF hasF
 tens-all d tens k r is z s e =
     let rows = d .impl .rows in
     let from = nth-positive is in
     let to = is-row-below is in
     let fewer = internal-below rows k (omega arith) (omega arith) (rw (is-row-at is) z) in
-    holds-marked d k s e is z (rw (tens, getD-replicate (internalRows rows) (internalRows (take (k - 1) rows)) (const true) noFormula fewer))
+    let ten = getD-replicate (internalRows rows) (internalRows (take (k - 1) rows)) (const true) noFormula fewer in
+    holds-marked d k s e is z (rw (tens, ten)) (rw (tens, ten))
 
 module _ (d : Design) (all : AllMarked d) where
   pub marked-step : {s s′ : State} → Internal (d .impl) s s′ → MarkedStep d s s′
@@ -54,6 +55,28 @@ module _ (d : Design) (all : AllMarked d) where
 
   pub focus-same : (s : State) → FocusPoint d s ↔ plain.FocusPoint d s
   focus-same s = (λ f k r e is z on. f k r e is z on (all k r is z s e), λ f k r e is z on mark. f k r e is z on)
+
+  -- a mark that holds has a value
+  marked-has : {k : ℕ} {s : State} {e : ℕ} → Marked d k s e → MarkHas d k s e
+  marked-has (all-marked n) = no-marks n
+  marked-has (by-formula line is h) = has-mark line is (record { value = true; is = h })
+
+  pub tenth-same : (s : State) → Criterion10 d s ↔ plain.Criterion10 d s
+  tenth-same s = (
+    λ c. record {
+      invariant = c .apart .invariant;
+      others = λ i. let o = c .apart .others i in record { mapping = o .mapping; measure = c .measure i; impl = o .impl; spec = o .spec };
+    },
+    λ c. record {
+      apart = record {
+        invariant = c .invariant;
+        others = λ i.
+            let o = c .others i in
+            record { mapping = o .mapping; impl = o .impl; marks = λ k r is z e u. marked-has (all k r is z s e); spec = o .spec };
+      };
+      measure = λ i. c .others i .measure;
+    },
+  )
 
   pub criteria-same : (s : State) → Criteria d s ↔ plain.Criteria d s
   criteria-same s = (there, back)
@@ -82,10 +105,12 @@ module _ (d : Design) (all : AllMarked d) where
         ninth = c .ninth;
       }
 
-  -- the nine criteria are 01's
+  -- the ten criteria are those without marks
   pub meets-same : Meets d ↔ plain.Meets d
-  meets-same =
-      (λ m. record { start = m .start; others = λ s i. criteria-same s .0 (m .others s i) }, λ m. record { start = m .start; others = λ s i. criteria-same s .1 (m .others s i) })
+  meets-same = (
+    λ m. record { start = m .start; tenth = λ s i. tenth-same s .0 (m .tenth s i); others = λ s i. criteria-same s .0 (m .others s i) },
+    λ m. record { start = m .start; tenth = λ s i. tenth-same s .1 (m .tenth s i); others = λ s i. criteria-same s .1 (m .others s i) },
+  )
 
   -- and so is the lowest failure
   there : {s : State} {x : Place} → FailsAt d s x → plain.FailsAt d s x
@@ -110,10 +135,12 @@ module _ (d : Design) (all : AllMarked d) where
 
   fails-there : (x : Failure) → Fails d x → plain.Fails d x
   fails-there x (start n) = plain.start n
+  fails-there x (tenth {s = s} i n) = plain.tenth i (λ c. n (tenth-same s .1 c))
   fails-there x (at i f) = plain.at i (there f)
 
   fails-back : (x : Failure) → plain.Fails d x → Fails d x
   fails-back x (plain.start n) = start n
+  fails-back x (plain.tenth {s = s} i n) = tenth i (λ c. n (tenth-same s .0 c))
   fails-back x (plain.at i f) = at i (back f)
 
   pub lowest-same : (x : Failure) → LowestFailure d x ↔ plain.LowestFailure d x
@@ -124,6 +151,8 @@ module _ (d : Design) (all : AllMarked d) where
 
   promised-plain : (s : State) → Promised d s → plain.Promised d s
   promised-plain s p = record {
+    has-mapped = p .has-mapped;
+    has-measure = p .has-measure;
     bisimilar = p .bisimilar;
     runs = λ n s′ run.
         let r = p .runs n s′ (chain-run run) in
@@ -147,6 +176,12 @@ module _ (d : Design) where
   start-any : {ms ns : List (List Formula)} → Criterion1 (withMarks d ms) → Criterion1 (withMarks d ns)
   start-any c = record { invariant = c .invariant; mapping = c .mapping }
 
+  tenth-any : {ms ns : List (List Formula)} {s : State} → plain.Criterion10 (withMarks d ms) s → plain.Criterion10 (withMarks d ns) s
+  tenth-any c = record {
+    invariant = c .invariant;
+    others = λ i. let o = c .others i in record { mapping = o .mapping; measure = o .measure; impl = o .impl; spec = o .spec };
+  }
+
   criteria-any : {ms ns : List (List Formula)} {s : State} → plain.Criteria (withMarks d ms) s → plain.Criteria (withMarks d ns) s
   criteria-any c = record {
     second = c .second;
@@ -163,7 +198,7 @@ module _ (d : Design) where
   meets-any ms = (go, go)
     where
       go : {ms ns : List (List Formula)} → plain.Meets (withMarks d ms) → plain.Meets (withMarks d ns)
-      go m = record { start = start-any (m .start); others = λ s i. criteria-any (m .others s (invariant-any i)) }
+      go m = record { start = start-any (m .start); tenth = λ s i. tenth-any (m .tenth s i); others = λ s i. criteria-any (m .others s (invariant-any i)) }
 
   fails-at-any : {ms ns : List (List Formula)} {s : State} {x : Place}
       → plain.FailsAt (withMarks d ms) s x → plain.FailsAt (withMarks d ns) s x
@@ -178,6 +213,7 @@ module _ (d : Design) where
 
   fails-any : {ms ns : List (List Formula)} (x : Failure) → plain.Fails (withMarks d ms) x → plain.Fails (withMarks d ns) x
   fails-any x (plain.start n) = plain.start (λ c. n (start-any c))
+  fails-any x (plain.tenth i n) = plain.tenth i (λ c. n (tenth-any c))
   fails-any x (plain.at i f) = plain.at (invariant-any i) (fails-at-any f)
 
   pub lowest-any : (ms : List (List Formula)) (x : Failure) → plain.LowestFailure d x ↔ plain.LowestFailure (withMarks d ms) x

@@ -4,7 +4,7 @@
 use mathlib.Core.Path.{_≡_}
 use Prim.Native.Nat.{ℕ, _≤_}
 use Rattle.foundation.specs.Nth.{Nth}
-use Rattle.criteria.specs.Design.{Design, State, StateOf, InSize, InvariantState, mapped, measureAt, initialState}
+use Rattle.criteria.specs.Design.{Design, State, StateOf, InSize, InvariantState, Have, Maps, HasMeasure, mapped, measureAt, initialState}
 use Rattle.criteria.specs.Step.{Label, Step, Internal, Visible, FocusPoint, Steps, Chain, Run, statesOf, CantGoOn}
 
 -- "there is a step from t with the same label, and the two lead to related states": s′ is where the implementation's step led
@@ -68,6 +68,9 @@ pub record Reaches (d : Design) (s : State) : Type 0 where
 
 -- of a state
 pub record Promised (d : Design) (s : State) : Type 1 where
+  -- its mapped state and its measure have values
+  pub has-mapped : Have (d .mapping) s 0
+  pub has-measure : HasMeasure d s
   -- "That state and its mapped specification state are branching bisimilar"
   pub bisimilar : Bisimilar d s (mapped d s)
   -- "Every run of" marked "steps from it, whichever enabled rows and sum values it takes"
@@ -83,4 +86,4 @@ pub record Demand3 (d : Design) : Type 1 where
   pub each : (s : State) → InvariantState d s → Promised d s
   -- "the initial one among them", and its mapped state is the specification's initial one
   pub initial-among : InvariantState d (initialState (d .impl))
-  pub initial-mapped : mapped d (initialState (d .impl)) ≡ initialState (d .spec)
+  pub initial-mapped : Maps d (initialState (d .impl)) (initialState (d .spec))

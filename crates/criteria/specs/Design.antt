@@ -4,13 +4,13 @@
 -- e a sum value.
 use mathlib.Core.Path.{_≡_}
 use mathlib.Core.Logic.{_≢_}
-use mathlib.Core.Bool.{true}
 use mathlib.Core.List.{List, map}
 use Prim.Native.Nat.{ℕ, _≤_, _<_}
 use Rattle.limits.specs.Limits.{maxSpan, maxStates}
 use Rattle.foundation.specs.Radix.{Below, product, numberOf}
 use Rattle.foundation.specs.Nth.{Nth, EachIs}
-use Rattle.terms.specs.Tree.{Value, Formula, num, evalV, evalF}
+use Rattle.terms.specs.Tree.{Value, Formula, num, evalV}
+use Rattle.terms.specs.Meaning.{meantV, Has, Holds}
 
 pub record Parameter : Type 0 where
   pub size : ℕ
@@ -76,13 +76,22 @@ states d = product (sizes (d .impl))
 
 -- ---- invariant, mapping, measure. Kinds 5 to 7 have no sum value: 0 stands for it, and no term there reads it.
 
--- the values of terms at a state, for a sum value
+-- the values of terms at a state, for a sum value, where each has one
 abbrev pub values : List Value → State → ℕ → State
 values vs s e = map (λ (v : Value). evalV v s e) vs
 
+-- each has one
+abbrev pub Have : List Value → State → ℕ → Type 0
+Have vs s e = EachIs vs (λ v. Has (meantV v s e))
+
+-- their values are t: each has one, and these are they
+pub record Are (vs : List Value) (s : State) (e : ℕ) (t : State) : Type 0 where
+  pub have : Have vs s e
+  pub same : values vs s e ≡ t
+
 -- "in which the invariant holds"
 abbrev pub Invariant : Design → State → Type 0
-Invariant d s = evalF (d .invariant) s 0 ≡ true
+Invariant d s = Holds (d .invariant) s 0
 
 -- "the mapped state and the measure of a state are the kind 6 and kind 7 values there"
 abbrev pub mapped : Design → State → State
@@ -90,6 +99,13 @@ mapped d s = values (d .mapping) s 0
 
 abbrev pub measureAt : Design → State → ℕ
 measureAt d s = evalV (d .measure) s 0
+
+-- the mapped state of s is t; s has a measure
+abbrev pub Maps : Design → State → State → Type 0
+Maps d s t = Are (d .mapping) s 0 t
+
+abbrev pub HasMeasure : Design → State → Type 0
+HasMeasure d s = Has (meantV (d .measure) s 0)
 
 -- an implementation state in which the invariant holds
 pub record InvariantState (d : Design) (s : State) : Type 0 where

@@ -1,9 +1,10 @@
--- A measure made by the desk (02, order 4): longest runs, loops, and what a measure is. Runs are those of Step: lists of marked steps.
+-- A measure made by the desk (02, orders 4 and 5): longest runs, loops, and what a measure is. Runs are those of Step: lists of marked
+-- steps.
 use Prim.Native.Nat.{ℕ, suc, _≤_, _<_}
 use Rattle.foundation.specs.Nth.{Nth}
-use Rattle.criteria.specs.Design.{Design, Row, State, RowIs, InvariantState}
+use Rattle.criteria.specs.Design.{Design, Row, State, RowIs, InSize, InvariantState}
 use Rattle.criteria.specs.Step.{Run, statesOf}
-use Rattle.criteria.specs.Criteria.{Each, EachNumbered, Criterion3, Criterion5By}
+use Rattle.criteria.specs.Criteria.{Each, EachNumbered, Criterion3, Criterion5By, MeasureApart}
 
 -- "the length of the longest run of marked internal steps from" s: there is a run so long, and none longer
 pub record LongestRun (d : Design) (s : State) (n : ℕ) : Type 0 where
@@ -25,18 +26,15 @@ pub record Measure : Type 0 where
 
 -- it is one "meeting criterion 5"
 abbrev pub MeetsFifth : Design → (State → ℕ) → Type 0
-MeetsFifth d μ = (s : State) → InvariantState d s → EachNumbered (d .impl) (Criterion5By μ d s)
+MeetsFifth d μ = (s : State) → InvariantState d s → EachNumbered (d .impl) (Criterion5By (λ x u. μ x < μ u) d s)
 
--- ---- criterion 3 in every state, and "where criterion 3 fails in some state"
+-- ---- where a measure is made, and where it is turned down: "18 where criterion 3 fails in some state"; "Order 4's 18 covers criterion 10 too,
+-- the measure apart"
 
-abbrev pub MeetsThird : Design → Type 0
-MeetsThird d = (s : State) → InvariantState d s → Each (d .impl) (Criterion3 d s)
+pub record Measurable (d : Design) : Type 0 where
+  pub third : (s : State) → InvariantState d s → Each (d .impl) (Criterion3 d s)
+  pub tenth : (s : State) → InSize (d .impl) s → MeasureApart d s
 
-pub record FailsThird (d : Design) : Type 0 where
-  pub state : State
-  pub invariant : InvariantState d state
-  pub at : ℕ
-  pub row : Row
-  pub sum : ℕ
-  pub is-row : RowIs (d .impl .rows) at row
-  pub fails : Criterion3 d state row sum → ⊥
+pub data Unmeasurable (d : Design) : Type 0 where
+  third-fails : {s : State} {k e : ℕ} {r : Row} → InvariantState d s → RowIs (d .impl .rows) k r → (Criterion3 d s r e → ⊥) → Unmeasurable d
+  tenth-fails : {s : State} → InSize (d .impl) s → (MeasureApart d s → ⊥) → Unmeasurable d

@@ -1,21 +1,23 @@
 -- Enabled rows, marks, focus points, steps and their labels, lists of internal and of marked steps (01, "Nine criteria", "What demand 3
--- speaks of"; 02, order 1; source 004, section 4).
+-- speaks of"; 02, orders 1 and 5; source 004, section 4). Where a value is missing nothing is enabled, marked or a step.
 use mathlib.Core.Path.{_≡_}
 use mathlib.Core.Logic.{_≢_}
-use mathlib.Core.Bool.{true, cond}
+use mathlib.Core.Bool.{cond}
+use mathlib.Core.Option.{some}
 use mathlib.Core.List.{List, [], _∷_}
 use Prim.Native.Nat.{ℕ, suc, _<_}
 use lib.Dec.{eqb}
 use Rattle.foundation.specs.Nth.{Nth}
-use Rattle.terms.specs.Tree.{Formula, evalV, evalF}
-use Rattle.criteria.specs.Design.{Design, Process, Row, State, RowIs, values}
+use Rattle.terms.specs.Tree.{Formula, evalV}
+use Rattle.terms.specs.Meaning.{meantV, meantF, Has, Holds}
+use Rattle.criteria.specs.Design.{Design, Process, Row, State, RowIs, Are, values}
 
 -- "A row is enabled at a state for a sum value if its condition holds." "The sum value of a row runs from 0 to span - 1."
 pub record Enabled (r : Row) (s : State) (e : ℕ) : Type 0 where
   pub in-span : e < r .span
-  pub condition : evalF (r .condition) s e ≡ true
+  pub condition : Holds (r .condition) s e
 
--- "Its step goes to the next values and carries the data number."
+-- "Its step goes to the next values and carries the data number", where these have values.
 abbrev pub nextState : Row → State → ℕ → State
 nextState r s e = values (r .next) s e
 
@@ -48,7 +50,12 @@ pub data Marked (d : Design) (k : ℕ) (s : State) (e : ℕ) : Type 0 where
   -- "Without the line all steps are marked."
   all-marked : d .marks ≡ [] → Marked d k s e
   -- "A marked step is one whose formula holds", "over its parameters and sum value"
-  by-formula : {fs : List Formula} {f : Formula} → Nth (d .marks) 1 fs → MarkIs (d .impl .rows) fs k f → evalF f s e ≡ true → Marked d k s e
+  by-formula : {fs : List Formula} {f : Formula} → Nth (d .marks) 1 fs → MarkIs (d .impl .rows) fs k f → Holds f s e → Marked d k s e
+
+-- the mark of the internal row k has a value there, if there are marks
+pub data MarkHas (d : Design) (k : ℕ) (s : State) (e : ℕ) : Type 0 where
+  no-marks : d .marks ≡ [] → MarkHas d k s e
+  has-mark : {fs : List Formula} {f : Formula} → Nth (d .marks) 1 fs → MarkIs (d .impl .rows) fs k f → Has (meantF f s e) → MarkHas d k s e
 
 -- "A focus point is a state with no internal row enabled"; "Criterion 5 and the focus point then look at marked steps only": no marked
 -- step starts there
@@ -70,7 +77,7 @@ pub record Label : Type 0 where
   pub action : ℕ
   pub number : ℕ
 
--- "A row enabled at a state for a sum value gives one step, to the next values."
+-- "A row enabled at a state for a sum value gives one step, to the next values"; the step and its label exist where the values do.
 pub record Step (p : Process) (l : Label) (s s′ : State) : Type 0 where
   pub at : ℕ
   pub row : Row
@@ -78,8 +85,8 @@ pub record Step (p : Process) (l : Label) (s s′ : State) : Type 0 where
   pub is-row : RowIs (p .rows) at row
   pub enabled : Enabled row s sum
   pub action : row .action ≡ l .action
-  pub number : dataNumber row s sum ≡ l .number
-  pub goes : nextState row s sum ≡ s′
+  pub number : meantV (row .carries) s sum ≡ some (l .number)
+  pub goes : Are (row .next) s sum s′
 
 -- "A step of action 0 is internal."
 pub record Internal (p : Process) (s s′ : State) : Type 0 where

@@ -21,8 +21,8 @@ reportOf (failed x) = record { verdict = 1; number = x .criterion; state = x .st
 
 -- demand 2 of a verdict on a design
 pub record Demand2 (d : Design) (v : Verdict) : Type 0 where
-  -- "A check accepts exactly if all nine criteria .. hold: the start's in the initial state, the others in every state where the
-  -- invariant holds."
+  -- "A check accepts exactly if all nine criteria", now ten, ".. hold: the start's in the initial state, the others in every state where the
+  -- invariant holds", 10 in every state.
   pub accepts : (v ≡ accepted) ↔ Meets d
   -- "Otherwise it reports a failed start, or else the lowest failing state, there the lowest criterion, then row, then sum value"
   pub reports : (x : Failure) → (v ≡ failed x) ↔ LowestFailure d x

@@ -1,16 +1,18 @@
 -- A state counts by the values of its parameters alone: two lists of values that agree wherever a term asks them, as a state and an
 -- array that holds it with 0 after it, give every term one value, and so every test.
 use mathlib.Core.Path.{_≡_, refl, ap}
+use mathlib.Core.Bool.{_&&_}
 use mathlib.Core.List.{List, [], _∷_}
 use Prim.Native.Nat.{ℕ}
-use lib.ListN.{getD}
-use Rattle.foundation.specs.First.{passes}
+use lib.ListN.{length, getD}
+use Rattle.foundation.specs.First.{passes, allIn}
 use Rattle.foundation.specs.Trial.{firstOf}
-use Rattle.terms.specs.Tree.{Value, Formula, num, par, sumValue, choice, noValue, const, compare, negation, join, noFormula, evalV, evalF}
+use Rattle.terms.specs.Tree.{Value, Formula, num, par, sumValue, choice, noValue, const, compare, negation, join, noFormula, evalV, evalF, hasV, hasF}
 use Rattle.terms.specs.Tree as tree
+use Rattle.foundation.proofs.First.{all-alike}
 use Rattle.criteria.specs.Design.{Design, Row, values, mapped}
-use Rattle.criteria.specs.Rows.{markOf, firstRow, markedTest}
-use Rattle.decision.specs.Tests.{focusB, holds2, holds3, holds4, holds5, holds6, holds7, holds8, holds9}
+use Rattle.criteria.specs.Rows.{rowAt, markOf, firstRow, markedTest}
+use Rattle.decision.specs.Tests.{haveB, hasMappingB, hasAt, hasMarkAt, othersHaveB, apartB, holds10, focusB, holds2, holds3, holds4, holds5, holds6, holds7, holds8, holds9}
 use Rattle.decision.specs.Examine.{nothing, once, ofImpl, ofSpec, columns, trialOf, firstFailing}
 
 module _ (v w : List ℕ) (agree : (i : ℕ) → getD v i 0 ≡ getD w i 0) where
@@ -33,6 +35,28 @@ module _ (v w : List ℕ) (agree : (i : ℕ) → getD v i 0 ≡ getD w i 0) wher
     formula-alike (negation f) e = rw (formula-alike f e)
     formula-alike (join o f g) e = rw (formula-alike f e, formula-alike g e)
     formula-alike noFormula e = refl
+
+  mutual
+    unfolding hasV
+
+    pub has-value-alike : (t : Value) (e : ℕ) → hasV t v e ≡ hasV t w e
+    has-value-alike (num n) e = refl
+    has-value-alike (par i) e = refl
+    has-value-alike sumValue e = refl
+    has-value-alike (tree.arith o a b) e = rw (has-value-alike a e, has-value-alike b e, value-alike b e)
+    has-value-alike (choice f a b) e = rw (has-formula-alike f e, formula-alike f e, has-value-alike a e, has-value-alike b e)
+    has-value-alike noValue e = refl
+
+    pub has-formula-alike : (t : Formula) (e : ℕ) → hasF t v e ≡ hasF t w e
+    has-formula-alike (const b) e = refl
+    has-formula-alike (compare o a b) e = rw (has-value-alike a e, has-value-alike b e)
+    has-formula-alike (negation f) e = has-formula-alike f e
+    has-formula-alike (join o f g) e = rw (has-formula-alike f e, has-formula-alike g e)
+    has-formula-alike noFormula e = refl
+
+  pub have-alike : (vs : List Value) (e : ℕ) → haveB vs v e ≡ haveB vs w e
+  have-alike [] e = refl
+  have-alike (t ∷ vs) e = rw (has-value-alike t e, have-alike vs e)
 
   pub values-alike : (vs : List Value) (e : ℕ) → values vs v e ≡ values vs w e
   values-alike [] e = refl
@@ -76,6 +100,29 @@ module _ (v w : List ℕ) (agree : (i : ℕ) → getD v i 0 ≡ getD w i 0) wher
 
     ninth : (r : Row) (e : ℕ) → holds9 d v r e ≡ holds9 d w r e
     ninth r e = rw (formula-alike (r .condition) e, values-alike (r .next) e, mapped-alike)
+
+    -- criterion 10
+
+    pub has-at-alike : (r : Row) (e : ℕ) → hasAt r v e ≡ hasAt r w e
+    has-at-alike r e = rw (has-formula-alike (r .condition) e, formula-alike (r .condition) e, has-value-alike (r .carries) e, have-alike (r .next) e)
+
+    pub others-alike : othersHaveB d v ≡ othersHaveB d w
+    others-alike =
+        rw (
+          have-alike (d .mapping) 0,
+          mapped-alike,
+          all-alike (λ k. allIn (λ e. hasAt (row k) v e && hasMarkAt d v k (row k) e) (row k .span) 0) (λ k. allIn (λ e. hasAt (row k) w e && hasMarkAt d w k (row k) e) (row k .span) 0)
+              (length (d .impl .rows)) 1 (λ k. all-alike _ _ (row k .span) 0 (λ e. rw (has-at-alike (row k) e, has-formula-alike (markOf d k) e))),
+        )
+      where
+        row : ℕ → Row
+        row k = rowAt (d .impl .rows) k
+
+    pub apart-alike : apartB d v ≡ apartB d w
+    apart-alike = rw (has-formula-alike (d .invariant) 0, formula-alike (d .invariant) 0, others-alike)
+
+    pub tenth-alike : holds10 d v ≡ holds10 d w
+    tenth-alike = rw (apart-alike, formula-alike (d .invariant) 0, has-value-alike (d .measure) 0)
 
     columns-alike : columns d v ≡ columns d w
     columns-alike j =

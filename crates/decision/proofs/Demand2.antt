@@ -1,4 +1,4 @@
--- Demand 2 of a design: the verdict that is computed is accepted exactly if all nine criteria hold, and names x exactly if x is the
+-- Demand 2 of a design: the verdict that is computed is accepted exactly if all ten criteria hold, and names x exactly if x is the
 -- lowest failure. And one verdict only is so.
 use mathlib.Core.Path.{_≡_, refl, sym, _∙_, ap}
 use Rattle.foundation.specs.First.{Outcome, pass, fail}

@@ -11,9 +11,9 @@ use Rattle.foundation.proofs.First.{passes-all, all-alike, all-both}
 use Rattle.foundation.proofs.Trial.{place-passes}
 use Rattle.criteria.specs.Design.{Design, Row, State}
 use Rattle.criteria.specs.Rows.{rowAt}
-use Rattle.decision.specs.Tests.{holds2, holds3, holds4, holds5, holds6, holds7, holds8, holds9}
+use Rattle.decision.specs.Tests.{allRows, holds2, holds3, holds4, holds5, holds6, holds7, holds8, holds9}
 use Rattle.decision.specs.Examine.{trial, firstFailing}
-use Rattle.decision.specs.Quick.{allRows, rowHolds, stateHolds}
+use Rattle.decision.specs.Quick.{rowHolds, stateHolds}
 
 -- ---- one criterion over rows
 

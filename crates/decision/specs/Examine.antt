@@ -1,4 +1,4 @@
--- The examination of one state: which rows and sum values are tried for which criterion, in 01's order, and what is found there.
+-- The examination of one state: criterion 10, then which rows and sum values are tried for which criterion, in 01's order, and what is found.
 -- The walk over the states and the verdict are in specs/Verdict; a faster way to the same in specs/Quick.
 use mathlib.Core.Bool.{Bool, false, not, cond}
 use mathlib.Core.List.{List, [], _∷_}
@@ -8,9 +8,9 @@ use Rattle.foundation.specs.First.{Outcome, pass, fail}
 use Rattle.foundation.specs.Trial.{Place, Trial, firstOf}
 use Rattle.foundation.specs.Radix.{valuesOf}
 use Rattle.criteria.specs.Design.{Design, Row, State, sizes}
-use Rattle.criteria.specs.Failure.{Failure, failureAt}
+use Rattle.criteria.specs.Failure.{Failure, failureAt, missing}
 use Rattle.criteria.specs.Rows.{rowAt}
-use Rattle.decision.specs.Tests.{invariantB, holds2, holds3, holds4, holds5, holds6, holds7, holds8, holds9}
+use Rattle.decision.specs.Tests.{invariantB, holds2, holds3, holds4, holds5, holds6, holds7, holds8, holds9, holds10}
 
 -- what is tried for one criterion: nothing; a test at row 0 and sum value 0; a test at each row of a process, by its number, for each
 -- sum value
@@ -82,9 +82,9 @@ named n (fail x) = fail (failureAt n x)
 abbrev pub stateAt : Design → ℕ → State
 stateAt d n = valuesOf (sizes (d .impl)) n
 
--- state number n is tried where the invariant holds
+-- state number n is tried for criterion 10, and for the rest where the invariant holds
 unfoldable pub examine : Design → ℕ → Outcome Failure
 examine d n =
     let s : State = stateAt d n in
     let o = named n (firstFailing d s) in
-    cond (invariantB d s) o pass
+    cond (holds10 d s) (cond (invariantB d s) o pass) (fail (failureAt n missing))

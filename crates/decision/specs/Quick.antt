@@ -1,17 +1,9 @@
 -- Whether a state passes, with no word on where it fails: one look at each row and sum value, all criteria at once, in any order.
 -- It says whether `firstFailing` passes (proofs/Quick), so that only a state that fails has to be searched.
 use mathlib.Core.Bool.{Bool, _&&_}
-use mathlib.Core.List.{List}
 use Prim.Native.Nat.{ℕ}
-use lib.ListN.{length}
-use Rattle.foundation.specs.First.{allIn}
 use Rattle.criteria.specs.Design.{Design, Row, State}
-use Rattle.criteria.specs.Rows.{rowAt}
-use Rattle.decision.specs.Tests.{holds2, holds3, holds4, holds5, holds6, holds7, holds8, holds9}
-
--- the test says yes at each row by its number, from 1 on, for each sum value in its span
-abbrev pub allRows : List Row → (ℕ → Row → ℕ → Bool) → Bool
-allRows rows t = allIn (λ k. allIn (λ e. t k (rowAt rows k) e) (rowAt rows k .span) 0) (length rows) 1
+use Rattle.decision.specs.Tests.{allRows, holds2, holds3, holds4, holds5, holds6, holds7, holds8, holds9}
 
 -- criteria 3, 4, 5, 6, 8, 9 at row k of the implementation, for a sum value
 abbrev pub rowHolds : Design → State → ℕ → Row → ℕ → Bool

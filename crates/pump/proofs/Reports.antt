@@ -2,13 +2,13 @@
 use mathlib.Core.Path.{_≡_, refl}
 use mathlib.Core.Bool.{true}
 use mathlib.Core.List.{List, [], _∷_}
-use Rattle.foundation.specs.First.{firstIn}
+use Rattle.foundation.specs.First.{firstIn, allIn}
 use Rattle.foundation.specs.Nth.{EachIs}
 use Rattle.foundation.proofs.Nth.{nth-nil, nth-cons}
 use Rattle.foundation.specs.Radix.{valuesOf, numberOf}
 use Rattle.foundation.specs.Walk.{walk}
 use Rattle.foundation.proofs.Reflects.{says-yes}
-use Rattle.terms.specs.Tree.{evalV}
+use Rattle.terms.specs.Tree.{evalV, hasV}
 use Rattle.criteria.specs.Design.{Admitted}
 use Rattle.criteria.specs.Criteria.{Meets}
 use Rattle.criteria.specs.Verdict.{accepted, reportOf}
@@ -28,7 +28,7 @@ Computed [] = Unit {0}
 Computed (c ∷ cs) = ((admittedB (c .table) ≡ true) × (reportOf (verdictOf (c .table)) ≡ c .says)) × Computed cs
 
 computed : Computed cases
-unfolding cases checked examine walk firstIn valuesOf numberOf rowFrom evalV
+unfolding cases checked examine walk firstIn allIn valuesOf numberOf rowFrom evalV hasV
 computed = ((refl, refl), ((refl, refl), ((refl, refl), ((refl, refl), ((refl, refl), ((refl, refl), ((refl, refl), ((refl, refl), ((refl, refl), ((refl, refl), tt))))))))))
 
 right-by : (c : Case) → admittedB (c .table) ≡ true → reportOf (verdictOf (c .table)) ≡ c .says → Right c
@@ -46,7 +46,7 @@ ten-reports = each-right cases computed
 -- ---- the pump table meets the criteria, and so keeps demand 3
 
 given-accepted : (admittedB given ≡ true) × (verdictOf given ≡ accepted)
-unfolding checked examine walk firstIn valuesOf rowFrom evalV
+unfolding checked examine walk firstIn allIn valuesOf rowFrom evalV hasV
 given-accepted = (refl, refl)
 
 given-admitted : Admitted given

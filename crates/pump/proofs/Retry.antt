@@ -1,10 +1,10 @@
 -- The reports on the tables with marks, from the criteria themselves, in one result.
 use mathlib.Core.Path.{refl}
-use Rattle.foundation.specs.First.{firstIn}
+use Rattle.foundation.specs.First.{firstIn, allIn}
 use Rattle.foundation.specs.Nth.{EachIs}
 use Rattle.foundation.specs.Radix.{valuesOf, numberOf}
 use Rattle.foundation.specs.Walk.{walk}
-use Rattle.terms.specs.Tree.{evalV}
+use Rattle.terms.specs.Tree.{evalV, hasV}
 use Rattle.criteria.specs.Step.{internalRows}
 use Rattle.decision.specs.Tests.{rowFrom}
 use Rattle.decision.specs.Examine.{examine}
@@ -14,7 +14,7 @@ use Rattle.pump.specs.Retry.{marked-cases}
 use Rattle.pump.proofs.Reports.{Computed, each-right}
 
 computed : Computed marked-cases
-unfolding marked-cases checked examine walk firstIn valuesOf numberOf rowFrom evalV internalRows
+unfolding marked-cases checked examine walk firstIn allIn valuesOf numberOf rowFrom evalV hasV internalRows
 computed = ((refl, refl), ((refl, refl), ((refl, refl), ((refl, refl), ((refl, refl), ((refl, refl), ((refl, refl), ((refl, refl), ((refl, refl), ((refl, refl), ((refl, refl), ((refl, refl), tt))))))))))))
 
 pub marked-reports : EachIs marked-cases Right

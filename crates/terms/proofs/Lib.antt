@@ -5,3 +5,4 @@ pub mod Printing
 pub mod Eval
 pub mod Fit
 pub mod Used
+pub mod Meaning

@@ -1,4 +1,5 @@
 pub mod Tree
+pub mod Meaning
 pub mod Mark
 pub mod Read
 pub mod Depth

@@ -1,11 +1,11 @@
 // The marks of terms and the operations on values and formulas: what evaluating and checking have in common.
 //
 // What a term is, how it is read from fields and what it evaluates to are definitions, in specs/. The evaluation of a term is in the
-// crate eval, the check of one in term_check.
+// crates eval and has_value, the check of one in term_check.
 ghost use mathlib.Core.Path.{_≡_};
 ghost use lib.ListN.{getD};
 ghost use Rattle.terms.specs.Mark.{valueMark, formulaMark};
-ghost use Rattle.terms.specs.Tree.{arithOf, compareOf, joinOf};
+ghost use Rattle.terms.specs.Tree.{arithOf, arithHas, compareOf, joinOf};
 
 // The operations of the value marks 3, 4 and 5.
 pub enum Arith {
@@ -91,7 +91,7 @@ pub fn parameter(params: &[u16], i: u16) -> u16
     field(params, i as usize)
 }
 
-// Sum and difference modulo 65,536, and the remainder, by zero the dividend itself.
+// Sum and difference modulo 65,536, and the remainder; by zero, where there is none, some number.
 pub fn arith_value(op: Arith, x: u16, y: u16) -> u16
     ensures { λ r. ⌜ r ≡ arithOf op x y ⌝ }
 {
@@ -99,6 +99,17 @@ pub fn arith_value(op: Arith, x: u16, y: u16) -> u16
         Arith::Sum => std::num::wrapping_add_u16(x, y),
         Arith::Difference => std::num::wrapping_sub_u16(x, y),
         Arith::Remainder => if y == 0 { x } else { x % y },
+    }
+}
+
+// Whether the operation has a value, by its second number: the remainder by zero has none.
+pub fn arith_has(op: Arith, y: u16) -> bool
+    ensures { λ r. ⌜ r ≡ arithHas op y ⌝ }
+{
+    match op {
+        Arith::Sum => true,
+        Arith::Difference => true,
+        Arith::Remainder => y != 0,
     }
 }
 
