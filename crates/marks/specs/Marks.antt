@@ -4,7 +4,7 @@ use mathlib.Core.List.{List}
 use Prim.Native.Nat.{ℕ, _+_, _-_}
 use lib.Dec.{eqb}
 use lib.ListN.{getD, drop}
-use Rattle.terms.specs.Tree.{evalF}
+use Rattle.terms.specs.Tree.{evalF, hasF}
 use Rattle.terms.specs.Read.{readF}
 use Rattle.criteria.specs.Step.{internalRows}
 use Rattle.design.specs.Line.{rowOf, formulasUsed}
@@ -41,3 +41,7 @@ placeFrom s h at = cond (eqb at 0) 0 (getD s (h .marks .first) 0 + at)
 -- whether it holds; without one every step is marked
 unfoldable pub markHolds : List ℕ → ℕ → List ℕ → ℕ → Bool
 markHolds f place v e = eqb place 0 || evalF (readF 32 (drop place f) .tree) v e
+
+-- whether it has a value
+unfoldable pub markHasIn : List ℕ → ℕ → List ℕ → ℕ → Bool
+markHasIn f place v e = eqb place 0 || hasF (readF 32 (drop place f) .tree) v e

@@ -5,6 +5,7 @@ use mathlib.Core.Bool.{Bool, true, false, _&&_}
 use mathlib.Core.List.{List, []}
 use Prim.Native.Nat.{ℕ, zero, suc, _+_, _-_, _<_, _≤_}
 use native.Mathlib.Omega.{arith}
+use native.Mathlib.Decide.{decLt}
 use lib.ListN.{length, getD, drop, drop-of-length-le}
 use lib.Seq.{drop-cons}
 use Rattle.terms.specs.Mark.{valueMark, formulaMark}
@@ -106,6 +107,22 @@ module _ (s : List ℕ) (at d : ℕ) where
       unfolding sumFreeV
       wrong-v m = rw (step-v s at d deep inside, ← ew, m) (found-eq refl (omega arith))
 
+    -- a leaf that is answered at the front, where one field more follows the mark
+    pub front-operand : at + 1 < length s → getD s at 0 < 2 → found true (at + 2) ≡ whole-v
+    unfolding valueMark
+    front-operand h l = go (decLt (getD s at 0) 1)
+      where
+        mark : ValueMark
+        mark = valueMark (getD s at 0)
+
+        go : Dec (getD s at 0 < 1) → found true (at + 2) ≡ whole-v
+        go (yes k) = let e : getD s at 0 ≡ 0 = omega arith in number mark refl (rw e) h
+        go (no k) = let e : getD s at 0 ≡ 1 = omega arith in parameter mark refl (rw e) h
+
+    pub front-sum : getD s at 0 ≡ 2 → found false (at + 1) ≡ whole-v
+    unfolding valueMark
+    front-sum e = sum-value (valueMark (getD s at 0)) refl (rw e)
+
     module _ (w : FormulaMark) (ew : w ≡ formulaMark (getD s at 0)) where
       pub constant : (b : Bool) → w ≡ fm.Constant b → found true (at + 1) ≡ whole-f
       unfolding sumFreeF
@@ -132,3 +149,12 @@ module _ (s : List ℕ) (at d : ℕ) where
       pub wrong-f : w ≡ fm.Wrong → found true at ≡ whole-f
       unfolding sumFreeF
       wrong-f m = rw (step-f s at d deep inside, ← ew, m) (found-eq refl (omega arith))
+
+    -- a constant that is answered at the front
+    pub front-true : getD s at 0 ≡ 10 → found true (at + 1) ≡ whole-f
+    unfolding formulaMark
+    front-true e = constant (formulaMark (getD s at 0)) refl true (rw e)
+
+    pub front-false : getD s at 0 ≡ 11 → found true (at + 1) ≡ whole-f
+    unfolding formulaMark
+    front-false e = constant (formulaMark (getD s at 0)) refl false (rw e)

@@ -1,0 +1,4 @@
+pub mod Conditions
+pub mod Divisors
+pub mod Laws
+pub mod Sets
