@@ -9,7 +9,7 @@ use native.Mathlib.Omega.{arith}
 use native.Mathlib.Decide.{decLe}
 use borrow.Author.Tests.{not-true, not-false, eqb-true}
 use lib.Dec.{eqb, ltb}
-use lib.ListN.{length, length-map}
+use lib.ListN.{length, length-map, getD}
 use Rattle.foundation.specs.First.{allIn}
 use Rattle.foundation.specs.Radix.{sameB}
 use Rattle.foundation.specs.Reflects.{_⇒_}
@@ -18,12 +18,14 @@ use Rattle.foundation.proofs.Trial.{place-passes}
 use Rattle.criteria.specs.Design.{Design, Row, mapped}
 use Rattle.criteria.specs.Step.{nextState}
 use Rattle.criteria.specs.Rows.{noRow, rowAt, markedTest}
-use Rattle.terms.specs.Tree.{evalV, evalF}
-use Rattle.decision.specs.Tests.{enabledB, internalB, markedB, focusB, rowNumber, holds2, holds3, holds4, holds5, holds6, holds7, holds8, holds9}
+use Rattle.terms.specs.Tree.{evalV, evalF, hasF}
+use Rattle.decision.specs.Tests.{enabledB, haveB, internalB, markedB, focusB, rowNumber, holds2, holds3, holds4, holds5, holds6, holds7, holds8, holds9}
+use Rattle.decision.proofs.Alike.{has-value-alike, has-formula-alike, have-alike}
 use Rattle.decision.proofs.Find.{Found, Missing, find, found-partner}
 use Rattle.design.specs.Loaded.{designAt}
 use Rattle.design.specs.declared.Shape.{Shape}
 use Rattle.steps.specs.Arrays.{padded, stepOf, rowStep, rowSpan, rowWith, belowIn, sameIn, insideIn, mappedIn, measureIn}
+use Rattle.defined.specs.Defined.{hasInvariantIn, hasMappingIn, hasMeasureIn}
 use Rattle.marks.specs.Marks.{markedIn}
 use Rattle.marks.proofs.Held.{marked-held}
 use Rattle.steps.specs.declared.Step.{Step}
@@ -129,32 +131,39 @@ module _ (f s : List ℕ) (h : Shape) (here : Here) (known : Known h (designAt f
       next-short : length next ≤ 8
       next-short = states.next-short f s (h .implementation) (known .fits .implementation) k v e
 
-      pub holds3-is : (b : Bool) → b ≡ insideIn f s h (r .next) → not (r .enabled) || b ≡ atImpl holds3 d v k e
-      unfolding atImpl rowStep stepOf evalV
-      holds3-is b eb = rw (eb, er) (go (states.next-length f s (h .implementation) k))
+      -- what has a value there
+      agree : (i : ℕ) → getD (padded next) i 0 ≡ getD next i 0
+      agree = states.same-values next next-short
+
+      pub holds3-is : (b has : Bool) → b ≡ insideIn f s h (r .next) → has ≡ hasInvariantIn f s h (r .next) → not (r .enabled) || (b && has) ≡ atImpl holds3 d v k e
+      unfolding atImpl rowStep stepOf evalV hasInvariantIn
+      holds3-is b has eb eh = rw (eh, eb, er, has-formula-alike (padded next) next agree (d .invariant) 0) (go (states.next-length f s (h .implementation) k))
         where
           go : (length (implAt k .next) ≡ h .implementation .parameters .count) ⊎ (implAt k ≡ noRow)
-              → not (stepOf (implAt k) v e .enabled) || insideIn f s h (padded next) ≡ holds3 d v (implAt k) e
+              → not (stepOf (implAt k) v e .enabled) || (insideIn f s h (padded next) && hasF (d .invariant) next 0) ≡ holds3 d v (implAt k) e
           go (inl m) = rw (states.inside-held f s h (known .fits) next (length-map (implAt k .next) _ ∙ m))
           go (inr m) = rw m
 
-      pub holds4-is : (w : List ℕ) (b : Bool) → w ≡ mappedIn f s h (r .next) → b ≡ sameIn n (here .mapped) w
-          → not (r .enabled) || (not (eqb (r .action) 0) || b) ≡ atImpl holds4 d v k e
-      unfolding atImpl rowStep stepOf
-      holds4-is w b ew eb =
+      pub holds4-is : (w : List ℕ) (b has : Bool) → w ≡ mappedIn f s h (r .next) → b ≡ sameIn n (here .mapped) w → has ≡ hasMappingIn f s h (r .next)
+          → not (r .enabled) || (not (eqb (r .action) 0) || (b && has)) ≡ atImpl holds4 d v k e
+      unfolding atImpl rowStep stepOf hasMappingIn
+      holds4-is w b has ew eb eh =
           rw (
+            eh,
             eb,
             ew,
             er,
             known .mapped-is,
             states.mapped-held f s h next next-short,
             states.same-held (mapped d v) (mapped d next) n (states.mapped-length f s h v) (states.mapped-length f s h next) few,
+            have-alike (padded next) next agree (d .mapping) 0,
           )
 
-      pub holds5-is : (there measure : ℕ) (marked : Bool) → there ≡ measureIn f s h (r .next) → measure ≡ measureIn f s h v → marked ≡ markedIn f s h k v e
-          → not (r .enabled) || (not (eqb (r .action) 0) || (not marked || ltb there measure)) ≡ atImplBy holds5 d v k e
-      unfolding atImplBy rowStep stepOf measureIn
-      holds5-is there measure marked et em ek = rw (ek, et, em, er, states.measure-held f s h next next-short) (mark-asked f s h v k e _)
+      pub holds5-is : (there measure : ℕ) (marked has : Bool) → there ≡ measureIn f s h (r .next) → measure ≡ measureIn f s h v → marked ≡ markedIn f s h k v e
+          → has ≡ hasMeasureIn f s h (r .next) → not (r .enabled) || (not (eqb (r .action) 0) || (not marked || (ltb there measure && has))) ≡ atImplBy holds5 d v k e
+      unfolding atImplBy rowStep stepOf measureIn hasMeasureIn
+      holds5-is there measure marked has et em ek eh =
+          rw (eh, ek, et, em, er, states.measure-held f s h next next-short, has-value-alike (padded next) next agree (d .measure) 0) (mark-asked f s h v k e _)
 
       module _ (j : ℕ) (q : Step) (ej : j ≡ rowWith f s (h .specification) (r .action)) (eq : q ≡ rowStep f s (h .specification) j (here .mapped) e) where
         pub holds6-is : not (r .enabled) || (eqb (r .action) 0 || q .enabled) ≡ atImpl holds6 d v k e
@@ -168,14 +177,15 @@ module _ (f s : List ℕ) (h : Shape) (here : Here) (known : Known h (designAt f
             ∙ ap (λ b. not (r .enabled) || b) (twice (eqb (r .action) 0) (not (not (eqb j 0)) || eqb (r .carries) (q .carries)))
             ∙ rw (eq, spec-step j e, ej, impl-step k e r er)
 
-        pub holds9-is : (w : List ℕ) (b : Bool) → w ≡ mappedIn f s h (r .next) → b ≡ sameIn n w (q .next)
-            → not (r .enabled) || (eqb (r .action) 0 || (eqb j 0 || b)) ≡ atImpl holds9 d v k e
-        unfolding atImpl stepOf rowWith
-        holds9-is w b ew eb =
-            ap (λ x. not (r .enabled) || (eqb (r .action) 0 || x)) (twice (eqb j 0) b)
-            ∙ ap (λ x. not (r .enabled) || x) (twice (eqb (r .action) 0) (not (not (eqb j 0)) || b))
-            ∙ rw (eb, ew, eq, spec-step j e, ej, impl-step k e r er, states.mapped-held f s h next next-short)
-            (ap (λ x. enabledB (implAt k) v e ⇒ not (internalB (implAt k)) ⇒ x) (where-some (rowNumber (d .spec) (implAt k .action)) _ _ there))
+        pub holds9-is : (w : List ℕ) (b has : Bool) → w ≡ mappedIn f s h (r .next) → b ≡ sameIn n w (q .next) → has ≡ hasMappingIn f s h (r .next)
+            → not (r .enabled) || (eqb (r .action) 0 || (eqb j 0 || (b && has))) ≡ atImpl holds9 d v k e
+        unfolding atImpl stepOf rowWith hasMappingIn
+        holds9-is w b has ew eb eh =
+            ap (λ x. not (r .enabled) || (eqb (r .action) 0 || x)) (twice (eqb j 0) (b && has))
+            ∙ ap (λ x. not (r .enabled) || x) (twice (eqb (r .action) 0) (not (not (eqb j 0)) || (b && has)))
+            ∙ rw (eh, eb, ew, eq, spec-step j e, ej, impl-step k e r er, states.mapped-held f s h next next-short, have-alike (padded next) next agree (d .mapping) 0)
+            (ap (λ x. enabledB (implAt k) v e ⇒ not (internalB (implAt k)) ⇒ x)
+            (where-some (rowNumber (d .spec) (implAt k .action)) _ _ (λ some. ap (λ x. x && haveB (d .mapping) next 0) (there some))))
           where
             i : ℕ
             i = rowNumber (d .spec) (implAt k .action)

@@ -92,7 +92,9 @@ fn holds3<'a>(
     ensures { λ r. ⌜ r ≡ atImpl tests.holds3 (designAt (now (fields .entry)) (now (starts .entry)) shape) (here .state) k sum ⌝ }
 {
     let step = steps::row_step(fields, starts, shape.implementation, k, &here.state, sum);
-    !step.enabled | steps::inside(fields, starts, shape, &step.next)
+    let there = steps::inside(fields, starts, shape, &step.next)
+        & defined::invariant(fields, starts, shape, &step.next);
+    !step.enabled | there
 }
 
 fn holds4<'a>(
@@ -109,7 +111,9 @@ fn holds4<'a>(
     let step = steps::row_step(fields, starts, shape.implementation, k, &here.state, sum);
     let there = steps::mapped(fields, starts, shape, &step.next);
     let n = shape.specification.parameters.count;
-    !step.enabled | (!(step.action == 0) | steps::same(n, &here.mapped, &there))
+    let kept = steps::same(n, &here.mapped, &there)
+        & defined::mapping(fields, starts, shape, &step.next);
+    !step.enabled | (!(step.action == 0) | kept)
 }
 
 fn holds5<'a>(
@@ -127,7 +131,8 @@ fn holds5<'a>(
     let there = steps::measure(fields, starts, shape, &step.next);
     let measure = steps::measure(fields, starts, shape, &here.state);
     let marked = marks::marked(fields, starts, shape, k, &here.state, sum);
-    !step.enabled | (!(step.action == 0) | (!marked | (there < measure)))
+    let lower = (there < measure) & defined::measure(fields, starts, shape, &step.next);
+    !step.enabled | (!(step.action == 0) | (!marked | lower))
 }
 
 fn holds6<'a>(
@@ -198,7 +203,9 @@ fn holds9<'a>(
     let answer = steps::row_step(fields, starts, shape.specification, row, &here.mapped, sum);
     let there = steps::mapped(fields, starts, shape, &step.next);
     let n = shape.specification.parameters.count;
-    !step.enabled | ((step.action == 0) | ((row == 0) | steps::same(n, &there, &answer.next)))
+    let same = steps::same(n, &there, &answer.next)
+        & defined::mapping(fields, starts, shape, &step.next);
+    !step.enabled | ((step.action == 0) | ((row == 0) | same))
 }
 
 // ---- the lowest failure of a state

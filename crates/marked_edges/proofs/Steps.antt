@@ -1,5 +1,5 @@
 -- The steps by number are the marked steps of the design in the arrays, where each state has a number of 16 bits, no span is over 256 and
--- criterion 3 holds: from a state in which the invariant holds, a number leads to that of the state to which a marked step leads, and every
+-- a measure can be made: from a state in which the invariant holds, a number leads to that of the state to which a marked step leads, and every
 -- marked step has such a number.
 use mathlib.Core.Path.{_≡_, refl, sym, _∙_, ap}
 use mathlib.Core.Bool.{Bool, true, false, true≢false}
@@ -10,11 +10,14 @@ use native.Mathlib.Decide.{decLt}
 use borrow.Author.Tests.{lt-ltb, ltb-true, eqb-true, eq-eqb}
 use lib.Dec.{ltb}
 use Rattle.foundation.proofs.Nth.{nth-positive}
+use Rattle.terms.specs.Tree.{evalF}
+use Rattle.terms.proofs.Meaning.{holds-says, says-holds, has-says-f}
 use Rattle.criteria.specs.Design.{Design, Row, State, RowIs, InvariantState, states, stateNumber}
 use Rattle.criteria.specs.Step.{Enabled, Marked, MarkedStep, nextState}
 use Rattle.criteria.specs.Rows.{markOf, markedTest}
-use Rattle.criteria.specs.Measure.{MeetsThird}
-use Rattle.criteria.proofs.Rows.{is-row-at, is-row-below, row-at-is, marked-holds, holds-marked, and-true, step-of}
+use Rattle.criteria.specs.Criteria.{OthersHave}
+use Rattle.criteria.specs.Measure.{Measurable}
+use Rattle.criteria.proofs.Rows.{is-row-at, is-row-below, row-at-is, marked-holds, holds-marked, mark-has, and-true, step-of}
 use Rattle.decision.specs.Tests.{enabledB, internalB, markedB}
 use Rattle.decision.proofs.Alike.{formula-alike, values-alike}
 use Rattle.design.specs.Loaded.{designAt}
@@ -29,7 +32,7 @@ use Rattle.marked_edges.specs.Edges.{edges, nowhere, edgeRow, edgeIn, le
 use Rattle.marked_edges.proofs.Edges.{leads-there, leads-nowhere, past-rows, edge-is, row-of, sum-of}
 
 -- what the design does at an array that holds a state, it does at the state
-module _ (f s : List ℕ) (h : Shape) (fits : Fits h) (few : states (designAt f s h) ≤ 65536) (spans : SumsNumbered f s (h .implementation)) (third : MeetsThird (designAt f s h)) where
+module _ (f s : List ℕ) (h : Shape) (fits : Fits h) (few : states (designAt f s h) ≤ 65536) (spans : SumsNumbered f s (h .implementation)) (measurable : Measurable (designAt f s h)) where
   abbrev d : Design
   d = designAt f s h
 
@@ -40,13 +43,19 @@ module _ (f s : List ℕ) (h : Shape) (fits : Fits h) (few : states (designAt f 
     abbrev v : List ℕ
     v = padded x
 
+    holds : evalF (d .invariant) x 0 ≡ true
+    holds = holds-says (d .invariant) x 0 (i .invariant) .1
+
+    have : OthersHave d x
+    have = measurable .tenth x (i .in-size) .others (i .invariant)
+
     alike : (k : ℕ) → lib.ListN.getD v k 0 ≡ lib.ListN.getD x k 0
     alike = held.same-values x (held.state-short f s h fits x (i .in-size))
 
     -- steps by number from x are those at its array
     next-is : (j : ℕ) → next (stateNumber d x) j ≡ leadsIn f s h v j
     unfolding nextIn
-    next-is j = rw (held.array-of f s h fits x (i .in-size), held.invariant-of f s h fits x (i .in-size), i .invariant)
+    next-is j = rw (held.array-of f s h fits x (i .in-size), held.invariant-of f s h fits x (i .in-size), holds)
 
     test-is : (k e : ℕ) (r : Row) → markedTest d v k r e ≡ markedTest d x k r e
     test-is k e r = rw (formula-alike v x alike (r .condition) e, formula-alike v x alike (markOf d k) e)
@@ -85,13 +94,16 @@ module _ (f s : List ℕ) (h : Shape) (fits : Fits h) (few : states (designAt f 
                 let in-looks = ltb-true (j % 256) (implPlan f s h (j / 256) .looks) (both .0) in
                 let is : RowIs (d .impl .rows) (j / 256 + 1) r = row-at-is (d .impl .rows) (j / 256 + 1) (j % 256) (omega arith) in
                 let parts = and-true (internalB r) _ (sym (test-is (j / 256 + 1) (j % 256) r) ∙ both .1) in
-                let holds = and-true (enabledB r x (j % 256)) (markedB d (j / 256 + 1) x (j % 256)) (parts .1) in
+                let tests = and-true (enabledB r x (j % 256)) (markedB d (j / 256 + 1) x (j % 256)) (parts .1) in
                 let zero-is = eqb-true (r .action) 0 (parts .0) in
-                let on : Enabled r x (j % 256) = record { in-span = omega arith; condition = holds .0 } in
-                let to : InvariantState d (nextState r x (j % 256)) = third x i (j / 256 + 1) r (j % 256) is on in
+                let in-span : j % 256 < r .span = omega arith in
+                let condition-has = has-says-f (r .condition) x (j % 256) (have .impl (j / 256 + 1) r is .condition (j % 256) in-span) in
+                let on : Enabled r x (j % 256) = record { in-span = in-span; condition = says-holds (r .condition) x (j % 256) condition-has (tests .0) } in
+                let has = mark-has d (j / 256 + 1) x (j % 256) (have .marks (j / 256 + 1) r is zero-is (j % 256) in-span) in
+                let to : InvariantState d (nextState r x (j % 256)) = measurable .third x i (j / 256 + 1) r (j % 256) is on in
                 record {
                   to = nextState r x (j % 256);
-                  step = step-of d x (record { at = j / 256 + 1; row = r; sum = j % 256; is-row = is; zero = zero-is; enabled = on; marked = holds-marked d (j / 256 + 1) x (j % 256) is zero-is (holds .1) });
+                  step = step-of d x have (record { at = j / 256 + 1; row = r; sum = j % 256; is-row = is; zero = zero-is; enabled = on; marked = holds-marked d (j / 256 + 1) x (j % 256) is zero-is has (tests .1) });
                   inside = to;
                   number = sym (number-is r (j % 256) to) ∙ sym (leads-there f s h v j z) ∙ sym (next-is j) ∙ e;
                 }
@@ -127,7 +139,7 @@ module _ (f s : List ℕ) (h : Shape) (fits : Fits h) (few : states (designAt f 
             in-span = rw is-row (m .internal .step .enabled .in-span)
 
             to : InvariantState d (nextState (m .internal .step .row) x (m .internal .step .sum))
-            to = third x i (suc a) (m .internal .step .row) (m .internal .step .sum) is (m .internal .step .enabled)
+            to = measurable .third x i (suc a) (m .internal .step .row) (m .internal .step .sum) is (m .internal .step .enabled)
 
             numbered : Likewise d (a + 1) v (implPlan f s h a .looks) (m .internal .step .sum) → HasNumber y
             numbered k =
@@ -152,13 +164,13 @@ module _ (f s : List ℕ) (h : Shape) (fits : Fits h) (few : states (designAt f 
                     let u = k .below in
                     let few-sums : m .internal .step .row .span ≤ 256 = spans (suc a) (m .internal .step .row) is in
                     let span-is : rowOf f s h a .span ≡ m .internal .step .row .span = ap (λ (q : Row). q .span) is-row in
-                    let enabled : enabledB (rowOf f s h a) v (m .internal .step .sum) ≡ true = formula-alike v x alike (rowOf f s h a .condition) e ∙ rw is-row (m .internal .step .enabled .condition) in
+                    let enabled : enabledB (rowOf f s h a) v (m .internal .step .sum) ≡ true = formula-alike v x alike (rowOf f s h a .condition) e ∙ rw is-row (holds-says (m .internal .step .row .condition) x e (m .internal .step .enabled .condition) .1) in
                     let a-is : a + 1 ≡ suc a = omega arith in
-                    let marked : markedB d (a + 1) v (m .internal .step .sum) ≡ true = formula-alike v x alike (markOf d (a + 1)) e ∙ rw a-is (marked-holds d (suc a) x e mark) in
+                    let marked : markedB d (a + 1) v (m .internal .step .sum) ≡ true = formula-alike v x alike (markOf d (a + 1)) e ∙ rw a-is (marked-holds d (suc a) x e mark .1) in
                     edge-is f s h v a (k .sum) (omega arith) ∙ rw (lt-ltb (k .sum) (implPlan f s h a .looks) u, int, k .on, enabled, k .marked int, marked)
 
                 arrives : (k : Likewise d (a + 1) v (implPlan f s h a .looks) (m .internal .step .sum))
                     → numberIn f s (h .implementation) (padded (nextState (rowOf f s h a) v (k .sum))) ≡ stateNumber d y
                 arrives k =
                     ap (λ z. numberIn f s (h .implementation) (padded z)) (k .next ∙ ap (λ (q : Row). nextState q v e) is-row)
-                    ∙ number-is (m .internal .step .row) e to ∙ ap (stateNumber d) (m .internal .step .goes)
+                    ∙ number-is (m .internal .step .row) e to ∙ ap (stateNumber d) (m .internal .step .goes .same)

@@ -1,6 +1,6 @@
 -- What a measure answers and writes is determined, the state that it names apart; and one that is turned down writes nothing.
 use mathlib.Core.Path.{_≡_, refl, sym, _∙_, subst}
-use mathlib.Core.Bool.{Bool, true, false, true≢false}
+use mathlib.Core.Bool.{Bool}
 use mathlib.Core.List.{List}
 use Prim.Native.Nat.{ℕ, _<_}
 use native.Mathlib.Omega.{arith}
@@ -10,9 +10,10 @@ use lib.Seq.{ext-getD}
 use Rattle.foundation.specs.Radix.{valuesOf}
 use Rattle.foundation.proofs.Radix.{values-below, number-of-values}
 use Rattle.criteria.specs.Design.{Design, State, InSize, Invariant, InvariantState, sizes, states, stateNumber}
-use Rattle.criteria.specs.Measure.{OnLoop, MeetsThird}
+use Rattle.criteria.specs.Measure.{OnLoop, Measurable}
 use Rattle.criteria.proofs.Measure.{not-both, one-length, longest-meets, no-loop}
-use Rattle.decision.specs.Tests.{invariantB}
+use Rattle.foundation.specs.Reflects.{Reflects, so, not-so}
+use Rattle.decision.proofs.Tests.{by-holds}
 use Rattle.design.specs.declared.Counts.{Counts}
 use Rattle.answers.specs.declared.Measured.{Measured}
 use Rattle.answers.specs.declared.Measured.the-variants.{TurnedDown}
@@ -31,18 +32,16 @@ module _ (d : Design) (before a b : List ℕ) where
           subst (λ k. getD a k 0 ≡ getD b k 0) e (same (valuesOf (sizes (d .impl)) i) (values-below (sizes (d .impl)) i l))
 
   same-runs : LongestRuns d a → LongestRuns d b → (s : State) → InSize (d .impl) s → numberAt d a s ≡ numberAt d b s
-  same-runs la lb s in-size = go (invariantB d s) refl
+  same-runs la lb s in-size = go (by-holds d s)
     where
-      go : (y : Bool) → invariantB d s ≡ y → numberAt d a s ≡ numberAt d b s
-      go true e =
-          let i : InvariantState d s = record { in-size = in-size; invariant = e } in
+      go : {y : Bool} → Reflects (Invariant d s) y → numberAt d a s ≡ numberAt d b s
+      go (so holds) =
+          let i : InvariantState d s = record { in-size = in-size; invariant = holds } in
           one-length d s (numberAt d a s) (numberAt d b s) (la .inside s i) (lb .inside s i)
-      go false e =
-          let out : Invariant d s → ⊥ = λ holds. true≢false (sym holds ∙ e) in
-          la .elsewhere s in-size out ∙ sym (lb .elsewhere s in-size out)
+      go (not-so out) = la .elsewhere s in-size out ∙ sym (lb .elsewhere s in-size out)
 
-no-loop-measured : (d : Design) (slice : List ℕ) → MeetsThird d → LongestRuns d slice → (s : State) → OnLoop d s → ⊥
-no-loop-measured d slice third runs s = no-loop d third (numberAt d slice) (longest-meets d third (numberAt d slice) (runs .inside)) s
+no-loop-measured : (d : Design) (slice : List ℕ) → Measurable d → LongestRuns d slice → (s : State) → OnLoop d s → ⊥
+no-loop-measured d slice m runs s = no-loop d m (numberAt d slice) (longest-meets d m (numberAt d slice) (runs .inside)) s
 
 pub one-made : (d : Design) {before a b : List ℕ} {r q : Measured} → Made d before a r → Made d before b q → (a ≡ b) × SameAnswer r q
 one-made d (leaves x e) (leaves y g) = (e ∙ sym g, both-refused 18)

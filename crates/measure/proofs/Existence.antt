@@ -11,8 +11,8 @@ use lib.ListN.{length}
 use Rattle.foundation.specs.Reflects.{so}
 use Rattle.foundation.proofs.Reflects.{says-yes, says-no}
 use Rattle.criteria.specs.Design.{states}
-use Rattle.criteria.specs.Measure.{MeetsThird, FailsThird}
-use Rattle.decision.proofs.Third.{third-or-not}
+use Rattle.criteria.specs.Measure.{Measurable, Unmeasurable}
+use Rattle.decision.proofs.Measurable.{measurable-or-not}
 use Rattle.design.specs.Loaded.{designAt, designIn}
 use Rattle.design.specs.declared.Counts.{Counts}
 use Rattle.design.specs.declared.Process.{Process}
@@ -21,7 +21,7 @@ use Rattle.layout.specs.Sizes.{countsFit, shapeOf, stateCountIn}
 use Rattle.steps.specs.Arrays.{rowSpan}
 use Rattle.marked_edges.specs.Edges.{nextIn, SumsNumbered}
 use Rattle.longest_runs.proofs.Existence.{written-there}
-use Rattle.criterion3.specs.Third.{meets, fails}
+use Rattle.measurable.specs.Measurable.{can, cannot}
 use Rattle.answers.specs.declared.Measured.{Measured}
 use Rattle.answers.specs.declared.Measured.the-variants as measured
 use Rattle.measure.specs.Answer.{HasRoom, MeasureIn, short, answerOf}
@@ -85,17 +85,17 @@ module _ (f s : List ℕ) (c : Counts) (before : List ℕ) where
   pub measure-there : MeasureFrom f s c before
   measure-there = go (room-or-not f s c (length before))
     where
-      made : HasRoom f s c (length before) → MeetsThird (designAt f s h) ⊎ FailsThird (designAt f s h) → MeasureFrom f s c before
+      made : HasRoom f s c (length before) → Measurable (designAt f s h) ⊎ Unmeasurable (designAt f s h) → MeasureFrom f s c before
       made r (inr out) =
-          record { after = before; answer = measured.TurnedDown 18; is = measure-leaves f s before before c h m true refl refl (so r) refl false (fails out) refl refl }
+          record { after = before; answer = measured.TurnedDown 18; is = measure-leaves f s before before c h m true refl refl (so r) refl false (cannot out) refl refl }
       made r (inl all) =
           let t = written-there (nextIn f s h) m before (enough f s c h m (length before) true refl refl (so r) refl) in
           record {
             after = t .after;
             answer = answerOf (t .answer);
-            is = measure-made f s before (t .after) c h m true refl refl (so r) refl true (t .answer) (answerOf (t .answer)) (meets all) refl (t .is) refl;
+            is = measure-made f s before (t .after) c h m true refl refl (so r) refl true (t .answer) (answerOf (t .answer)) (can all) refl (t .is) refl;
           }
 
       go : HasRoom f s c (length before) ⊎ (HasRoom f s c (length before) → ⊥) → MeasureFrom f s c before
       go (inr none) = record { after = before; answer = measured.TurnedDown 17; is = short none refl }
-      go (inl r) = made r (third-or-not (designAt f s h))
+      go (inl r) = made r (measurable-or-not (designAt f s h))

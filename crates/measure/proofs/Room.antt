@@ -11,7 +11,7 @@ use lib.ListN.{length}
 use Rattle.foundation.specs.Reflects.{Reflects, so, not-so}
 use Rattle.criteria.specs.Design.{states}
 use Rattle.criteria.specs.Rows.{rowAt}
-use Rattle.criteria.specs.Measure.{FailsThird}
+use Rattle.criteria.specs.Measure.{Unmeasurable}
 use Rattle.criteria.proofs.Rows.{is-row-at, is-row-below, row-at-is}
 use Rattle.design.specs.Loaded.{sections, processIn, designAt, designIn}
 use Rattle.design.specs.declared.Counts.{Counts}
@@ -25,7 +25,7 @@ use Rattle.marked_edges.specs.Edges.{nextIn, SumsNumbered}
 use Rattle.longest_runs.specs.Runs.{Written}
 use Rattle.longest_runs.specs.declared.Lengths.{Lengths}
 use Rattle.longest_runs.specs.declared.Lengths.the-variants as lengths
-use Rattle.criterion3.specs.Third.{Third, meets, fails}
+use Rattle.measurable.specs.Measurable.{CanMeasure, can, cannot}
 use Rattle.answers.specs.declared.Measured.{Measured}
 use Rattle.answers.specs.declared.Measured.the-variants as measured
 use Rattle.measure.specs.Answer.{HasRoom, Made, leaves, MeasureIn, short, has-room, answerOf}
@@ -150,14 +150,14 @@ module _ (f s before after : List ℕ) (c : Counts) (h : Shape) (m : ℕ) (b : B
   same-shape : h ≡ sections c
   same-shape = eh ∙ sections-kept c (has .counts)
 
-  pub measure-leaves : (z : Bool) → Third (designAt f s h) z → not z ≡ true → after ≡ before → MeasureIn f s c before after (measured.TurnedDown 18)
-  measure-leaves z (meets a) w e = absurd (true≢false (sym w))
-  measure-leaves z (fails a) w e = has-room has (leaves (subst (λ (g : Shape). FailsThird (designAt f s g)) same-shape a) e)
+  pub measure-leaves : (z : Bool) → CanMeasure (designAt f s h) z → not z ≡ true → after ≡ before → MeasureIn f s c before after (measured.TurnedDown 18)
+  measure-leaves z (can a) w e = absurd (true≢false (sym w))
+  measure-leaves z (cannot a) w e = has-room has (leaves (subst (λ (g : Shape). Unmeasurable (designAt f s g)) same-shape a) e)
 
-  pub measure-made : (z : Bool) (q : Lengths) (a : Measured) → Third (designAt f s h) z → not z ≡ false → Written (nextIn f s h) m before after q → a ≡ answerOf q
+  pub measure-made : (z : Bool) (q : Lengths) (a : Measured) → CanMeasure (designAt f s h) z → not z ≡ false → Written (nextIn f s h) m before after q → a ≡ answerOf q
       → MeasureIn f s c before after a
-  measure-made z q a (fails t) w g ea = absurd (true≢false w)
-  measure-made z q a (meets t) w g ea =
+  measure-made z q a (cannot t) w g ea = absurd (true≢false w)
+  measure-made z q a (can t) w g ea =
       let k = count-is f s c h m (length before) b eh em r y in
       let few = few-states f s c h m (length before) b eh em r y in
       let all : Written (nextIn f s h) (states (designAt f s h)) before after q = subst (λ i. Written (nextIn f s h) i before after q) k g in

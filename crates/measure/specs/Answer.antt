@@ -1,5 +1,5 @@
--- What a measure answers and writes (02, order 4), in the words of criteria/specs/Measure: d is the design, `before` and `after` what the slice
--- holds before the call and after it.
+-- What a measure answers and writes (02, orders 4 and 5), in the words of criteria/specs/Measure: d is the design, `before` and `after`
+-- what the slice holds before the call and after it.
 use mathlib.Core.Path.{_≡_}
 use mathlib.Core.Bool.{true}
 use mathlib.Core.List.{List}
@@ -7,7 +7,7 @@ use Prim.Native.Nat.{ℕ, _<_, _≤_}
 use lib.ListN.{length, getD}
 use Rattle.limits.specs.Limits.{maxStates}
 use Rattle.criteria.specs.Design.{Design, State, InSize, Invariant, InvariantState, states, stateNumber}
-use Rattle.criteria.specs.Measure.{LongestRun, OnLoop, MeetsThird, FailsThird}
+use Rattle.criteria.specs.Measure.{LongestRun, OnLoop, Measurable, Unmeasurable}
 use Rattle.design.specs.Loaded.{designIn}
 use Rattle.design.specs.declared.Counts.{Counts}
 use Rattle.layout.specs.Sizes.{countsFit, shapeOf}
@@ -36,12 +36,12 @@ AllZero d slice = (s : State) → InSize (d .impl) s → numberAt d slice s ≡ 
 
 -- ---- the answer, where the slice has room
 
--- "18 where criterion 3 fails in some state"; "If marked steps form a loop among invariant states, write 0 for every state and name some
--- state on one": which state is free
+-- "18 where criterion 3 fails in some state", and now criterion 10, "the measure apart"; "If marked steps form a loop among invariant
+-- states, write 0 for every state and name some state on one": which state is free
 pub data Made (d : Design) (before after : List ℕ) : Measured → Type 0 where
-  leaves : FailsThird d → after ≡ before → Made d before after (TurnedDown 18)
-  filled : MeetsThird d → KeptPast (states d) before after → LongestRuns d after → Made d before after Filled
-  loop : (s : State) → MeetsThird d → KeptPast (states d) before after → AllZero d after → OnLoop d s → Made d before after (Loop (stateNumber d s))
+  leaves : Unmeasurable d → after ≡ before → Made d before after (TurnedDown 18)
+  filled : Measurable d → KeptPast (states d) before after → LongestRuns d after → Made d before after Filled
+  loop : (s : State) → Measurable d → KeptPast (states d) before after → AllZero d after → OnLoop d s → Made d before after (Loop (stateNumber d s))
 
 -- two answers that are the same, the state that is named apart
 pub data SameAnswer : Measured → Measured → Type 0 where
@@ -51,8 +51,8 @@ pub data SameAnswer : Measured → Measured → Type 0 where
 
 -- ---- "17 for a slice shorter than the number of states"
 
--- a slice of n places has one for each state. Of arrays that no load made the counts may not fit, a span may be over 256, and there may be more
--- states than numbers of 16 bits: no slice has room for these.
+-- a slice of n places has one for each state. Of arrays that no load made the counts may not fit, a span may be over 256, and there may be
+-- more states than numbers of 16 bits: no slice has room for these.
 pub record HasRoom (f s : List ℕ) (c : Counts) (n : ℕ) : Type 0 where
   pub counts : countsFit c ≡ true
   pub spans : SumsNumbered f s (shapeOf c .implementation)

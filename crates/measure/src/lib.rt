@@ -1,6 +1,7 @@
-// A measure for the design in a desk's arrays (02, order 4): the length of the longest run of marked steps from each state where the invariant
-// holds, written in a lent slice, or zeros and a state on a loop; turned down where the slice has not a place for each state, and where
-// criterion 3 fails in some state. What is answered and written is in specs/Answer, for any arrays and any slice.
+// A measure for the design in a desk's arrays (02, order 4): the length of the longest run of marked steps from each state where the
+// invariant holds, written in a lent slice, or zeros and a state on a loop; turned down where the slice has not a place for each state, and
+// where criterion 3 fails in some state, or a value is missing there, the measure's own apart. What is answered and written is in
+// specs/Answer, for any arrays and any slice.
 use answers::Measured;
 use design::Counts;
 use design::Process;
@@ -25,7 +26,7 @@ pub fn measure<'a>(
     let shape = layout::shape_of(counts);
     let n = layout::state_count(fields, starts, counts);
     let plan = plan::plan(fields, starts, shape);
-    if !criterion3::holds(fields, starts, shape, &plan, n) {
+    if !measurable::holds(fields, starts, shape, &plan, n) {
         return Measured::TurnedDown(18);
     }
     answer_of(longest_runs::fill(fields, starts, shape, &plan, n, slice))

@@ -3,12 +3,16 @@
 use mathlib.Core.Path.{_≡_, refl, sym, _∙_, ap}
 use mathlib.Core.Bool.{Bool, true, false, _&&_, true≢false, cond}
 use mathlib.Core.List.{List, [], _∷_}
-use Prim.Native.Nat.{ℕ, _+_, _-_, _≤_, _<_, min}
+use Prim.Native.Nat.{ℕ, suc, _+_, _-_, _≤_, _<_, min}
+use native.Mathlib.Numerals.{add-one}
 use native.Mathlib.Omega.{arith}
 use native.Mathlib.Decide.{decLt}
 use borrow.Author.Tests.{eqb-true, eq-eqb, ne-eqb}
-use lib.ListN.{getD, drop}
+use lib.ListN.{length, getD, drop}
+use Rattle.foundation.specs.First.{allIn}
 use Rattle.foundation.specs.Nth.{eachB}
+use Rattle.foundation.proofs.First.{all-from}
+use Rattle.foundation.proofs.All.{all-in}
 use Rattle.terms.specs.Tree.{Value, Formula, evalF}
 use Rattle.terms.specs.Read.{readF}
 use Rattle.terms.proofs.And.{and-left, and-right}
@@ -24,6 +28,7 @@ use Rattle.design.specs.declared.Process.{Process}
 use Rattle.design.specs.declared.Shape.{Shape}
 use Rattle.steps.specs.Arrays.{lineOf, rowBy, rowWith}
 use Rattle.steps.proofs.Arrays.{row-there}
+use Rattle.steps.proofs.States.{rows-count}
 use Rattle.marks.specs.Marks.{afterFormulas, markPlace, placeFrom, markHolds}
 use Rattle.marks.proofs.Held.{mark-none, mark-held}
 use Rattle.row_plan.specs.declared.Mark.{Mark}
@@ -89,6 +94,20 @@ pub row-is : (f s : List ℕ) (p : Process) (i : ℕ) → i < p .rows .count →
 row-is f s p i below =
     let e : p .rows .first + (i + 1) - 1 ≡ p .rows .first + i = omega arith in
     row-there f s p (i + 1) (omega arith) (omega arith) ∙ rw e
+
+module _ (f s : List ℕ) (p : Process) where
+  -- what is asked of each row, by its number
+  pub numbered : (G : ℕ → Row → Bool) → allIn (λ i. G (i + 1) (rowIs f s p i)) (p .rows .count) 0
+      ≡ allIn (λ k. G k (rowAt (processIn f s p .rows) k)) (length (processIn f s p .rows)) 1
+  numbered G =
+      all-in (λ i. G (i + 1) (rowIs f s p i)) (λ i. G (suc i) (rowAt (processIn f s p .rows) (suc i))) (p .rows .count) 0 same
+      ∙ ap (λ n. allIn (λ i. G (suc i) (rowAt (processIn f s p .rows) (suc i))) n 0) (sym (rows-count f s p))
+      ∙ sym (all-from (λ k. G k (rowAt (processIn f s p .rows) k)) (length (processIn f s p .rows)) 0)
+    where
+      same : (i : ℕ) → 0 ≤ i → i < 0 + p .rows .count → G (i + 1) (rowIs f s p i) ≡ G (suc i) (rowAt (processIn f s p .rows) (suc i))
+      same i z l =
+          let e : p .rows .first + suc i - 1 ≡ p .rows .first + i = omega arith in
+          rw (add-one i, row-there f s p (suc i) (omega arith) (omega arith), e)
 
 -- ---- the mark of an internal row, by its plan
 

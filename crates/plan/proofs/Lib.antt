@@ -1,2 +1,4 @@
 pub mod Planned
 pub mod Held
+pub mod Risks
+pub mod Safe

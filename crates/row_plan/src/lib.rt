@@ -1,8 +1,9 @@
-// What is known of a row before a walk, and how a plan keeps it: four numbers for each row.
+// What is known of a row before a walk, and how a plan keeps it: four numbers for each row, and behind them the risks, what could leave a
+// row without a value, each told by a number as in the crate divisors.
 ghost use mathlib.Core.Path.{_≡_};
 ghost use mathlib.Core.Bool.{cond};
-ghost use Prim.Native.Nat.{_<_};
-ghost use Rattle.row_plan.specs.RowPlan.{flagsOf, twoFlags, packOf, packedOf, rowPlanAt};
+ghost use Prim.Native.Nat.{_+_, _*_, _/_, _%_, _<_};
+ghost use Rattle.row_plan.specs.RowPlan.{flagsOf, twoFlags, packOf, packedOf, rowPlanAt, riskAt, unsureAt};
 
 // What a plan has of a row.
 pub struct RowPlan {
@@ -34,7 +35,18 @@ const PARTNERS: u16 = 64;
 // A plan has them for each row of the implementation that there may be, and then for each of the specification.
 pub const ROWS: usize = limits::MAX_ROWS;
 
-pub const LENGTH: usize = 2 * ROWS * NUMBERS;
+// Behind them it has a risk for each of these rows, and one of invariant, mapping and measure together, each as two numbers, the lower one
+// first; and a flag: 0 where all risks are 0.
+pub const FIRST_RISK: usize = 2 * ROWS * NUMBERS;
+
+pub const KINDS_RISK: usize = 2 * ROWS;
+
+pub const UNSURE: usize = FIRST_RISK + 2 * (KINDS_RISK + 1);
+
+pub const LENGTH: usize = UNSURE + 1;
+
+// By this, a risk is two numbers.
+const UPPER: u32 = 65536;
 
 // Three flags as a number: its last three binary digits.
 fn flags(first: bool, second: bool, third: bool) -> u16
@@ -104,4 +116,39 @@ pub fn front(plan: &[u16; LENGTH], i: usize) -> u16
     ensures { λ r. ⌜ r ≡ rowPlanAt (now (plan .entry)) i .front ⌝ }
 {
     plan[NUMBERS * i + 2]
+}
+
+// The two numbers of a risk, and the risk by them.
+pub fn lower(risk: u32) -> u16
+    ensures { λ r. ⌜ r ≡ risk % 65536 ⌝ }
+{
+    (risk % UPPER) as u16
+}
+
+pub fn upper(risk: u32) -> u16
+    ensures { λ r. ⌜ r ≡ risk / 65536 ⌝ }
+{
+    (risk / UPPER) as u16
+}
+
+fn from_two(lower: u16, upper: u16) -> u32
+    ensures { λ r. ⌜ r ≡ lower + 65536 * upper ⌝ }
+{
+    lower as u32 + UPPER * upper as u32
+}
+
+// Number i of the risks.
+pub fn risk(plan: &[u16; LENGTH], i: usize) -> u32
+    requires { ⌜ i < 65 ⌝ }
+    ensures { λ r. ⌜ r ≡ riskAt (now (plan .entry)) i ⌝ }
+{
+    let at = FIRST_RISK + 2 * i;
+    from_two(plan[at], plan[at + 1])
+}
+
+// The flag.
+pub fn unsure(plan: &[u16; LENGTH]) -> u16
+    ensures { λ r. ⌜ r ≡ unsureAt (now (plan .entry)) ⌝ }
+{
+    plan[UNSURE]
 }

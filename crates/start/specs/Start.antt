@@ -8,6 +8,7 @@ use Rattle.design.specs.Loaded.{designIn}
 use Rattle.design.specs.declared.Counts.{Counts}
 use Rattle.design.specs.declared.Shape.{Shape}
 use Rattle.layout.specs.Sizes.{countsFit, initialNumberIn}
+use Rattle.defined.specs.Defined.{hasInvariantIn, hasMappingIn}
 use Rattle.steps.specs.Arrays.{initialIn, invariantIn, mappedIn, sameIn}
 
 unfoldable pub startIn : List ℕ → List ℕ → Counts → Bool
@@ -21,4 +22,5 @@ startFailureIn f s c = record { criterion = 1; state = initialNumberIn f s c; ro
 unfoldable pub startMeets : List ℕ → List ℕ → Shape → Bool
 startMeets f s h =
     let v = initialIn f s (h .implementation) in
-    invariantIn f s h v && sameIn (h .specification .parameters .count) (mappedIn f s h v) (initialIn f s (h .specification))
+    (invariantIn f s h v && hasInvariantIn f s h v)
+    && (sameIn (h .specification .parameters .count) (mappedIn f s h v) (initialIn f s (h .specification)) && hasMappingIn f s h v)

@@ -40,5 +40,7 @@ fn meets<'a>(fields: &'a limits::Fields, starts: &'a limits::Starts, shape: Shap
     let t = steps::mapped(fields, starts, shape, &v);
     let u = steps::initial_state(fields, starts, shape.specification);
     let n = shape.specification.parameters.count;
-    steps::invariant(fields, starts, shape, &v) & steps::same(n, &t, &u)
+    let holds = steps::invariant(fields, starts, shape, &v)
+        & defined::invariant(fields, starts, shape, &v);
+    holds & (steps::same(n, &t, &u) & defined::mapping(fields, starts, shape, &v))
 }

@@ -25,10 +25,10 @@ use Rattle.criteria.specs.Design.{Design, Row, State, mapped, measureAt}
 use Rattle.criteria.specs.Step.{nextState, dataNumber}
 use Rattle.criteria.specs.Rows.{rowAt, markedTest}
 use Rattle.criteria.proofs.Rows.{is-row-below}
-use Rattle.decision.specs.Tests.{enabledB, internalB, markedB, invariantStateB, focusB, rowNumber, partner, holds2, holds3, holds4, holds6, holds7, holds8, holds9}
-use Rattle.decision.specs.Quick.{allRows, rowHolds, stateHolds}
+use Rattle.decision.specs.Tests.{enabledB, internalB, markedB, hasInvariantB, hasMappingB, hasMeasureB, insideB, allRows, focusB, rowNumber, partner, holds2, holds3, holds4, holds6, holds7, holds8, holds9}
+use Rattle.decision.specs.Quick.{rowHolds, stateHolds}
 use Rattle.decision.proofs.Quick.{rows-none}
-use Rattle.decision.proofs.Alike.{formula-alike}
+use Rattle.decision.proofs.Alike.{formula-alike, has-value-alike, has-formula-alike, have-alike}
 use Rattle.decision.proofs.Find.{Found, Missing, find, found-at, found-partner}
 use Rattle.design.specs.Line as line
 use Rattle.design.specs.Loaded.{processIn, designAt}
@@ -43,13 +43,17 @@ use Rattle.steps.proofs.States as states
 use Rattle.conjuncts.specs.Conjuncts.{frontOf, guardIn}
 use Rattle.conjuncts.proofs.Conjuncts.{guards}
 use Rattle.conjuncts.specs.declared.Guarded.{Guarded}
-use Rattle.row_plan.specs.RowPlan.{noMark, rowPlanAt}
-use Rattle.plan.specs.Plan.{freeOf, partnerFree, looksOf, markIn, rowPlanOf, planIn}
+use Rattle.row_plan.specs.RowPlan.{noMark, rowPlanAt, riskAt}
+use Rattle.plan.specs.Plan.{freeOf, partnerFree, looksOf, markIn, rowPlanOf, planIn, kindsRisk}
+use Rattle.plan.proofs.Risks.{kinds-risk-at}
+use Rattle.plan.proofs.Safe.{kinds-have}
+use Rattle.divisors.specs.Divisors.{safeAt}
+use Rattle.defined.specs.Defined.{hasInvariantIn, hasMappingIn, hasMeasureIn}
 use Rattle.row_plan.specs.declared.RowPlan.{RowPlan}
 use Rattle.row_plan.specs.declared.Mark.{Mark}
 use Rattle.plan.proofs.Planned.{impl-row-plan, spec-row-plan}
-use Rattle.plan.proofs.Held.{AsForZero, as-for-zero, condition-free, taken-held, rowIs, row-line, row-by, planned, marks-are}
-use Rattle.step_passes.specs.Steps.{keptIn, answeredIn, internalStep, visibleStep}
+use Rattle.plan.proofs.Held.{AsForZero, as-for-zero, condition-free, taken-held, rowIs, row-line, row-by, numbered, planned, marks-are}
+use Rattle.step_passes.specs.Steps.{hasValuesIn, keptIn, answeredIn, internalStep, visibleStep}
 use Rattle.state_passes.specs.Passes.{rowFor, stepIn, stepOfRow, seen, looksIn, rowIn, implIn, replyLooks, replyIn, specIn, passesIn}
 use Rattle.state_passes.specs.declared.Seen.{Seen}
 
@@ -89,23 +93,33 @@ arranged false b r = refl
 
 -- ---- all criteria at a row and a sum value
 
--- what is asked of either sort of row
-either : (b a x y : Bool) → cond b (a && x) (a && y) ≡ a && cond b x y
-either true a x y = refl
-either false a x y = refl
-
-at-once : (en i int s4 l5 q6 j0 d8 s9 : Bool) → (j0 ≡ true → q6 ≡ false)
-    → (en ⇒ (i && cond int (s4 && l5) (q6 && (d8 && s9))))
-    ≡ (en ⇒ i) && ((en ⇒ int ⇒ s4) && ((en ⇒ int ⇒ l5) && ((en ⇒ not int ⇒ q6) && ((en ⇒ not int ⇒ not j0 ⇒ d8) && (en ⇒ not int ⇒ not j0 ⇒ s9)))))
-at-once false i int s4 l5 q6 j0 d8 s9 h = refl
-at-once true false int s4 l5 q6 j0 d8 s9 h = refl
-at-once true true true true true q6 j0 d8 s9 h = refl
-at-once true true true true false q6 j0 d8 s9 h = refl
-at-once true true true false l5 q6 j0 d8 s9 h = refl
-at-once true true false s4 l5 false j0 d8 s9 h = refl
-at-once true true false s4 l5 true false true s9 h = refl
-at-once true true false s4 l5 true false false s9 h = refl
-at-once true true false s4 l5 true true d8 s9 h = absurd (true≢false (h refl))
+at-once : (en i int hi hm hμ mk s4 l5 q6 j0 d8 s9 : Bool) → (j0 ≡ true → q6 ≡ false)
+    → (en ⇒ cond int (i && ((hi && (hm && (mk ⇒ hμ))) && (s4 && (mk ⇒ l5)))) (i && ((hi && (hm && true)) && (q6 && (d8 && s9)))))
+    ≡ (en ⇒ (i && hi)) && ((en ⇒ int ⇒ (s4 && hm)) && ((en ⇒ int ⇒ mk ⇒ (l5 && hμ)) && ((en ⇒ not int ⇒ q6) && ((en ⇒ not int ⇒ not j0 ⇒ d8) && (en ⇒ not int ⇒ not j0 ⇒ (s9 && hm))))))
+at-once false i int hi hm hμ mk s4 l5 q6 j0 d8 s9 h = refl
+at-once true false true hi hm hμ mk s4 l5 q6 j0 d8 s9 h = refl
+at-once true false false hi hm hμ mk s4 l5 q6 j0 d8 s9 h = refl
+at-once true true true false hm hμ mk s4 l5 q6 j0 d8 s9 h = refl
+at-once true true false false hm hμ mk s4 l5 q6 j0 d8 s9 h = refl
+at-once true true true true false hμ mk true l5 q6 j0 d8 s9 h = refl
+at-once true true true true false hμ mk false l5 q6 j0 d8 s9 h = refl
+at-once true true true true true hμ false true l5 q6 j0 d8 s9 h = refl
+at-once true true true true true hμ false false l5 q6 j0 d8 s9 h = refl
+at-once true true true true true true true true true q6 j0 d8 s9 h = refl
+at-once true true true true true true true true false q6 j0 d8 s9 h = refl
+at-once true true true true true true true false l5 q6 j0 d8 s9 h = refl
+at-once true true true true true false true true true q6 j0 d8 s9 h = refl
+at-once true true true true true false true true false q6 j0 d8 s9 h = refl
+at-once true true true true true false true false l5 q6 j0 d8 s9 h = refl
+at-once true true false true true hμ mk s4 l5 false j0 d8 s9 h = refl
+at-once true true false true false hμ mk s4 l5 false j0 d8 s9 h = refl
+at-once true true false true hm hμ mk s4 l5 true true d8 s9 h = absurd (true≢false (h refl))
+at-once true true false true true hμ mk s4 l5 true false true true h = refl
+at-once true true false true true hμ mk s4 l5 true false true false h = refl
+at-once true true false true true hμ mk s4 l5 true false false s9 h = refl
+at-once true true false true false hμ mk s4 l5 true false true true h = refl
+at-once true true false true false hμ mk s4 l5 true false true false h = refl
+at-once true true false true false hμ mk s4 l5 true false false s9 h = refl
 
 on-held : (r : Row) (x : State) (e : ℕ) → onIn r x (sumFreeF (r .condition)) e ≡ enabledB r x e
 on-held r x e = taken-held (r .condition) x e
@@ -124,13 +138,13 @@ module _ (f s : List ℕ) (h : Shape) (v t : List ℕ) (l : ℕ) where
   on-guarded z n e = rw (place f l 3 refl) (guards f z e 32 (l + 3) .says)
 
   module _ (en : RowPlan) where
-    module _ (m : ℕ) where
+    module _ (risk m : ℕ) where
       abbrev row : Row
       row = line.rowOf (h .implementation .parameters .count) (drop l f)
 
       -- its step, by where the data stand
       step-by-place : en .internal ≡ internalB row → (g : Guarded) (p : ℕ) (marked : Bool) (e : ℕ)
-          → stepIn f s h (rowFor g en p) (l + 3 + readF 32 (drop (l + 3) f) .used) marked v t m e ≡ stepOfRow f s h row marked (en .partner) v t m e
+          → stepIn f s h (rowFor g en p risk) (l + 3 + readF 32 (drop (l + 3) f) .used) marked v t m e ≡ stepOfRow f s h risk row marked (en .partner) v t m e
       unfolding internalStep visibleStep stepOfRow valuesAt
       step-by-place ei g p marked e = rw (ei, place f l 3 refl, place f (l + 3) _ refl, place f (l + 3 + _) _ refl)
 
@@ -139,26 +153,26 @@ module _ (f s : List ℕ) (h : Shape) (v t : List ℕ) (l : ℕ) where
         abbrev marked : ℕ → Bool
         marked e = markHolds f p v (cond (en .mark .free) 0 e)
 
-        guarded-row : cond (front v .holds) (looksIn f s h (rowFor (front v) en p) v t m) (seen true true)
-            ≡ seen (allIn (λ e. onIn row v (en .free) e ⇒ stepOfRow f s h row (marked e) (en .partner) v t m e) (en .looks) 0)
+        guarded-row : cond (front v .holds) (looksIn f s h (rowFor (front v) en p risk) v t m) (seen true true)
+            ≡ seen (allIn (λ e. onIn row v (en .free) e ⇒ stepOfRow f s h risk row (marked e) (en .partner) v t m e) (en .looks) 0)
             (not (en .internal) || allIn (λ e. not (onIn row v (en .free) e && marked e)) (en .looks) 0)
         unfolding looksIn
         guarded-row = go (front v .holds) refl
           where
             held : ℕ → Bool
-            held e = onIn row v (en .free) e ⇒ stepOfRow f s h row (marked e) (en .partner) v t m e
+            held e = onIn row v (en .free) e ⇒ stepOfRow f s h risk row (marked e) (en .partner) v t m e
 
             off : ℕ → Bool
             off e = not (onIn row v (en .free) e && marked e)
 
-            go : (b : Bool) → front v .holds ≡ b → cond b (looksIn f s h (rowFor (front v) en p) v t m) (seen true true)
+            go : (b : Bool) → front v .holds ≡ b → cond b (looksIn f s h (rowFor (front v) en p risk) v t m) (seen true true)
                 ≡ seen (allIn held (en .looks) 0) (not (en .internal) || allIn off (en .looks) 0)
             go true y =
                 let on : (e : ℕ) → rest v (cond (en .free) 0 e) ≡ onIn row v (en .free) e =
                 λ e. sym (on-guarded v (h .implementation .parameters .count) (cond (en .free) 0 e) ∙ ap (λ b. b && rest v (cond (en .free) 0 e)) y) in
-                let step : (e : ℕ) → stepIn f s h (rowFor (front v) en p) (front v .at + readF (front v .depth) (drop (front v .at) f) .used) (marked e) v t m e
-                ≡ stepOfRow f s h row (marked e) (en .partner) v t m e =
-                λ e. ap (λ k. stepIn f s h (rowFor (front v) en p) k (marked e) v t m e) (sym (guards f v e 32 (l + 3) .ends y))
+                let step : (e : ℕ) → stepIn f s h (rowFor (front v) en p risk) (front v .at + readF (front v .depth) (drop (front v .at) f) .used) (marked e) v t m e
+                ≡ stepOfRow f s h risk row (marked e) (en .partner) v t m e =
+                λ e. ap (λ k. stepIn f s h (rowFor (front v) en p risk) k (marked e) v t m e) (sym (guards f v e 32 (l + 3) .ends y))
                 ∙ step-by-place ei (front v) p (marked e) e in
                 λ i. seen (all-alike _ held (en .looks) 0 (λ e k. on e k ⇒ step e k) i)
                 (not (en .internal) || all-alike _ off (en .looks) 0 (λ e. ap (λ b. not (b && marked e)) (on e)) i)
@@ -167,7 +181,7 @@ module _ (f s : List ℕ) (h : Shape) (v t : List ℕ) (l : ℕ) where
                 λ e. on-guarded v (h .implementation .parameters .count) (cond (en .free) 0 e) ∙ ap (λ b. b && rest v (cond (en .free) 0 e)) y in
                 sym
                 (rw (
-                  all-alike held (λ _. true) (en .looks) 0 (λ e. ap (λ b. b ⇒ stepOfRow f s h row (marked e) (en .partner) v t m e) (none e)),
+                  all-alike held (λ _. true) (en .looks) 0 (λ e. ap (λ b. b ⇒ stepOfRow f s h risk row (marked e) (en .partner) v t m e) (none e)),
                   all-alike off (λ _. true) (en .looks) 0 (λ e. ap (λ b. not (b && marked e)) (none e)),
                   all-yes (λ _. true) (λ _. refl) (en .looks) 0,
                   or-true (not (en .internal)),
@@ -179,7 +193,7 @@ module _ (f s : List ℕ) (h : Shape) (v t : List ℕ) (l : ℕ) where
     abbrev enabledBack : ℕ → Bool
     enabledBack e = enabledB (partnerBy f s (h .implementation) (en .partner)) v e
 
-    guarded-reply : cond (front t .holds) (replyLooks f s (h .implementation) (rowFor (front t) en 0) v t) true
+    guarded-reply : cond (front t .holds) (replyLooks f s (h .implementation) (rowFor (front t) en 0 0) v t) true
         ≡ allIn (λ e. onIn back t (en .free) e ⇒ enabledBack e) (en .looks) 0
     unfolding replyLooks
     guarded-reply = go (front t .holds) refl
@@ -190,7 +204,7 @@ module _ (f s : List ℕ) (h : Shape) (v t : List ℕ) (l : ℕ) where
         on : (e : ℕ) → onIn back t (en .free) e ≡ front t .holds && rest t (cond (en .free) 0 e)
         on e = on-guarded t (h .specification .parameters .count) (cond (en .free) 0 e)
 
-        go : (b : Bool) → front t .holds ≡ b → cond b (replyLooks f s (h .implementation) (rowFor (front t) en 0) v t) true ≡ allIn held (en .looks) 0
+        go : (b : Bool) → front t .holds ≡ b → cond b (replyLooks f s (h .implementation) (rowFor (front t) en 0 0) v t) true ≡ allIn held (en .looks) 0
         go true y = all-alike _ held (en .looks) 0 (λ e. ap (λ b. b ⇒ enabledBack e) (sym (on e ∙ ap (λ b. b && rest t (cond (en .free) 0 e)) y)))
         go false y =
             sym (all-alike held (λ _. true) (en .looks) 0 (λ e. ap (λ b. b ⇒ enabledBack e) (on e ∙ ap (λ b. b && rest t (cond (en .free) 0 e)) y)) ∙ all-yes (λ _. true) (λ _. refl) (en .looks) 0)
@@ -212,19 +226,6 @@ module _ (f s : List ℕ) (p : Process) where
           rw (eqb·suc-zero j) (sym (row-there f s p (suc j) (omega arith) (omega arith)))
       go (suc j) e (inr m) = absurd (let z = m .number in omega arith)
 
-  -- what is asked of each row, by its number
-  numbered : (G : ℕ → Row → Bool) → allIn (λ i. G (i + 1) (rowIs f s p i)) (p .rows .count) 0
-      ≡ allIn (λ k. G k (rowAt (processIn f s p .rows) k)) (length (processIn f s p .rows)) 1
-  numbered G =
-      all-in (λ i. G (i + 1) (rowIs f s p i)) (λ i. G (suc i) (rowAt (processIn f s p .rows) (suc i))) (p .rows .count) 0 same
-      ∙ ap (λ n. allIn (λ i. G (suc i) (rowAt (processIn f s p .rows) (suc i))) n 0) (sym (states.rows-count f s p))
-      ∙ sym (all-from (λ k. G k (rowAt (processIn f s p .rows) k)) (length (processIn f s p .rows)) 0)
-    where
-      same : (i : ℕ) → 0 ≤ i → i < 0 + p .rows .count → G (i + 1) (rowIs f s p i) ≡ G (suc i) (rowAt (processIn f s p .rows) (suc i))
-      same i z l =
-          let e : p .rows .first + suc i - 1 ≡ p .rows .first + i = omega arith in
-          rw (add-one i, row-there f s p (suc i) (omega arith) (omega arith), e)
-
 -- ---- the design
 
 module _ (f s : List ℕ) (h : Shape) (fits : Fits h) (v : State) where
@@ -242,6 +243,10 @@ module _ (f s : List ℕ) (h : Shape) (fits : Fits h) (v : State) where
 
   abbrev n2 : ℕ
   n2 = h .specification .parameters .count
+
+  -- what could leave invariant, mapping or measure without a value
+  abbrev kinds : ℕ
+  kinds = kindsRisk f s h
 
   short : length y ≤ 8
   short = rw (states.mapped-length f s h v) (fits .specification .parameters)
@@ -288,26 +293,54 @@ module _ (f s : List ℕ) (h : Shape) (fits : Fits h) (v : State) where
               ∙ states.rows-length f s (h .specification) (g .at) (g .row) (g .is-row) in
               rw (states.same-held (mapped d n) (nextState q y e) n2 (states.mapped-length f s h n) long-next (fits .specification .parameters))
 
-      step-held : (marked : Bool) → stepOfRow f s h r marked j v t (measureAt d v) e
-          ≡ invariantStateB d n && cond (internalB r) (sameB y (mapped d n) && (marked ⇒ ltb (measureAt d n) (measureAt d v))) answers
+      -- values where it leads
+      agree : (i : ℕ) → getD (padded n) i 0 ≡ getD n i 0
+      agree = states.same-values n n-short
+
+      abbrev there : Bool → Bool
+      there measured = hasInvariantB d n && (hasMappingB d n && (measured ⇒ hasMeasureB d n))
+
+      there-held : (measured : Bool) → hasValuesIn f s h kinds (padded n) measured ≡ there measured
+      unfolding hasValuesIn hasInvariantIn hasMappingIn hasMeasureIn
+      there-held measured =
+          rw (
+            has-formula-alike (padded n) n agree (d .invariant) 0,
+            have-alike (padded n) n agree (d .mapping) 0,
+            has-value-alike (padded n) n agree (d .measure) 0,
+          )
+          (go (safeAt kinds (padded n)) refl)
+        where
+          go : (b : Bool) → safeAt kinds (padded n) ≡ b → b || there measured ≡ there measured
+          go false z = refl
+          go true z =
+              let safe = kinds-have f s h (padded n) z in
+              let hi : hasInvariantB d n ≡ true = sym (has-formula-alike (padded n) n agree (d .invariant) 0) ∙ safe .0 in
+              let hm : hasMappingB d n ≡ true = sym (have-alike (padded n) n agree (d .mapping) 0) ∙ safe .1 .0 in
+              let hμ : hasMeasureB d n ≡ true = sym (has-value-alike (padded n) n agree (d .measure) 0) ∙ safe .1 .1 in
+              sym (rw (hi, hm, hμ, or-true (not measured)))
+
+      step-held : (marked : Bool) → stepOfRow f s h kinds r marked j v t (measureAt d v) e
+          ≡ cond (internalB r) (insideB d n && (there marked && (sameB y (mapped d n) && (marked ⇒ ltb (measureAt d n) (measureAt d v)))))
+          (insideB d n && (there false && answers))
       unfolding stepOfRow keptIn
       step-held marked =
           rw (
             states.inside-held f s h fits n n-length,
+            there-held marked,
+            there-held false,
             states.mapped-held f s h n n-short,
             states.measure-held f s h n n-short,
             states.same-held y (mapped d n) n2 (states.mapped-length f s h v) (states.mapped-length f s h n) (fits .specification .parameters),
             answered-held,
           )
-          (either (internalB r) (invariantStateB d n) (sameB y (mapped d n) && (marked ⇒ ltb (measureAt d n) (measureAt d v))) answers)
 
       -- of any mark
-      row-made : (marked : Bool) → (enabledB r v e ⇒ stepOfRow f s h r marked j v t (measureAt d v) e)
-          ≡ holds3 d v r e && (holds4 d v r e && ((enabledB r v e ⇒ internalB r ⇒ marked ⇒ ltb (measureAt d n) (measureAt d v)) && (holds6 d v r e && (holds8 d v r e && holds9 d v r e))))
+      row-made : (marked : Bool) → (enabledB r v e ⇒ stepOfRow f s h kinds r marked j v t (measureAt d v) e)
+          ≡ holds3 d v r e && (holds4 d v r e && ((enabledB r v e ⇒ internalB r ⇒ marked ⇒ (ltb (measureAt d n) (measureAt d v) && hasMeasureB d n)) && (holds6 d v r e && (holds8 d v r e && holds9 d v r e))))
       row-made marked =
           rw (step-held marked)
-          (at-once (enabledB r v e) (invariantStateB d n) (internalB r) (sameB y (mapped d n)) (marked ⇒ ltb (measureAt d n) (measureAt d v)) (enabledB q y e) (eqb j 0)
-          (eqb (dataNumber r v e) (dataNumber q y e)) (sameB (mapped d n) (nextState q y e)) (λ z. no-row (r .action) e (eqb-true j 0 z)))
+          (at-once (enabledB r v e) (insideB d n) (internalB r) (hasInvariantB d n) (hasMappingB d n) (hasMeasureB d n) marked (sameB y (mapped d n)) (ltb (measureAt d n) (measureAt d v))
+          (enabledB q y e) (eqb j 0) (eqb (dataNumber r v e) (dataNumber q y e)) (sameB (mapped d n) (nextState q y e)) (λ z. no-row (r .action) e (eqb-true j 0 z)))
 
     -- ---- row number k, whose mark says `marks`, and is sum-free or not
 
@@ -321,11 +354,11 @@ module _ (f s : List ℕ) (h : Shape) (fits : Fits h) (v : State) where
           go true z = ap (λ m. m ⇒ x) (says z e)
           go false z = refl
 
-      row-held : (e : ℕ) → (enabledB r v e ⇒ stepOfRow f s h r (marks e) j v t (measureAt d v) e) ≡ rowHolds d v k r e
+      row-held : (e : ℕ) → (enabledB r v e ⇒ stepOfRow f s h kinds r (marks e) j v t (measureAt d v) e) ≡ rowHolds d v k r e
       row-held e =
           row-made e (marks e)
           ∙ ap (λ b. holds3 d v r e && (holds4 d v r e && ((enabledB r v e ⇒ b) && (holds6 d v r e && (holds8 d v r e && holds9 d v r e)))))
-          (mark-behind e (ltb (measureAt d (nextState r v e)) (measureAt d v)))
+          (mark-behind e (ltb (measureAt d (nextState r v e)) (measureAt d v) && hasMeasureB d (nextState r v e)))
 
       -- one look does for all
       abbrev parts : Bool
@@ -341,7 +374,7 @@ module _ (f s : List ℕ) (h : Shape) (fits : Fits h) (v : State) where
       partner-zero z e = as-for-zero q y e (and-right (freeOf true r) (freeOf true q) (and-left parts steady z))
 
       looked : ℕ → Bool
-      looked e = enabledB r v e ⇒ stepOfRow f s h r (marks e) j v t (measureAt d v) e
+      looked e = enabledB r v e ⇒ stepOfRow f s h kinds r (marks e) j v t (measureAt d v) e
 
       row-once : free ≡ true → (e : ℕ) → looked e ≡ looked 0
       unfolding looked
@@ -362,10 +395,10 @@ module _ (f s : List ℕ) (h : Shape) (fits : Fits h) (v : State) where
       abbrev allQuiet : Bool
       allQuiet = allIn (λ e. not (markedTest d v k r e)) (r .span) 0
 
-      all-held : allIn (λ e. onIn r v (sumFreeF (r .condition)) e ⇒ stepOfRow f s h r (marks e) j v t (measureAt d v) e) looks 0 ≡ allHold
+      all-held : allIn (λ e. onIn r v (sumFreeF (r .condition)) e ⇒ stepOfRow f s h kinds r (marks e) j v t (measureAt d v) e) looks 0 ≡ allHold
       unfolding looked
       all-held =
-          all-alike _ looked looks 0 (λ e. ap (λ b. b ⇒ stepOfRow f s h r (marks e) j v t (measureAt d v) e) (on-held r v e))
+          all-alike _ looked looks 0 (λ e. ap (λ b. b ⇒ stepOfRow f s h kinds r (marks e) j v t (measureAt d v) e) (on-held r v e))
           ∙ all-looks looked free (r .span) row-once
           ∙ all-alike looked (λ e. rowHolds d v k r e) (r .span) 0 row-held
 
@@ -436,13 +469,13 @@ module _ (f s : List ℕ) (h : Shape) (fits : Fits h) (v : State) where
   quietAt k z = allIn (λ e. not (markedTest d v k z e)) (z .span) 0
 
   abbrev seenAt : ℕ → Seen
-  seenAt i = rowIn f s h (i + 1) (rowPlanAt p i) v t (measureIn f s h v)
+  seenAt i = rowIn f s h (i + 1) (rowPlanAt p i) (riskAt p 64) v t (measureIn f s h v)
 
   row-seen : (i : ℕ) → i < rows → seenAt i ≡ seen (holdsAt (i + 1) (implRow i)) (quietAt (i + 1) (implRow i))
   unfolding rowIn measureIn
   row-seen i l =
-      rw (impl-plan i l, row-line f s (h .implementation) i)
-      (guarded-row f s h v t (getD s (h .implementation .rows .first + i) 0) (implPlan i l) (measureAt d v) (planned f s h v i) refl
+      rw (impl-plan i l, kinds-risk-at f s h, row-line f s (h .implementation) i)
+      (guarded-row f s h v t (getD s (h .implementation .rows .first + i) 0) (implPlan i l) kinds (measureAt d v) (planned f s h v i) refl
       ∙ rw (
         all-held (implRow i) (impl-long i) (i + 1) (implMarks i) (implMark i .free) (marks-once i) (says i l),
         quiet-held (implRow i) (impl-long i) (i + 1) (implMarks i) (implMark i .free) (marks-once i) (says i l),

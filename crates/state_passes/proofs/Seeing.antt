@@ -26,7 +26,7 @@ use Rattle.steps.specs.Arrays.{lineOf, belowIn, measureIn, rowBy, partnerBy}
 use Rattle.conjuncts.specs.Conjuncts.{guardIn}
 use Rattle.conjuncts.specs.declared.Guarded.{Guarded}
 use Rattle.marks.specs.Marks.{placeFrom, markHolds}
-use Rattle.row_plan.specs.RowPlan.{rowPlanAt}
+use Rattle.row_plan.specs.RowPlan.{rowPlanAt, riskAt}
 use Rattle.row_plan.specs.declared.RowPlan.{RowPlan}
 use Rattle.step_passes.specs.Steps.{internalStep, visibleStep}
 use Rattle.state_passes.specs.Passes.{rowFor, left, onAt, knownIn, markAt, knownMark, stepIn, seen, visibleLook, visibleLooks, internalLook, internalLooks, looksIn, rowIn, implIn, repliedIn, replyLooks, replyIn, specIn, passesIn}
@@ -121,7 +121,7 @@ module _ (f s v t : List ℕ) (h : Shape) (row : Row) (first : Held) where
     unfolding visibleLook
     visible-off y = rw (← eo, not-true (o .holds) y)
 
-    pub visible-on : (b : Bool) → not (o .holds) ≡ false → b ≡ visibleStep f s h (o .next) (row .partner) v t e → b ≡ visibleLook f s h row first v t e
+    pub visible-on : (b : Bool) → not (o .holds) ≡ false → b ≡ visibleStep f s h (row .risk) (o .next) (row .partner) v t e → b ≡ visibleLook f s h row first v t e
     unfolding visibleLook
     visible-on b y eb = rw (← eo, not-false (o .holds) y, eb)
 
@@ -156,7 +156,7 @@ module _ (f s v t : List ℕ) (h : Shape) (row : Row) (first : First) (m : ℕ) 
     unfolding internalLook
     internal-off y = rw (← eo, not-true (o .holds) y)
 
-    pub internal-on : (k b : Bool) → not (o .holds) ≡ false → k ≡ knownMark f row v (first .marked) e → b ≡ internalStep f s h (o .next) k v t m e
+    pub internal-on : (k b : Bool) → not (o .holds) ≡ false → k ≡ knownMark f row v (first .marked) e → b ≡ internalStep f s h (row .risk) (o .next) k v t m e
         → record { holds = b; quiet = not k } ≡ internalLook f s h row first v t m e
     unfolding internalLook
     internal-on k b y ek eb = rw (← eo, ← ek, not-false (o .holds) y, eb)
@@ -240,14 +240,14 @@ module _ (f s p v t : List ℕ) (h : Shape) (i k m line n : ℕ) (g : Guarded) (
   abbrev planned : RowPlan
   planned = rowPlanAt p i
 
-  pub row-off : not (g .holds) ≡ true → record { holds = true; quiet = true } ≡ rowIn f s h (i + 1) planned v t m
+  pub row-off : not (g .holds) ≡ true → record { holds = true; quiet = true } ≡ rowIn f s h (i + 1) planned (riskAt p 64) v t m
   unfolding rowIn
   row-off y = rw (← ek, ← el, ← en, ← eg, not-true (g .holds) y)
 
-  pub row-on : (e : RowPlan) (at : ℕ) (row : Row) (r : Seen) → not (g .holds) ≡ false → e ≡ rowPlanAt p i → at ≡ placeFrom s h (e .mark .at) → row ≡ rowFor g e at → r ≡ looksIn f s h row v t m
-      → r ≡ rowIn f s h (i + 1) planned v t m
+  pub row-on : (e : RowPlan) (at risk : ℕ) (row : Row) (r : Seen) → not (g .holds) ≡ false → e ≡ rowPlanAt p i → at ≡ placeFrom s h (e .mark .at) → risk ≡ riskAt p 64 → row ≡ rowFor g e at risk → r ≡ looksIn f s h row v t m
+      → r ≡ rowIn f s h (i + 1) planned (riskAt p 64) v t m
   unfolding rowIn
-  row-on e at row r y ee ea ew er = er ∙ rw (ew, ea, ee, ← ek, ← el, ← en, ← eg, not-false (g .holds) y)
+  row-on e at risk row r y ee ea ek′ ew er = er ∙ rw (ew, ek′, ea, ee, ← ek, ← el, ← en, ← eg, not-false (g .holds) y)
 
 -- ---- all rows of the implementation
 
@@ -256,7 +256,7 @@ module _ (f s p v t : List ℕ) (h : Shape) (m : ℕ) where
   rows = h .implementation .rows .count
 
   abbrev rowSeen : ℕ → Seen
-  rowSeen i = rowIn f s h (i + 1) (rowPlanAt p i) v t m
+  rowSeen i = rowIn f s h (i + 1) (rowPlanAt p i) (riskAt p 64) v t m
 
   unfoldable pub implLeft : Bool → ℕ → Seen
   implLeft a i = seenLeft rowSeen rows a i
@@ -265,7 +265,7 @@ module _ (f s p v t : List ℕ) (h : Shape) (m : ℕ) where
   unfolding implLeft implIn
   impl-begin = seen-begin rowSeen rows
 
-  module _ (a : Bool) (i : ℕ) (r : Seen) (l : i < rows) (is : r ≡ rowIn f s h (i + 1) (rowPlanAt p i) v t m) (inv : implLeft a i ≡ implIn f s h p v t m) where
+  module _ (a : Bool) (i : ℕ) (r : Seen) (l : i < rows) (is : r ≡ rowIn f s h (i + 1) (rowPlanAt p i) (riskAt p 64) v t m) (inv : implLeft a i ≡ implIn f s h p v t m) where
     pub impl-turn : not (r .holds) ≡ false → implLeft (a && r .quiet) (i + 1) ≡ implIn f s h p v t m
     unfolding implLeft implIn
     impl-turn ok = seen-turn rowSeen rows a i r l is inv ok
@@ -340,7 +340,7 @@ module _ (f s p v t : List ℕ) (h : Shape) (i k line n : ℕ) (g : Guarded) (ek
   unfolding replyIn
   reply-guarded y = rw (← ek, ← el, ← en, ← eg, not-true (g .holds) y)
 
-  pub reply-row : (e : RowPlan) (row : Row) (r : Bool) → not (g .holds) ≡ false → e ≡ rowPlanAt p (32 + i) → row ≡ rowFor g e 0 → r ≡ replyLooks f s (h .implementation) row v t
+  pub reply-row : (e : RowPlan) (row : Row) (r : Bool) → not (g .holds) ≡ false → e ≡ rowPlanAt p (32 + i) → row ≡ rowFor g e 0 0 → r ≡ replyLooks f s (h .implementation) row v t
       → r ≡ replyIn f s h (i + 1) (rowPlanAt p (32 + i)) v t
   unfolding replyIn
   reply-row e row r y ee ew er = er ∙ rw (ew, ee, ← ek, ← el, ← en, ← eg, not-false (g .holds) y)

@@ -20,7 +20,7 @@ use Rattle.steps.specs.Arrays.{padded, lineOf, belowIn, measureIn, partnerBy}
 use Rattle.conjuncts.specs.Conjuncts.{guardIn}
 use Rattle.conjuncts.specs.declared.Guarded.{Guarded}
 use Rattle.marks.specs.Marks.{placeFrom, markHolds}
-use Rattle.row_plan.specs.RowPlan.{rowPlanAt}
+use Rattle.row_plan.specs.RowPlan.{rowPlanAt, riskAt}
 use Rattle.row_plan.specs.declared.RowPlan.{RowPlan}
 use Rattle.step_passes.specs.Steps.{internalTo, visibleTo, internalStep, visibleStep}
 use Rattle.state_passes.specs.declared.Seen.{Seen}
@@ -29,8 +29,8 @@ use Rattle.state_passes.specs.declared.First.{First}
 
 -- ---- a row that is looked at
 
-abbrev pub rowFor : Guarded → RowPlan → ℕ → Row
-rowFor g e place = record {
+abbrev pub rowFor : Guarded → RowPlan → ℕ → ℕ → Row
+rowFor g e place risk = record {
   at = g .at;
   depth = g .depth;
   free = e .free;
@@ -39,6 +39,7 @@ rowFor g e place = record {
   partner = e .partner;
   mark = place;
   steady = e .mark .free;
+  risk = risk;
 }
 
 -- what is left of its condition; whether that holds for the sum value e, taken for 0 where it is said to be sum-free
@@ -64,13 +65,13 @@ knownMark f row v first e = cond (row .steady || eqb e 0) first (markHolds f (ro
 
 -- of a row whose data stand at a place, marked or not
 abbrev pub stepIn : List ℕ → List ℕ → Shape → Row → ℕ → Bool → List ℕ → List ℕ → ℕ → ℕ → Bool
-stepIn f s h row at marked v t m e = cond (row .internal) (internalStep f s h at marked v t m e) (visibleStep f s h at (row .partner) v t e)
+stepIn f s h row at marked v t m e = cond (row .internal) (internalStep f s h (row .risk) at marked v t m e) (visibleStep f s h (row .risk) at (row .partner) v t e)
 
 -- of a row of the design, whose partner is j
-unfoldable pub stepOfRow : List ℕ → List ℕ → Shape → design.Row → Bool → ℕ → List ℕ → List ℕ → ℕ → ℕ → Bool
-stepOfRow f s h r marked j v t m e =
+unfoldable pub stepOfRow : List ℕ → List ℕ → Shape → ℕ → design.Row → Bool → ℕ → List ℕ → List ℕ → ℕ → ℕ → Bool
+stepOfRow f s h risk r marked j v t m e =
     let x = padded (nextState r v e) in
-    cond (internalB r) (internalTo f s h marked t m x) (visibleTo f s h j t (dataNumber r v e) x e)
+    cond (internalB r) (internalTo f s h risk marked t m x) (visibleTo f s h risk j t (dataNumber r v e) x e)
 
 -- ---- the rows of the implementation
 
@@ -80,7 +81,7 @@ seen h q = cond h (record { holds = true; quiet = q }) (record { holds = false; 
 
 -- a look at a visible row, and all
 unfoldable pub visibleLook : List ℕ → List ℕ → Shape → Row → Held → List ℕ → List ℕ → ℕ → Bool
-visibleLook f s h row first v t e = let o = knownIn f row v first e in o .holds ⇒ visibleStep f s h (o .next) (row .partner) v t e
+visibleLook f s h row first v t e = let o = knownIn f row v first e in o .holds ⇒ visibleStep f s h (row .risk) (o .next) (row .partner) v t e
 
 unfoldable pub visibleLooks : List ℕ → List ℕ → Shape → Row → Held → List ℕ → List ℕ → Bool
 visibleLooks f s h row first v t = allIn (λ e. visibleLook f s h row first v t e) (row .looks) 0
@@ -90,7 +91,7 @@ unfoldable pub internalLook : List ℕ → List ℕ → Shape → Row → First 
 internalLook f s h row first v t m e =
     let o = knownIn f row v (first .on) e in
     let marked = knownMark f row v (first .marked) e in
-    record { holds = o .holds ⇒ internalStep f s h (o .next) marked v t m e; quiet = not (o .holds && marked) }
+    record { holds = o .holds ⇒ internalStep f s h (row .risk) (o .next) marked v t m e; quiet = not (o .holds && marked) }
 
 unfoldable pub internalLooks : List ℕ → List ℕ → Shape → Row → First → List ℕ → List ℕ → ℕ → Seen
 internalLooks f s h row first v t m =
@@ -105,14 +106,14 @@ looksIn f s h row v t m =
     (not (row .internal) || allIn (λ e. not (onAt f row v e && markAt f row v e)) (row .looks) 0)
 
 -- row k, by its plan
-unfoldable pub rowIn : List ℕ → List ℕ → Shape → ℕ → RowPlan → List ℕ → List ℕ → ℕ → Seen
-rowIn f s h k e v t m =
+unfoldable pub rowIn : List ℕ → List ℕ → Shape → ℕ → RowPlan → ℕ → List ℕ → List ℕ → ℕ → Seen
+rowIn f s h k e risk v t m =
     let front = guardIn f v 0 (e .front) (lineOf s (h .implementation) k + 3) 32 in
-    cond (front .holds) (looksIn f s h (rowFor front e (placeFrom s h (e .mark .at))) v t m) (seen true true)
+    cond (front .holds) (looksIn f s h (rowFor front e (placeFrom s h (e .mark .at)) risk) v t m) (seen true true)
 
 unfoldable pub implIn : List ℕ → List ℕ → Shape → List ℕ → List ℕ → List ℕ → ℕ → Seen
 implIn f s h p v t m =
-    let row : ℕ → Seen = λ i. rowIn f s h (i + 1) (rowPlanAt p i) v t m in
+    let row : ℕ → Seen = λ i. rowIn f s h (i + 1) (rowPlanAt p i) (riskAt p 64) v t m in
     seen (allIn (λ i. row i .holds) (h .implementation .rows .count) 0) (allIn (λ i. row i .quiet) (h .implementation .rows .count) 0)
 
 -- ---- the rows of the specification
@@ -126,7 +127,7 @@ replyLooks f s p row v t = allIn (λ e. onAt f row t e ⇒ enabledB (partnerBy f
 unfoldable pub replyIn : List ℕ → List ℕ → Shape → ℕ → RowPlan → List ℕ → List ℕ → Bool
 replyIn f s h k e v t =
     let front = guardIn f t 0 (e .front) (lineOf s (h .specification) k + 3) 32 in
-    cond (front .holds) (replyLooks f s (h .implementation) (rowFor front e 0) v t) true
+    cond (front .holds) (replyLooks f s (h .implementation) (rowFor front e 0 0) v t) true
 
 unfoldable pub specIn : List ℕ → List ℕ → Shape → List ℕ → List ℕ → List ℕ → Bool
 specIn f s h p v t = allIn (λ i. replyIn f s h (i + 1) (rowPlanAt p (32 + i)) v t) (h .specification .rows .count) 0

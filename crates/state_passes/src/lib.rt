@@ -11,7 +11,7 @@ use row_plan::RowPlan;
 ghost use mathlib.Core.Path.{_≡_};
 ghost use Prim.Native.Nat.{_+_, _<_};
 ghost use Rattle.layout.specs.Sizes.{Fits};
-ghost use Rattle.row_plan.specs.RowPlan.{rowPlanAt};
+ghost use Rattle.row_plan.specs.RowPlan.{rowPlanAt, riskAt};
 ghost use Rattle.state_passes.specs.Passes.{knownIn, knownMark, visibleLook, visibleLooks, internalLook, internalLooks, looksIn, rowFor, rowIn, implIn, repliedIn, replyLooks, replyIn, specIn, passesIn};
 
 // What was seen of rows: whether each holds, and, if so, whether none has a marked step.
@@ -35,6 +35,8 @@ pub struct Row {
     // where its mark stands, 0 if all its steps are marked, and whether that does not read the sum value
     pub mark: usize,
     pub steady: bool,
+    // what could leave invariant, mapping or measure without a value where it leads
+    pub risk: u32,
 }
 
 // What is known of a row for the sum value 0: whether its condition holds, and whether its mark does.
@@ -44,8 +46,8 @@ pub struct First {
 }
 
 // The row of a plan, of whose condition the conjuncts in front were evaluated, and whose mark stands at a place.
-fn row_for(front: Guarded, planned: RowPlan, mark: usize) -> Row
-    ensures { λ r. ⌜ r ≡ rowFor front planned mark ⌝ }
+fn row_for(front: Guarded, planned: RowPlan, mark: usize, risk: u32) -> Row
+    ensures { λ r. ⌜ r ≡ rowFor front planned mark risk ⌝ }
 {
     Row {
         at: front.at,
@@ -56,6 +58,7 @@ fn row_for(front: Guarded, planned: RowPlan, mark: usize) -> Row
         partner: planned.partner,
         mark: mark,
         steady: planned.mark.free,
+        risk: risk,
     }
 }
 
@@ -98,7 +101,17 @@ fn visible_look<'a>(
     if !on.holds {
         return true;
     }
-    step_passes::visible_holds(fields, starts, shape, on.next, row.partner, v, t, sum)
+    step_passes::visible_holds(
+        fields,
+        starts,
+        shape,
+        row.risk,
+        on.next,
+        row.partner,
+        v,
+        t,
+        sum,
+    )
 }
 
 // Whether they all do.
@@ -148,7 +161,18 @@ fn internal_look<'a>(
     }
     let marked = marked_at(fields, row, v, first.marked, sum);
     Seen {
-        holds: step_passes::internal_holds(fields, starts, shape, on.next, marked, v, t, m, sum),
+        holds: step_passes::internal_holds(
+            fields,
+            starts,
+            shape,
+            row.risk,
+            on.next,
+            marked,
+            v,
+            t,
+            m,
+            sum,
+        ),
         quiet: !marked,
     }
 }
@@ -232,7 +256,7 @@ fn row_seen<'a>(
     m: u16,
 ) -> Seen
     requires { ⌜ i < 64 ⌝ }
-    ensures { λ r. ⌜ r ≡ rowIn (now (fields .entry)) (now (starts .entry)) shape (i + 1) (rowPlanAt (now (plan .entry)) i) (now (v .entry)) (now (t .entry)) m ⌝ }
+    ensures { λ r. ⌜ r ≡ rowIn (now (fields .entry)) (now (starts .entry)) shape (i + 1) (rowPlanAt (now (plan .entry)) i) (riskAt (now (plan .entry)) 64) (now (v .entry)) (now (t .entry)) m ⌝ }
 {
     let line = steps::line_of(starts, shape.implementation, i as u16 + 1);
     let conjuncts = row_plan::front(plan, i as usize);
@@ -245,7 +269,12 @@ fn row_seen<'a>(
     }
     let planned = row_plan::planned(plan, i as usize);
     let mark = marks::place_from(starts, shape, planned.mark.at);
-    let row = row_for(front, planned, mark);
+    let row = row_for(
+        front,
+        planned,
+        mark,
+        row_plan::risk(plan, row_plan::KINDS_RISK),
+    );
     row_looks(fields, starts, shape, row, v, t, m)
 }
 
@@ -352,7 +381,7 @@ fn row_replied<'a>(
         return true;
     }
     let planned = row_plan::planned(plan, row_plan::ROWS + i as usize);
-    let row = row_for(front, planned, 0);
+    let row = row_for(front, planned, 0, 0);
     reply_looks(fields, starts, shape.implementation, row, v, t)
 }
 

@@ -5,22 +5,69 @@ use mathlib.Core.List.{List}
 use Prim.Native.Nat.{ℕ, _+_}
 use borrow.Author.Tests.{not-true, not-false, eq-eqb, ne-eqb}
 use lib.Dec.{ltb}
-use lib.ListN.{drop}
+use lib.ListN.{drop, replicate}
+use lib.Seq.{sets}
 use Rattle.terms.specs.Tree.{evalV, evalF}
 use Rattle.terms.specs.Read.{readV, readF}
 use Rattle.terms.proofs.Read.{place}
+use Rattle.divisors.specs.Divisors.{safeAt}
+use Rattle.divisors.proofs.Divisors.{nothing-safe}
+use Rattle.defined.specs.Defined.{formulaHasIn, valuesHaveIn, valueHasIn, hasInvariantIn, hasMappingIn, hasMeasureIn}
 use Rattle.eval.specs.Answer.{answerV, answerF}
 use Rattle.eval.specs.declared.Valued.{Valued}
 use Rattle.eval.specs.declared.Held.{Held}
+use Rattle.criteria.specs.Design.{mapped}
 use Rattle.design.specs.Line.{rowOf}
+use Rattle.design.specs.Loaded.{designAt}
 use Rattle.design.specs.declared.Process.{Process}
 use Rattle.design.specs.declared.Shape.{Shape}
 use Rattle.steps.specs.Arrays.{padded, valuesAt, lineOf, sameIn, insideIn, mappedIn, measureIn, rowBy, partnerBy}
-use Rattle.step_passes.specs.Steps.{keptIn, answeredIn, internalStep, visibleStep}
+use Rattle.steps.proofs.Arrays.{padded-is, mapped-is}
+use Rattle.step_passes.specs.Steps.{askedIn, hasValuesIn, keptIn, answeredIn, internalStep, visibleStep}
+
+-- ---- where a step leads
+
+module _ (f s x : List ℕ) (risk i j n k : ℕ) (measured b : Bool) (eb : b ≡ safeAt risk x) where
+  abbrev whole : Bool
+  whole = askedIn f s risk i j n k x measured
+
+  pub asked-safe : b ≡ true → true ≡ whole
+  unfolding askedIn
+  asked-safe y = rw (← eb, y)
+
+  module _ (no : b ≡ false) (c : Bool) (ec : c ≡ formulaHasIn f s i x) where
+    pub asked-invariant : not c ≡ true → false ≡ whole
+    unfolding askedIn
+    asked-invariant y = rw (← eb, no, ← ec, not-true c y)
+
+    module _ (y : not c ≡ false) (m : Bool) (em : m ≡ valuesHaveIn f s j n x) where
+      pub asked-mapping : not m ≡ true → false ≡ whole
+      unfolding askedIn
+      asked-mapping z = rw (← eb, no, ← ec, not-false c y, ← em, not-true m z)
+
+      pub asked-unmeasured : not m ≡ false → not measured ≡ true → true ≡ whole
+      unfolding askedIn
+      asked-unmeasured z u = rw (← eb, no, ← ec, not-false c y, ← em, not-false m z, not-true measured u)
+
+      pub asked-measured : (r : Bool) → not m ≡ false → not measured ≡ false → r ≡ valueHasIn f s k x → r ≡ whole
+      unfolding askedIn
+      asked-measured r z u er = er ∙ rw (← eb, no, ← ec, not-false c y, ← em, not-false m z, not-false measured u)
+
+pub values-asked : (f s x : List ℕ) (h : Shape) (risk i j n k : ℕ) (measured r : Bool) → i ≡ h .invariant → j ≡ h .mapping → n ≡ h .specification .parameters .count
+    → k ≡ h .measure → r ≡ askedIn f s risk i j n k x measured → r ≡ hasValuesIn f s h risk x measured
+unfolding askedIn formulaHasIn valuesHaveIn valueHasIn hasValuesIn hasInvariantIn hasMappingIn hasMeasureIn
+values-asked f s x h risk i j n k measured r ei ej en ek er = er ∙ rw (ei, ej, en, ek)
+
+pub values-nothing : (f s x : List ℕ) (h : Shape) (risk : ℕ) (measured : Bool) → risk ≡ 0 → true ≡ hasValuesIn f s h risk x measured
+unfolding hasValuesIn
+values-nothing f s x h risk measured z = rw (z, nothing-safe x)
 
 -- ---- to a state, with a data number
 
-module _ (f s x t w : List ℕ) (h : Shape) (m : ℕ) (marked b : Bool) (ew : w ≡ mappedIn f s h x) (eb : b ≡ sameIn (h .specification .parameters .count) t w) where
+module _ (f s x t w : List ℕ) (h : Shape) (m : ℕ) (marked b : Bool) (em : w ≡ sets (replicate 8 0) 0 (mapped (designAt f s h) x)) (eb : b ≡ sameIn (h .specification .parameters .count) t w) where
+  ew : w ≡ mappedIn f s h x
+  ew = mapped-is f s x h w em
+
   pub kept-not : not b ≡ true → false ≡ keptIn f s h x t m marked
   unfolding keptIn
   kept-not y = rw (← ew, ← eb, not-true b y)
@@ -65,37 +112,48 @@ module _ (f s y t : List ℕ) (p : Process) (j w e : ℕ) where
     answer-differs x yes-on ex ne = rw (row-is, on yes-on, carried x ex, ne-eqb w (x .value) ne)
 
     pub answer-same : (x : Valued) (z : List ℕ) (b : Bool) → not (h .holds) ≡ false → x ≡ answerV (h .next) t e (readV 32 (drop (h .next) f)) → w ≡ x .value
-        → z ≡ padded (valuesAt f (x .next) n t e) → b ≡ sameIn n y z → b ≡ answeredIn f s p j w y t e
-    unfolding answeredIn valuesAt
+        → z ≡ sets (replicate 8 0) 0 (valuesAt f (x .next) n t e) → b ≡ sameIn n y z → b ≡ answeredIn f s p j w y t e
+    unfolding answeredIn valuesAt padded
     answer-same x z b yes-on ex eq ez eb =
         rw (row-is, on yes-on, carried x ex, eq-eqb w (x .value) eq, eb, ez, ex, eh, place f line 3 refl, place f (line + 3) _ refl, place f (line + 3 + _) _ refl)
 
 -- ---- of a row whose data stand at a place
 
-module _ (f s v t x : List ℕ) (h : Shape) (at e : ℕ) (i : Bool) (d : Valued) (ed : d ≡ answerV at v e (readV 32 (drop at f)))
-    (ex : x ≡ padded (valuesAt f (d .next) (h .implementation .parameters .count) v e)) (ei : i ≡ insideIn f s h x) where
+module _ (f s v t x : List ℕ) (h : Shape) (risk at e : ℕ) (i : Bool) (d : Valued) (ed : d ≡ answerV at v e (readV 32 (drop at f)))
+    (es : x ≡ sets (replicate 8 0) 0 (valuesAt f (d .next) (h .implementation .parameters .count) v e)) (ei : i ≡ insideIn f s h x) where
+  ex : x ≡ padded (valuesAt f (d .next) (h .implementation .parameters .count) v e)
+  ex = padded-is (valuesAt f (d .next) (h .implementation .parameters .count) v e) x es
+
   module _ (marked : Bool) (m : ℕ) where
-    internal-so : insideIn f s h x && keptIn f s h x t m marked ≡ internalStep f s h at marked v t m e
+    internal-so : insideIn f s h x && (hasValuesIn f s h risk x marked && keptIn f s h x t m marked) ≡ internalStep f s h risk at marked v t m e
     unfolding internalStep
     internal-so = rw (ex, ed)
 
-    pub internal-out : not i ≡ true → false ≡ internalStep f s h at marked v t m e
-    internal-out y = ap (λ a. a && keptIn f s h x t m marked) (sym (sym ei ∙ not-true i y)) ∙ internal-so
+    pub internal-out : not i ≡ true → false ≡ internalStep f s h risk at marked v t m e
+    internal-out y = sym (rw (← ei, not-true i y)) ∙ internal-so
 
-    pub internal-kept : (r : Bool) → not i ≡ false → r ≡ keptIn f s h x t m marked → r ≡ internalStep f s h at marked v t m e
-    internal-kept r y er = er ∙ ap (λ a. a && keptIn f s h x t m marked) (sym (sym ei ∙ not-false i y)) ∙ internal-so
+    module _ (w : Bool) (y : not i ≡ false) (ew : w ≡ hasValuesIn f s h risk x marked) where
+      pub internal-lacks : not w ≡ true → false ≡ internalStep f s h risk at marked v t m e
+      internal-lacks z = sym (rw (← ei, not-false i y, ← ew, not-true w z)) ∙ internal-so
+
+      pub internal-kept : (r : Bool) → not w ≡ false → r ≡ keptIn f s h x t m marked → r ≡ internalStep f s h risk at marked v t m e
+      internal-kept r z er = er ∙ sym (rw (← ei, not-false i y, ← ew, not-false w z)) ∙ internal-so
 
   module _ (j : ℕ) where
     abbrev answers : Bool
     answers = answeredIn f s (h .specification) j (d .value) (mappedIn f s h x) t e
 
-    visible-so : insideIn f s h x && answers ≡ visibleStep f s h at j v t e
+    visible-so : insideIn f s h x && (hasValuesIn f s h risk x false && answers) ≡ visibleStep f s h risk at j v t e
     unfolding visibleStep
     visible-so = rw (ex, ed)
 
-    pub visible-out : not i ≡ true → false ≡ visibleStep f s h at j v t e
-    visible-out y = ap (λ a. a && answers) (sym (sym ei ∙ not-true i y)) ∙ visible-so
+    pub visible-out : not i ≡ true → false ≡ visibleStep f s h risk at j v t e
+    visible-out y = sym (rw (← ei, not-true i y)) ∙ visible-so
 
-    pub visible-answered : (z : List ℕ) (r : Bool) → not i ≡ false → z ≡ mappedIn f s h x → r ≡ answeredIn f s (h .specification) j (d .value) z t e
-        → r ≡ visibleStep f s h at j v t e
-    visible-answered z r y ez er = er ∙ rw ez (ap (λ a. a && answers) (sym (sym ei ∙ not-false i y)) ∙ visible-so)
+    module _ (w : Bool) (y : not i ≡ false) (ew : w ≡ hasValuesIn f s h risk x false) where
+      pub visible-lacks : not w ≡ true → false ≡ visibleStep f s h risk at j v t e
+      visible-lacks u = sym (rw (← ei, not-false i y, ← ew, not-true w u)) ∙ visible-so
+
+      pub visible-answered : (z : List ℕ) (r : Bool) → not w ≡ false → z ≡ sets (replicate 8 0) 0 (mapped (designAt f s h) x) → r ≡ answeredIn f s (h .specification) j (d .value) z t e
+          → r ≡ visibleStep f s h risk at j v t e
+      visible-answered z r u ez er = er ∙ rw (mapped-is f s x h z ez) (sym (rw (← ei, not-false i y, ← ew, not-false w u)) ∙ visible-so)

@@ -1,10 +1,106 @@
 // Whether the criteria hold of one step that a row makes at a state: 3, 4 and 5 of an internal step, 3, 6, 8 and 9 of a visible one; v is
-// the state, t its mapped state, m its measure. What each function computes is in specs/Steps; that it is the test of the crate decision is
-// in state_passes/proofs/Decided. Every function answers any arrays.
+// the state, t its mapped state, m its measure. Where the step leads invariant, mapping and measure have to have values: by their risk, a
+// number of the crate divisors, that is seen without asking them. What each function computes is in specs/Steps; that it is the test of the
+// crate decision is in state_passes/proofs/Decided. Every function answers any arrays.
 use design::Process;
 use design::Shape;
 ghost use mathlib.Core.Path.{_≡_};
-ghost use Rattle.step_passes.specs.Steps.{keptIn, answeredIn, internalStep, visibleStep};
+ghost use mathlib.Core.Bool.{false};
+ghost use Rattle.step_passes.specs.Steps.{askedIn, hasValuesIn, keptIn, answeredIn, internalStep, visibleStep};
+
+// ---- where a step leads
+
+// Whether invariant and mapping have values at x, and so does the measure if it is asked for: by their risk, else by themselves. It takes
+// the three lines, and how many values the second has, and not the shape: with that lent in every step, the walk would read it again for
+// each row.
+fn asked<'a>(
+    fields: &'a limits::Fields,
+    starts: &'a limits::Starts,
+    risk: u32,
+    invariant: u8,
+    mapping: u8,
+    n: u8,
+    measure: u8,
+    x: &limits::Values,
+    measured: bool,
+) -> bool
+    ensures { λ r. ⌜ r ≡ askedIn (now (fields .entry)) (now (starts .entry)) risk invariant mapping n measure (now (x .entry)) measured ⌝ }
+{
+    if divisors::safe_at(risk, x) {
+        return true;
+    }
+    if !defined::formula_in_line(fields, starts, invariant, x) {
+        return false;
+    }
+    if !defined::values_in_line(fields, starts, mapping, n, x) {
+        return false;
+    }
+    if !measured {
+        return true;
+    }
+    defined::value_in_line(fields, starts, measure, x)
+}
+
+// The same; where nothing could leave them without a value, as in most tables, nothing is asked. It stands here once for internal steps and
+// once for visible ones, so that the compiler puts it, and not what it asks, into each.
+fn has_values<'a>(
+    fields: &'a limits::Fields,
+    starts: &'a limits::Starts,
+    shape: Shape,
+    risk: u32,
+    x: &limits::Values,
+    measured: bool,
+) -> bool
+    ensures { λ r. ⌜ r ≡ hasValuesIn (now (fields .entry)) (now (starts .entry)) shape risk (now (x .entry)) measured ⌝ }
+{
+    if risk == 0 {
+        return true;
+    }
+    let invariant = shape.invariant;
+    let n = shape.specification.parameters.count;
+    let mapping = shape.mapping;
+    let measure = shape.measure;
+    asked(
+        fields,
+        starts,
+        risk,
+        invariant,
+        mapping,
+        n,
+        measure,
+        x,
+        measured,
+    )
+}
+
+fn has_mapping<'a>(
+    fields: &'a limits::Fields,
+    starts: &'a limits::Starts,
+    shape: Shape,
+    risk: u32,
+    x: &limits::Values,
+) -> bool
+    ensures { λ r. ⌜ r ≡ hasValuesIn (now (fields .entry)) (now (starts .entry)) shape risk (now (x .entry)) false ⌝ }
+{
+    if risk == 0 {
+        return true;
+    }
+    let invariant = shape.invariant;
+    let n = shape.specification.parameters.count;
+    let mapping = shape.mapping;
+    let measure = shape.measure;
+    asked(
+        fields,
+        starts,
+        risk,
+        invariant,
+        mapping,
+        n,
+        measure,
+        x,
+        false,
+    )
+}
 
 // ---- internal steps
 
@@ -20,7 +116,8 @@ fn kept<'a>(
 ) -> bool
     ensures { λ r. ⌜ r ≡ keptIn (now (fields .entry)) (now (starts .entry)) shape (now (x .entry)) (now (t .entry)) m marked ⌝ }
 {
-    let there = steps::mapped(fields, starts, shape, x);
+    let mut there = [0u16; limits::MAX_PARAMETERS];
+    steps::put_mapped(fields, starts, shape, x, &mut there);
     if !steps::same(shape.specification.parameters.count, t, &there) {
         return false;
     }
@@ -35,6 +132,7 @@ pub fn internal_holds<'a>(
     fields: &'a limits::Fields,
     starts: &'a limits::Starts,
     shape: Shape,
+    risk: u32,
     at: usize,
     marked: bool,
     v: &limits::Values,
@@ -42,12 +140,16 @@ pub fn internal_holds<'a>(
     m: u16,
     sum: u16,
 ) -> bool
-    ensures { λ r. ⌜ r ≡ internalStep (now (fields .entry)) (now (starts .entry)) shape at marked (now (v .entry)) (now (t .entry)) m sum ⌝ }
+    ensures { λ r. ⌜ r ≡ internalStep (now (fields .entry)) (now (starts .entry)) shape risk at marked (now (v .entry)) (now (t .entry)) m sum ⌝ }
 {
     let data = eval::value(fields, at, v, sum, limits::MAX_DEPTH);
     let n = shape.implementation.parameters.count;
-    let x = steps::values(fields, data.next, n, v, sum);
+    let mut x = [0u16; limits::MAX_PARAMETERS];
+    steps::put_values(fields, data.next, n, v, sum, &mut x);
     if !steps::inside(fields, starts, shape, &x) {
+        return false;
+    }
+    if !has_values(fields, starts, shape, risk, &x, marked) {
         return false;
     }
     kept(fields, starts, shape, &x, t, m, marked)
@@ -81,7 +183,8 @@ fn answered<'a>(
         return false;
     }
     let n = specification.parameters.count;
-    let next = steps::values(fields, carried.next, n, t, sum);
+    let mut next = [0u16; limits::MAX_PARAMETERS];
+    steps::put_values(fields, carried.next, n, t, sum, &mut next);
     steps::same(n, there, &next)
 }
 
@@ -90,21 +193,27 @@ pub fn visible_holds<'a>(
     fields: &'a limits::Fields,
     starts: &'a limits::Starts,
     shape: Shape,
+    risk: u32,
     at: usize,
     j: u16,
     v: &limits::Values,
     t: &limits::Values,
     sum: u16,
 ) -> bool
-    ensures { λ r. ⌜ r ≡ visibleStep (now (fields .entry)) (now (starts .entry)) shape at j (now (v .entry)) (now (t .entry)) sum ⌝ }
+    ensures { λ r. ⌜ r ≡ visibleStep (now (fields .entry)) (now (starts .entry)) shape risk at j (now (v .entry)) (now (t .entry)) sum ⌝ }
 {
     let data = eval::value(fields, at, v, sum, limits::MAX_DEPTH);
     let n = shape.implementation.parameters.count;
-    let x = steps::values(fields, data.next, n, v, sum);
+    let mut x = [0u16; limits::MAX_PARAMETERS];
+    steps::put_values(fields, data.next, n, v, sum, &mut x);
     if !steps::inside(fields, starts, shape, &x) {
         return false;
     }
-    let there = steps::mapped(fields, starts, shape, &x);
+    if !has_mapping(fields, starts, shape, risk, &x) {
+        return false;
+    }
+    let mut next = [0u16; limits::MAX_PARAMETERS];
+    steps::put_mapped(fields, starts, shape, &x, &mut next);
     let specification = shape.specification;
-    answered(fields, starts, specification, j, data.value, &there, t, sum)
+    answered(fields, starts, specification, j, data.value, &next, t, sum)
 }

@@ -15,20 +15,20 @@ use Rattle.foundation.specs.Radix.{belowB, sameB, product, numberOf, numberFrom
 use Rattle.terms.specs.Tree.{evalV, evalF}
 use Rattle.terms.specs.Read.{readV, readF}
 use Rattle.terms.proofs.Read.{place}
-use Rattle.criteria.specs.Design.{Row}
+use Rattle.criteria.specs.Design.{Row, mapped}
 use Rattle.criteria.specs.Rows.{noRow, rowAt}
 use Rattle.decision.specs.Tests.{rowFrom}
 use Rattle.eval.specs.Answer.{answerV, answerF}
 use Rattle.eval.specs.declared.Valued.{Valued}
 use Rattle.eval.specs.declared.Held.{Held}
 use Rattle.design.specs.Line.{parameterOf, rowOf, valuesIn}
-use Rattle.design.specs.Loaded.{lineFrom, eachLine, processIn}
+use Rattle.design.specs.Loaded.{lineFrom, eachLine, processIn, designAt}
 use Rattle.design.proofs.Loaded.{each-length}
 use Rattle.design.specs.declared.Process.{Process}
 use Rattle.design.specs.declared.Shape.{Shape}
 use Rattle.layout.specs.Sizes.{parametersFrom, sizesOf, initialsOf}
 use Rattle.layout.proofs.Sizes.{each-on, each-none, cut-from}
-use Rattle.steps.specs.Arrays.{padded, firstValues, valuesAt, stepOf, noStep, lineOf, rowStep, rowSpan, rowWith, stateIn, numberIn, initialIn, belowIn, sameIn, invariantIn, insideIn, mappedIn, measureIn}
+use Rattle.steps.specs.Arrays.{padded, firstValues, valuesAt, stepOf, noStep, lineOf, rowStep, rowSpan, rowWith, stateValues, stateIn, numberIn, initialIn, belowIn, sameIn, invariantIn, insideIn, mappedIn, measureIn}
 use Rattle.steps.specs.declared.Step.{Step}
 
 -- ---- the values of terms, one after the other
@@ -38,16 +38,16 @@ sets-out : (w : List ℕ) (i : ℕ) (vs : List ℕ) → length w ≤ i → sets 
 sets-out w i [] l = refl
 sets-out w i (x ∷ vs) l = rw (set-out w i x l) (sets-out w (suc i) vs (omega arith))
 
-module _ (f v : List ℕ) (e at n : ℕ) where
+module _ (f v : List ℕ) (e at n : ℕ) (o : List ℕ) where
   abbrev all : List ℕ
-  all = padded (valuesAt f at n v e)
+  all = sets o 0 (valuesAt f at n v e)
 
   -- the values from the i-th on, stored in w
   unfoldable pub valuesLeft : List ℕ → ℕ → ℕ → List ℕ
   valuesLeft w p i = sets w i (valuesAt f p (n - i) v e)
 
-  pub values-start : valuesLeft (replicate 8 0) at 0 ≡ all
-  unfolding valuesLeft padded
+  pub values-start : valuesLeft o at 0 ≡ all
+  unfolding valuesLeft
   values-start = let k : n - 0 ≡ n = omega arith in rw k
 
   pub values-turn : (w : List ℕ) (p i m : ℕ) (x : Valued) → m ≡ min n 8 → i < m → x ≡ answerV p v e (readV 32 (drop p f)) → valuesLeft w p i ≡ all
@@ -68,6 +68,11 @@ module _ (f v : List ℕ) (e at n : ℕ) where
       go (no h) = let k : n - i ≡ 0 = omega arith in rw k
       go (yes h) = sym (sets-out w i (valuesAt f p (n - i) v e) (omega arith))
 
+-- stored over zeros
+pub padded-is : (vs w : List ℕ) → w ≡ sets (replicate 8 0) 0 vs → w ≡ padded vs
+unfolding padded
+padded-is vs w e = e
+
 -- ---- the state with a number, from the last value on
 
 -- a store before a run of stores may as well come first
@@ -76,17 +81,17 @@ set-first l i [] j x h = refl
 set-first l i (a ∷ vs) j x h =
     set-first (set l i a) (suc i) vs j x (omega arith) ∙ ap (λ m. sets m (suc i) vs) (set-comm l i j a x (omega arith))
 
-module _ (f s : List ℕ) (b n k : ℕ) where
+module _ (f s : List ℕ) (b n k : ℕ) (o : List ℕ) where
   unfoldable pub lastValues : ℕ → List ℕ
-  lastValues i = sets (replicate 8 0) i (splitOf (sizesOf (parametersFrom f s (n - i) (b + i))) k .values)
+  lastValues i = sets o i (splitOf (sizesOf (parametersFrom f s (n - i) (b + i))) k .values)
 
   unfoldable pub leftOver : ℕ → ℕ
   leftOver i = splitOf (sizesOf (parametersFrom f s (n - i) (b + i))) k .left
 
-  pub state-start-values : (i : ℕ) → i ≡ n → replicate 8 0 ≡ lastValues i
+  pub state-start-values : (i : ℕ) → i ≡ n → o ≡ lastValues i
   unfolding lastValues splitOf
   state-start-values i h =
-      ap (λ ps. sets (replicate 8 0) i (splitOf (sizesOf ps) k .values)) (sym (each-none parameterOf (lineFrom f s) (b + i) n i (omega arith)))
+      ap (λ ps. sets o i (splitOf (sizesOf ps) k .values)) (sym (each-none parameterOf (lineFrom f s) (b + i) n i (omega arith)))
 
   pub state-start-left : (i : ℕ) → i ≡ n → k ≡ leftOver i
   unfolding leftOver splitOf
@@ -103,10 +108,10 @@ module _ (f s : List ℕ) (b n k : ℕ) where
       let vs : List ℕ = splitOf (sizesOf (parametersFrom f s (n - i) (b + i))) k .values in
       let ex′ : x ≡ leftOver i % getD (lineFrom f s (b + j)) 1 0 = rw (ex, ez, em) in
       let ey′ : y ≡ leftOver i / getD (lineFrom f s (b + j)) 1 0 = rw (ey, ez, em) in (
-        ap (λ o. set o j x) ew
-            ∙ set-first (replicate 8 0) i vs j x (omega arith)
-            ∙ (λ h. sets (set (replicate 8 0) j (ex′ h)) (v h) vs)
-            ∙ ap (λ ps. sets (replicate 8 0) j (splitOf (sizesOf ps) k .values)) (sym one),
+        ap (λ q. set q j x) ew
+            ∙ set-first o i vs j x (omega arith)
+            ∙ (λ h. sets (set o j (ex′ h)) (v h) vs)
+            ∙ ap (λ ps. sets o j (splitOf (sizesOf ps) k .values)) (sym one),
         ey′ ∙ ap (λ ps. splitOf (sizesOf ps) k .left) (sym one),
       )
 
@@ -118,16 +123,20 @@ module _ (f s : List ℕ) (b n k : ℕ) where
       → w ≡ lastValues i → m ≡ leftOver i → y ≡ leftOver (i - 1)
   state-turn-left w m i z y p l ey ez ew em = state-turn w m i (i - 1) z (m % z) y refl p l ez refl ey ew em .1
 
-pub state-end : (f s : List ℕ) (p : Process) (k : ℕ) (w : List ℕ) (i : ℕ) → i ≤ 0
-    → w ≡ lastValues f s (p .parameters .first) (min (p .parameters .count) 8) k i → w ≡ stateIn f s p k
-unfolding lastValues stateIn padded
-state-end f s p k w i l ew =
+pub state-end : (f s : List ℕ) (p : Process) (k : ℕ) (o w : List ℕ) (i : ℕ) → i ≤ 0
+    → w ≡ lastValues f s (p .parameters .first) (min (p .parameters .count) 8) k o i → w ≡ sets o 0 (stateValues f s p k)
+unfolding lastValues stateValues
+state-end f s p k o w i l ew =
     let b : ℕ = p .parameters .first in
     let n : ℕ = min (p .parameters .count) 8 in
     let z : i ≡ 0 = omega arith in
     let m : n - 0 ≡ n = omega arith in
-    let o : b + 0 ≡ b = omega arith in
-    ew ∙ rw (z, m, o)
+    let e : b + 0 ≡ b = omega arith in
+    ew ∙ rw (z, m, e)
+
+pub state-is : (f s : List ℕ) (p : Process) (k : ℕ) (w : List ℕ) → w ≡ sets (replicate 8 0) 0 (stateValues f s p k) → w ≡ stateIn f s p k
+unfolding stateIn padded
+state-is f s p k w e = e
 
 -- ---- initial values
 
@@ -376,9 +385,10 @@ module _ (f s v : List ℕ) (h : Shape) (line : ℕ) where
   unfolding invariantIn
   invariant-is b el eb = rw (← el, place f line 1 refl, eb)
 
-  pub mapped-is : (w : List ℕ) → line ≡ getD s (h .mapping) 0 → w ≡ padded (valuesAt f (line + 1) (h .specification .parameters .count) v 0) → w ≡ mappedIn f s h v
-  unfolding mappedIn valuesAt
-  mapped-is w el ew = rw (← el, place f line 1 refl, ew)
+  pub mapped-put : (o w : List ℕ) → line ≡ getD s (h .mapping) 0 → w ≡ sets o 0 (valuesAt f (line + 1) (h .specification .parameters .count) v 0)
+      → w ≡ sets o 0 (mapped (designAt f s h) v)
+  unfolding valuesAt
+  mapped-put o w el ew = rw (← el, place f line 1 refl, ew)
 
   pub measure-is : (x : Valued) → line ≡ getD s (h .measure) 0 → x ≡ answerV (line + 1) v 0 (readV 32 (drop (line + 1) f)) → x .value ≡ measureIn f s h v
   unfolding measureIn
@@ -392,3 +402,7 @@ module _ (f s v : List ℕ) (h : Shape) (b : Bool) (said : b ≡ belowIn f s (h 
   pub inside-not : b ≡ false → false ≡ insideIn f s h v
   unfolding insideIn
   inside-not y = rw (← said, y)
+
+pub mapped-is : (f s v : List ℕ) (h : Shape) (w : List ℕ) → w ≡ sets (replicate 8 0) 0 (mapped (designAt f s h) v) → w ≡ mappedIn f s h v
+unfolding mappedIn padded
+mapped-is f s v h w e = e

@@ -9,13 +9,13 @@ use native.Mathlib.Omega.{arith}
 use lib.ListN.{length, getD, drop, replicate, length-map, getD-replicate, List·getD-append, List·getD-eq-default}
 use lib.Seq.{sets-eq, getD-append-add, getD-drop}
 use Rattle.foundation.specs.Nth.{EachIs}
-use Rattle.foundation.specs.Radix.{product, belowB, sameB, valuesOf}
+use Rattle.foundation.specs.Radix.{product, belowB, sameB, valuesOf, splitOf}
 use Rattle.foundation.proofs.Nth.{nth-nil, nth-cons}
 use Rattle.foundation.proofs.Radix.{number-below, values-of-number, from-the-last}
 use Rattle.criteria.specs.Design.{Row, State, InSize, sizes, states, stateNumber, initialState, mapped, measureAt}
 use Rattle.criteria.specs.Step.{nextState}
 use Rattle.criteria.specs.Rows.{noRow, rowAt}
-use Rattle.decision.specs.Tests.{invariantB, invariantStateB}
+use Rattle.decision.specs.Tests.{invariantB, insideB}
 use Rattle.decision.proofs.Alike.{value-alike, formula-alike, values-alike}
 use Rattle.design.specs.Line as line
 use Rattle.design.specs.Line.{valuesIn}
@@ -23,8 +23,8 @@ use Rattle.design.specs.Loaded.{lineFrom, eachLine, processIn, designAt}
 use Rattle.design.specs.declared.Process.{Process}
 use Rattle.design.specs.declared.Shape.{Shape}
 use Rattle.design.proofs.Loaded.{each-length}
-use Rattle.layout.specs.Sizes.{FitsIn, Fits}
-use Rattle.steps.specs.Arrays.{padded, firstValues, stepOf, stateIn, numberIn, belowIn, sameIn, invariantIn, insideIn, mappedIn, measureIn}
+use Rattle.layout.specs.Sizes.{FitsIn, Fits, parametersFrom, sizesOf}
+use Rattle.steps.specs.Arrays.{padded, firstValues, stepOf, stateValues, stateIn, numberIn, belowIn, sameIn, invariantIn, insideIn, mappedIn, measureIn}
 use Rattle.steps.proofs.Arrays.{row-there, row-past}
 
 -- ---- an array that holds a state
@@ -140,11 +140,11 @@ module _ (f s : List ℕ) (p : Process) where
 
   -- the array of a number holds the state that has it
   pub state-held : FitsIn p → (k : ℕ) → k < product (sizes (processIn f s p)) → stateIn f s p k ≡ padded (valuesOf (sizes (processIn f s p)) k)
-  unfolding stateIn
+  unfolding stateIn stateValues
   state-held fits k l =
       let q = fits .parameters in
       let e : min (p .parameters .count) 8 ≡ p .parameters .count = omega arith in
-      rw e (ap padded (from-the-last (sizes (processIn f s p)) k l))
+      ap (λ n. padded (splitOf (sizesOf (parametersFrom f s n (p .parameters .first))) k .values)) e ∙ ap padded (from-the-last (sizes (processIn f s p)) k l)
 
   pub below-held : FitsIn p → (x : List ℕ) → length x ≡ p .parameters .count → belowIn f s p (padded x) ≡ belowB (sizes (processIn f s p)) x
   unfolding belowIn
@@ -168,7 +168,7 @@ module _ (f s : List ℕ) (h : Shape) where
   unfolding measureIn
   measure-held x short = value-alike (padded x) x (same-values x short) (designAt f s h .measure) 0
 
-  pub inside-held : Fits h → (x : List ℕ) → length x ≡ h .implementation .parameters .count → insideIn f s h (padded x) ≡ invariantStateB (designAt f s h) x
+  pub inside-held : Fits h → (x : List ℕ) → length x ≡ h .implementation .parameters .count → insideIn f s h (padded x) ≡ insideB (designAt f s h) x
   unfolding insideIn
   inside-held fits x e =
       rw (below-held f s (h .implementation) (fits .implementation) x e, invariant-held x (rw e (fits .implementation .parameters)))

@@ -61,9 +61,12 @@ rowSpan f s p k = rowAt (processIn f s p .rows) k .span
 unfoldable pub rowWith : List ℕ → List ℕ → Process → ℕ → ℕ
 rowWith f s p a = tests.rowNumber (processIn f s p) a
 
--- the state with a number, of eight parameters at most; the initial state
+-- the values of the state with a number, of eight parameters at most; that state; the initial state
+unfoldable pub stateValues : List ℕ → List ℕ → Process → ℕ → List ℕ
+stateValues f s p k = splitOf (sizesOf (parametersFrom f s (min (p .parameters .count) 8) (p .parameters .first))) k .values
+
 unfoldable pub stateIn : List ℕ → List ℕ → Process → ℕ → List ℕ
-stateIn f s p k = padded (splitOf (sizesOf (parametersFrom f s (min (p .parameters .count) 8) (p .parameters .first))) k .values)
+stateIn f s p k = padded (stateValues f s p k)
 
 unfoldable pub initialIn : List ℕ → List ℕ → Process → List ℕ
 initialIn f s p = padded (initialState (processIn f s p))

@@ -7,9 +7,12 @@ use design::Process;
 use design::Shape;
 ghost use mathlib.Core.Path.{_≡_};
 ghost use Prim.Native.Nat.{_-_, _%_, _/_, min};
-ghost use lib.ListN.{drop};
+ghost use lib.ListN.{length, drop};
+ghost use lib.Seq.{sets};
+ghost use Rattle.criteria.specs.Design.{mapped};
 ghost use Rattle.design.specs.Line.{rowOf};
-ghost use Rattle.steps.specs.Arrays.{padded, valuesAt, stepOf, noStep, lineOf, rowStep, rowSpan, rowWith, stateIn, numberIn, initialIn, belowIn, sameIn, invariantIn, insideIn, mappedIn, measureIn};
+ghost use Rattle.design.specs.Loaded.{designAt};
+ghost use Rattle.steps.specs.Arrays.{padded, valuesAt, stepOf, noStep, lineOf, rowStep, rowSpan, rowWith, stateValues, stateIn, numberIn, initialIn, belowIn, sameIn, invariantIn, insideIn, mappedIn, measureIn};
 
 // What a row does at a state for a sum value: its action, whether it is enabled, the data number, and the state that it leads to.
 pub struct Step {
@@ -35,7 +38,31 @@ fn few(n: u8) -> usize
     }
 }
 
-// The values of n terms that stand one after the other from a place on.
+// Stores the values of n terms that stand one after the other from a place on. Where steps are many, they go straight to where they are used:
+// to give eight values back costs more than to compute two.
+pub fn put_values(
+    fields: &limits::Fields,
+    at: usize,
+    n: u8,
+    v: &limits::Values,
+    sum: u16,
+    out: &mut limits::Values,
+)
+    requires { ⌜ length (now out) ≡ 8 ⌝ }
+    ensures { λ _. ⌜ now (out .exit) ≡ sets (now (out .entry)) 0 (valuesAt (now (fields .entry)) at n (now (v .entry)) sum) ⌝ }
+{
+    let m = few(n);
+    let mut place = at;
+    let mut i = 0;
+    while i < m {
+        let x = eval::value(fields, place, v, sum, limits::MAX_DEPTH);
+        out[i] = x.value;
+        place = x.next;
+        i += 1;
+    }
+}
+
+// These values, and zeros behind them.
 pub fn values(
     fields: &limits::Fields,
     at: usize,
@@ -45,16 +72,8 @@ pub fn values(
 ) -> limits::Values
     ensures { λ r. ⌜ r ≡ padded (valuesAt (now (fields .entry)) at n (now (v .entry)) sum) ⌝ }
 {
-    let m = few(n);
     let mut out = [0u16; limits::MAX_PARAMETERS];
-    let mut place = at;
-    let mut i = 0;
-    while i < m {
-        let x = eval::value(fields, place, v, sum, limits::MAX_DEPTH);
-        out[i] = x.value;
-        place = x.next;
-        i += 1;
-    }
+    put_values(fields, at, n, v, sum, &mut out);
     out
 }
 
@@ -71,7 +90,27 @@ fn quotient(x: u16, y: u16) -> u16
     if y == 0 { 0 } else { x / y }
 }
 
-// The state that has a number: each value is the remainder by its size of what is left, from the last parameter on.
+// Stores the state that has a number: each value is the remainder by its size of what is left, from the last parameter on.
+pub fn put_state<'a>(
+    fields: &'a limits::Fields,
+    starts: &'a limits::Starts,
+    process: Process,
+    number: u16,
+    out: &mut limits::Values,
+)
+    ensures { λ _. ⌜ now (out .exit) ≡ sets (now (out .entry)) 0 (stateValues (now (fields .entry)) (now (starts .entry)) process number) ⌝ }
+{
+    let mut left = number;
+    let mut i = few(process.parameters.count);
+    while 0 < i {
+        i -= 1;
+        let z = layout::size(fields, starts, process.parameters.first as usize + i);
+        out[i] = remainder(left, z);
+        left = quotient(left, z);
+    }
+}
+
+// That state.
 pub fn state<'a>(
     fields: &'a limits::Fields,
     starts: &'a limits::Starts,
@@ -81,14 +120,7 @@ pub fn state<'a>(
     ensures { λ r. ⌜ r ≡ stateIn (now (fields .entry)) (now (starts .entry)) process number ⌝ }
 {
     let mut out = [0u16; limits::MAX_PARAMETERS];
-    let mut left = number;
-    let mut i = few(process.parameters.count);
-    while 0 < i {
-        i -= 1;
-        let z = layout::size(fields, starts, process.parameters.first as usize + i);
-        out[i] = remainder(left, z);
-        left = quotient(left, z);
-    }
+    put_state(fields, starts, process, number, &mut out);
     out
 }
 
@@ -297,6 +329,28 @@ pub fn inside<'a>(
     }
 }
 
+// Stores the mapped values.
+pub fn put_mapped<'a>(
+    fields: &'a limits::Fields,
+    starts: &'a limits::Starts,
+    shape: Shape,
+    v: &limits::Values,
+    out: &mut limits::Values,
+)
+    requires { ⌜ length (now out) ≡ 8 ⌝ }
+    ensures { λ _. ⌜ now (out .exit) ≡ sets (now (out .entry)) 0 (mapped (designAt (now (fields .entry)) (now (starts .entry)) shape) (now (v .entry))) ⌝ }
+{
+    let line = layout::line(starts, shape.mapping as usize);
+    put_values(
+        fields,
+        line as usize + 1,
+        shape.specification.parameters.count,
+        v,
+        0,
+        out,
+    );
+}
+
 // The mapped state.
 pub fn mapped<'a>(
     fields: &'a limits::Fields,
@@ -306,14 +360,9 @@ pub fn mapped<'a>(
 ) -> limits::Values
     ensures { λ r. ⌜ r ≡ mappedIn (now (fields .entry)) (now (starts .entry)) shape (now (v .entry)) ⌝ }
 {
-    let line = layout::line(starts, shape.mapping as usize);
-    values(
-        fields,
-        line as usize + 1,
-        shape.specification.parameters.count,
-        v,
-        0,
-    )
+    let mut out = [0u16; limits::MAX_PARAMETERS];
+    put_mapped(fields, starts, shape, v, &mut out);
+    out
 }
 
 // The measure.

@@ -7,33 +7,37 @@ use Prim.Native.Nat.{ℕ, zero, suc, _+_, _-_, _≤_, _<_, min}
 use native.Mathlib.Omega.{arith}
 use borrow.Author.Tests.{le-leb, lt-leb, leb-true, not-true, not-false}
 use lib.Dec.{leb}
-use lib.ListN.{length}
-use Rattle.foundation.specs.First.{Outcome, pass}
+use lib.ListN.{length, replicate}
+use lib.Seq.{sets}
+use Rattle.foundation.specs.First.{Outcome, pass, fail}
 use Rattle.foundation.specs.Walk as theWalk
 use Rattle.foundation.specs.Walk.{plus}
 use Rattle.foundation.proofs.Walk.{walk-goes, walk-stops}
-use Rattle.criteria.specs.Design.{Design, states}
-use Rattle.criteria.specs.Failure.{Failure}
-use Rattle.decision.specs.Tests.{invariantB}
+use Rattle.criteria.specs.Design.{Design, states, mapped}
+use Rattle.criteria.specs.Failure.{Failure, failureAt, missing}
+use Rattle.decision.specs.Tests.{invariantB, holds10}
 use Rattle.decision.specs.Quick.{stateHolds}
 use Rattle.decision.proofs.Quick.{quick-passes}
-use Rattle.decision.proofs.Alike.{failing-alike}
+use Rattle.decision.proofs.Alike.{failing-alike, tenth-alike}
 use Rattle.decision.specs.Examine.{named, stateAt, firstFailing, examine}
 use Rattle.design.specs.Loaded.{sections, designAt, designIn}
 use Rattle.design.specs.declared.Counts.{Counts}
 use Rattle.design.specs.declared.Shape.{Shape}
 use Rattle.layout.specs.Sizes.{countsFit, Fits, shapeOf, stateCountIn}
 use Rattle.layout.proofs.Sizes.{shape-fits, sections-kept}
-use Rattle.steps.specs.Arrays.{padded, stateIn, invariantIn, mappedIn}
+use Rattle.steps.specs.Arrays.{padded, stateValues, stateIn, invariantIn, mappedIn}
+use Rattle.steps.proofs.Arrays.{state-is, mapped-is}
 use Rattle.steps.proofs.States as held
 use Rattle.lowest_failure.specs.Search.{toldPlace}
 use Rattle.verdicts.specs.declared.Place.{Place}
 use Rattle.lowest_failure.specs.declared.Finding.{Finding}
 use Rattle.lowest_failure.specs.declared.Finding.the-variants.{Nothing, Found}
 use Rattle.plan.specs.Plan.{planIn}
+use Rattle.tenth.specs.Tenth.{tenthBy}
+use Rattle.tenth.proofs.Decided.{tenth-held}
 use Rattle.state_passes.specs.Passes.{passesIn}
 use Rattle.state_passes.proofs.Decided.{quick-held}
-use Rattle.walk.specs.Told.{told, toldWalked, noWalk, namedBy}
+use Rattle.walk.specs.Told.{told, toldWalked, noWalk, namedBy, lackingAt}
 use Rattle.walk.specs.Examine.{examineAt, examineIn, walkOn}
 use Rattle.start.specs.Start.{startIn, startFailureIn}
 use Rattle.walk.specs.Walk.{walkIn, statesThere, planOf, walkBy, walkedBy, checkedIn}
@@ -53,23 +57,38 @@ pub named-found : (n : ℕ) (r : Finding) (x : Place) → r ≡ Found x
 unfolding namedBy
 named-found n r x h = rw h
 
-module _ (f s p v : List ℕ) (h : Shape) (k : ℕ) (b : Bool) (ev : v ≡ stateIn f s (h .implementation) k) (eb : b ≡ invariantIn f s h v) where
+pub lacks-at : (n : ℕ) → told (Fail (record { criterion = 10; state = n; row = 0; sum = 0 })) ≡ lackingAt n
+unfolding lackingAt
+lacks-at n = refl
+
+module _ (f s p v : List ℕ) (h : Shape) (k : ℕ) (a : Bool) (es : v ≡ sets (replicate 8 0) 0 (stateValues f s (h .implementation) k)) (ea : a ≡ tenthBy f s h p v) where
+  ev : v ≡ stateIn f s (h .implementation) k
+  ev = state-is f s (h .implementation) k v es
+
   of-state : (o : Outcome Failure) → o ≡ examineAt f s h p k v → o ≡ examineIn f s h p k
   unfolding examineIn
   of-state o eo = eo ∙ ap (examineAt f s h p k) ev
 
-  pub examine-outside : not b ≡ true → told Pass ≡ examineIn f s h p k
+  pub examine-lacks : (o : Answer) → not a ≡ true → told o ≡ lackingAt k → told o ≡ examineIn f s h p k
   unfolding examineAt
-  examine-outside y = of-state (told Pass) (rw (← eb, not-true b y))
+  examine-lacks o n eo = of-state (told o) (eo ∙ rw (← ea, not-true a n))
 
-  module _ (t : List ℕ) (q : Bool) (y : not b ≡ false) (et : t ≡ mappedIn f s h v) (eq : q ≡ passesIn f s h p v t) where
-    pub examine-passes : q ≡ true → told Pass ≡ examineIn f s h p k
+  module _ (n : not a ≡ false) (b : Bool) (eb : b ≡ invariantIn f s h v) where
+    pub examine-outside : not b ≡ true → told Pass ≡ examineIn f s h p k
     unfolding examineAt
-    examine-passes z = of-state (told Pass) (rw (← eb, not-false b y, ← et, ← eq, z))
+    examine-outside y = of-state (told Pass) (rw (← ea, not-false a n, ← eb, not-true b y))
 
-    pub examine-finds : (r : Finding) (o : Answer) → q ≡ false → toldPlace r ≡ firstFailing (designAt f s h) v → told o ≡ namedBy k r → told o ≡ examineIn f s h p k
-    unfolding examineAt namedBy
-    examine-finds r o z er eo = of-state (told o) (eo ∙ ap (named k) er ∙ rw (← eb, not-false b y, ← et, ← eq, z))
+    module _ (t : List ℕ) (q : Bool) (y : not b ≡ false) (em : t ≡ sets (replicate 8 0) 0 (mapped (designAt f s h) v)) (eq : q ≡ passesIn f s h p v t) where
+      et : t ≡ mappedIn f s h v
+      et = mapped-is f s v h t em
+
+      pub examine-passes : q ≡ true → told Pass ≡ examineIn f s h p k
+      unfolding examineAt
+      examine-passes z = of-state (told Pass) (rw (← ea, not-false a n, ← eb, not-false b y, ← et, ← eq, z))
+
+      pub examine-finds : (r : Finding) (o : Answer) → q ≡ false → toldPlace r ≡ firstFailing (designAt f s h) v → told o ≡ namedBy k r → told o ≡ examineIn f s h p k
+      unfolding examineAt namedBy
+      examine-finds r o z er eo = of-state (told o) (eo ∙ ap (named k) er ∙ rw (← ea, not-false a n, ← eb, not-false b y, ← et, ← eq, z))
 
 -- ---- the loop
 
@@ -139,11 +158,12 @@ module _ (f s : List ℕ) (h : Shape) (fits : Fits h) where
 
   -- the examination of a number is that of its state
   pub examine-held : (k : ℕ) → k < states (designAt f s h) → examineIn f s h (planIn f s h) k ≡ examine (designAt f s h) k
-  unfolding examineIn examineAt examine
+  unfolding examineIn examineAt examine lackingAt
   examine-held k l =
       ap (examineAt f s h (planIn f s h) k) (held.state-held f s (h .implementation) (fits .implementation) k l)
-      ∙ rw (held.invariant-held f s h x short, passes-held (padded x))
-      (ap (λ o. cond (invariantB d x) o pass) (go (stateHolds d (padded x)) refl ∙ ap (named k) (failing-alike (padded x) x (held.same-values x short) d)))
+      ∙ rw (tenth-held f s h fits (padded x), tenth-alike (padded x) x (held.same-values x short) d, held.invariant-held f s h x short, passes-held (padded x))
+      (ap (λ o. cond (holds10 d x) (cond (invariantB d x) o pass) (fail (failureAt k missing)))
+      (go (stateHolds d (padded x)) refl ∙ ap (named k) (failing-alike (padded x) x (held.same-values x short) d)))
     where
       d : Design
       d = designAt f s h

@@ -11,12 +11,14 @@ use Rattle.design.specs.Loaded.{designAt}
 use Rattle.design.specs.declared.Shape.{Shape}
 use Rattle.steps.specs.Arrays.{stateIn, invariantIn, mappedIn}
 use Rattle.state_passes.specs.Passes.{passesIn}
+use Rattle.tenth.specs.Tenth.{tenthBy}
+use Rattle.walk.specs.Told.{lackingAt}
 
 -- of the state v with the number k
 unfoldable pub examineAt : List ℕ → List ℕ → Shape → List ℕ → ℕ → List ℕ → Outcome Failure
 examineAt f s h p k v =
     let o = named k (firstFailing (designAt f s h) v) in
-    cond (invariantIn f s h v) (cond (passesIn f s h p v (mappedIn f s h v)) pass o) pass
+    cond (tenthBy f s h p v) (cond (invariantIn f s h v) (cond (passesIn f s h p v (mappedIn f s h v)) pass o) pass) (lackingAt k)
 
 unfoldable pub examineIn : List ℕ → List ℕ → Shape → List ℕ → ℕ → Outcome Failure
 examineIn f s h p k = examineAt f s h p k (stateIn f s (h .implementation) k)

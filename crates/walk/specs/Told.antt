@@ -2,7 +2,7 @@
 use Prim.Native.Nat.{ℕ}
 use Rattle.foundation.specs.First.{Outcome, pass, fail}
 use Rattle.foundation.specs.Walk.{Walked}
-use Rattle.criteria.specs.Failure.{Failure}
+use Rattle.criteria.specs.Failure.{Failure, failureAt, missing}
 use Rattle.decision.specs.Examine.{named}
 use Rattle.lowest_failure.specs.Search.{toldPlace}
 use Rattle.lowest_failure.specs.declared.Finding.{Finding}
@@ -24,6 +24,10 @@ noWalk = record { outcome = pass; count = 0 }
 -- what was found at the state with a number
 unfoldable pub namedBy : ℕ → Finding → Outcome Failure
 namedBy n r = named n (toldPlace r)
+
+-- a value is missing at the state with a number
+unfoldable pub lackingAt : ℕ → Outcome Failure
+lackingAt n = fail (failureAt n missing)
 
 -- ---- the other way round: what was found, in the code's own types
 

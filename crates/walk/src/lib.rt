@@ -1,4 +1,4 @@
-// The walk over the states of the design in a desk's arrays: criteria 2 to 9 at n states from a place on, by a plan that is made once for
+// The walk over the states of the design in a desk's arrays: criteria 2 to 10 at n states from a place on, by a plan that is made once for
 // the design; and the whole check, criterion 1 before all states. Every public function answers any arrays, any counts and any numbers.
 // What a walk is, and what the examination of a state, is in the crates foundation and decision.
 use design::Counts;
@@ -10,7 +10,7 @@ use verdicts::Walked;
 ghost use mathlib.Core.Path.{_≡_};
 ghost use Prim.Native.Nat.{_+_, _≤_, min};
 ghost use Rattle.layout.specs.Sizes.{Fits, stateCountIn};
-ghost use Rattle.walk.specs.Told.{told, toldWalked, noWalk, namedBy};
+ghost use Rattle.walk.specs.Told.{told, toldWalked, noWalk, namedBy, lackingAt};
 ghost use Rattle.walk.specs.Walk.{planOf, walkedBy, checkedIn};
 ghost use Rattle.walk.specs.Examine.{examineIn, walkOn};
 
@@ -114,8 +114,8 @@ fn walk_on<'a>(
     }
 }
 
-// One state examined: no failure, or its lowest, for which only a state that `state_passes` doesn't let pass is searched. Outside the
-// invariant nothing is tried.
+// One state examined: no failure, or its lowest: criterion 10 first, and of the rest only a state that `state_passes` doesn't let pass is
+// searched. Outside the invariant nothing more is tried.
 fn examine<'a>(
     fields: &'a limits::Fields,
     starts: &'a limits::Starts,
@@ -126,15 +126,32 @@ fn examine<'a>(
     requires { ⌜ Fits shape ⌝ }
     ensures { λ r. ⌜ told r ≡ examineIn (now (fields .entry)) (now (starts .entry)) shape (now (plan .entry)) number ⌝ }
 {
-    let v = steps::state(fields, starts, shape.implementation, number);
+    let mut v = [0u16; limits::MAX_PARAMETERS];
+    steps::put_state(fields, starts, shape.implementation, number, &mut v);
+    if !tenth::holds(fields, starts, shape, plan, &v) {
+        return lacking(number);
+    }
     if !steps::invariant(fields, starts, shape, &v) {
         return Outcome::Pass;
     }
-    let t = steps::mapped(fields, starts, shape, &v);
+    let mut t = [0u16; limits::MAX_PARAMETERS];
+    steps::put_mapped(fields, starts, shape, &v, &mut t);
     if state_passes::passes(fields, starts, shape, plan, &v, &t) {
         return Outcome::Pass;
     }
     named(number, lowest_failure::lowest(fields, starts, shape, v))
+}
+
+// The failure of criterion 10 at the state with a number.
+fn lacking(number: u16) -> Outcome
+    ensures { λ r. ⌜ told r ≡ lackingAt number ⌝ }
+{
+    Outcome::Fail(Failure {
+        criterion: 10,
+        state: number,
+        row: 0,
+        sum: 0,
+    })
 }
 
 // The place of failure with the number of the state.

@@ -10,4 +10,5 @@ holds3-spec =
     (tie.spec
     (λ c κs. search needs)
     (λ c κs. search needs)
+    (λ c κs. search needs)
     (λ c. search laws.holds3-is))

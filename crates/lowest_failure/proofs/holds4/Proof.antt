@@ -11,4 +11,5 @@ holds4-spec =
     (λ c κs. search needs)
     (λ c κs. search needs)
     (λ c κs. search needs)
+    (λ c κs. search needs)
     (λ c. search laws.holds4-is))

@@ -12,4 +12,5 @@ holds5-spec =
     (λ c κs. search needs)
     (λ c κs. search needs)
     (λ c κs. search needs)
+    (λ c κs. search needs)
     (λ c. search laws.holds5-is))

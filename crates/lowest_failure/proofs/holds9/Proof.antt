@@ -13,4 +13,5 @@ holds9-spec =
     (λ c κs. search needs)
     (λ c κs. search needs)
     (λ c κs. search needs)
+    (λ c κs. search needs)
     (λ c. search laws.holds9-is))

@@ -11,5 +11,4 @@ row-plan-in-spec =
     (λ c. search needs)
     (λ c κs. search needs)
     (λ c. search laws.row-plan-there)
-    (λ c κs. search needs)
     (λ c. search laws.row-plan-past))

@@ -19,4 +19,5 @@ row-seen-spec =
     (λ c κs. search needs)
     (λ c κs. search needs)
     (λ c κs. search needs)
+    (λ c κs. search needs)
     (λ c. search laws.row-on))

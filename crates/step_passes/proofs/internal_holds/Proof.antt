@@ -1,4 +1,4 @@
--- Inside the invariant, and kept.
+-- Inside the invariant, with values there, and kept.
 use borrow.Author.Needs.{needs}
 use Rattle.step_passes.proofs.Steps as laws
 use Rattle.step_passes.proofs.internal_holds.Statement.{statement}
@@ -12,5 +12,7 @@ internal-holds-spec =
     (λ c κs. search needs)
     (λ c κs. search needs)
     (λ c. search laws.internal-out)
+    (λ c κs. search needs)
+    (λ c. search laws.internal-lacks)
     (λ c κs. search needs)
     (λ c. search laws.internal-kept))

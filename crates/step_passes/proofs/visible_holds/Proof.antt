@@ -1,4 +1,4 @@
--- Inside the invariant, and answered.
+-- Inside the invariant, with values there, and answered.
 use borrow.Author.Needs.{needs}
 use Rattle.step_passes.proofs.Steps as laws
 use Rattle.step_passes.proofs.visible_holds.Statement.{statement}
@@ -12,6 +12,8 @@ visible-holds-spec =
     (λ c κs. search needs)
     (λ c κs. search needs)
     (λ c. search laws.visible-out)
+    (λ c κs. search needs)
+    (λ c. search laws.visible-lacks)
     (λ c κs. search needs)
     (λ c κs. search needs)
     (λ c. search laws.visible-answered))

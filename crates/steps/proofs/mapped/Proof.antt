@@ -1,4 +1,4 @@
--- The values in the line of the mapping.
+-- Stored over zeros.
 use borrow.Author.Needs.{needs}
 use Rattle.steps.proofs.Arrays as laws
 use Rattle.steps.proofs.mapped.Statement.{statement}
@@ -8,9 +8,5 @@ pub mapped-spec : {M : Type 1} → statement M
 mapped-spec =
     tie.close
     (tie.spec
-    (λ c. search needs)
-    (λ c κs. search needs)
-    (λ c. search needs)
-    (λ c. search needs)
     (λ c κs. search needs)
     (λ c. search laws.mapped-is))

@@ -1,4 +1,4 @@
--- Outside the invariant nothing is tried; a state that passes is not searched.
+-- Values first; outside the invariant nothing more is tried; a state that passes is not searched.
 use borrow.Author.Needs.{needs}
 use Rattle.walk.proofs.Walking as laws
 use Rattle.walk.proofs.examine.Statement.{statement}
@@ -9,6 +9,9 @@ examine-spec =
     tie.close
     (tie.spec
     (λ c κs. search needs)
+    (λ c κs. search needs)
+    (λ c κs. search needs)
+    (λ c. search laws.examine-lacks)
     (λ c κs. search needs)
     (λ c. search laws.examine-outside)
     (λ c κs. search needs)
