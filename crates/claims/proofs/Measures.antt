@@ -12,9 +12,10 @@ use Rattle.foundation.specs.Radix.{belowB}
 use Rattle.foundation.proofs.Reflects.{says-yes, is-so, by-below}
 use Rattle.reader.specs.Text.{fieldsByLine}
 use Rattle.criteria.specs.Design.{Design, State, RowIs, InSize, Invariant, InvariantState, sizes, states, stateNumber}
-use Rattle.criteria.specs.Measure.{LongestRun, Measure, MeetsThird, MeetsFifth}
+use Rattle.criteria.specs.Measure.{LongestRun, Measure, Measurable, MeetsFifth}
 use Rattle.criteria.proofs.Measure.{not-both, longest-meets, run-least, no-loop}
-use Rattle.decision.specs.Tests.{invariantB}
+use Rattle.foundation.specs.Reflects.{Reflects, so, not-so}
+use Rattle.decision.proofs.Tests.{by-holds}
 use Rattle.design.specs.Lines.{countsOf, designText}
 use Rattle.design.specs.Loaded.{fieldsHeld, startsHeld, designAt, designIn}
 use Rattle.design.specs.declared.Shape.{Shape}
@@ -57,7 +58,7 @@ refused-not-done (inr (k, e)) = let z : _≡_ {A = ℕ} 0 1 = cc in omega arith
 
 -- ---- the longest runs as a measure
 
-module _ (d : Design) (few : states d ≤ 65536) (third : MeetsThird d) (slice : List ℕ) (runs : LongestRuns d slice) where
+module _ (d : Design) (few : states d ≤ 65536) (measurable : Measurable d) (slice : List ℕ) (runs : LongestRuns d slice) where
   -- 0 for a list that is no state
   at : State → ℕ
   at s = cond (belowB (sizes (d .impl)) s) (numberAt d slice s) 0
@@ -78,19 +79,16 @@ module _ (d : Design) (few : states d ≤ 65536) (third : MeetsThird d) (slice :
   made = record { at = at; fits = at-fits }
 
   made-meets : MeetsFifth d at
-  made-meets = longest-meets d third at (λ s i. subst (LongestRun d s) (sym (at-is s (i .in-size))) (runs .inside s i))
+  made-meets = longest-meets d measurable at (λ s i. subst (LongestRun d s) (sym (at-is s (i .in-size))) (runs .inside s i))
 
   made-least : (μ : Measure) → MeetsFifth d (μ .at) → (s : State) → InSize (d .impl) s → numberAt d slice s ≤ μ .at s
-  made-least μ fifth s in-size = go (invariantB d s) refl
+  made-least μ fifth s in-size = go (by-holds d s)
     where
-      go : (b : Bool) → invariantB d s ≡ b → numberAt d slice s ≤ μ .at s
-      go true e =
-          let i : InvariantState d s = record { in-size = in-size; invariant = e } in
-          run-least d third (μ .at) fifth s (numberAt d slice s) i (runs .inside s i)
-      go false e =
-          let out : Invariant d s → ⊥ = λ holds. true≢false (sym holds ∙ e) in
-          let z = runs .elsewhere s in-size out in
-          omega arith
+      go : {b : Bool} → Reflects (Invariant d s) b → numberAt d slice s ≤ μ .at s
+      go (so holds) =
+          let i : InvariantState d s = record { in-size = in-size; invariant = holds } in
+          run-least d measurable (μ .at) fifth s (numberAt d slice s) i (runs .inside s i)
+      go (not-so out) = let z = runs .elsewhere s in-size out in omega arith
 
   fills : Fills d slice
   fills = record { longest = runs; made = made; is = at-is; meets = made-meets; least = made-least }
@@ -123,33 +121,33 @@ module _ (d : Design) (few : states d ≤ 65536) (before after : List ℕ) where
     kept = kept-all (states d) before after same;
     filled = λ e. absurd (refused-not-done (inl e));
     loops = λ k e. absurd (refused-not-done (inr (k, e)));
-    named = λ _ third. absurd (not-both d third out);
-    exactly = λ _ third. absurd (not-both d third out);
+    named = λ _ measurable. absurd (not-both d measurable out);
+    exactly = λ _ measurable. absurd (not-both d measurable out);
   }
-  by-case room r (filled third kept runs) = record {
+  by-case room r (filled measurable kept runs) = record {
     short = (λ e. let z : _≡_ {A = ℕ} 0 17 = ap measuredNumber e in absurd (omega arith), λ l. absurd (omega arith));
-    leaves = (λ e. let z : _≡_ {A = ℕ} 0 18 = ap measuredNumber e in absurd (omega arith), λ p. absurd (not-both d third (p .1)));
+    leaves = (λ e. let z : _≡_ {A = ℕ} 0 18 = ap measuredNumber e in absurd (omega arith), λ p. absurd (not-both d measurable (p .1)));
     refused = λ k e. absurd (filled-refused e);
-    done = (λ _. (room, third), λ _. inl refl);
+    done = (λ _. (room, measurable), λ _. inl refl);
     kept = kept;
-    filled = λ _. fills d few third after runs;
+    filled = λ _. fills d few measurable after runs;
     loops = λ k e. absurd (filled-no-loop e);
-    named = λ _ _. (λ o. absurd (no-loop d third (at d few third after runs) (made-meets d few third after runs) (o .0) (o .1)), λ l. absurd (filled-no-loop (l .1)));
-    exactly = λ _ _. (λ _ k e. filled-no-loop e, λ _. (made d few third after runs, made-meets d few third after runs));
+    named = λ _ _. (λ o. absurd (no-loop d measurable (at d few measurable after runs) (made-meets d few measurable after runs) (o .0) (o .1)), λ l. absurd (filled-no-loop (l .1)));
+    exactly = λ _ _. (λ _ k e. filled-no-loop e, λ _. (made d few measurable after runs, made-meets d few measurable after runs));
   }
     where
       filled-refused : {k : ℕ} → Filled ≡ TurnedDown k → ⊥
       filled-refused e = let z : _≡_ {A = ℕ} 0 1 = cc in omega arith
-  by-case room r (loop s third kept zero-all on) = record {
+  by-case room r (loop s measurable kept zero-all on) = record {
     short = (λ e. let z : _≡_ {A = ℕ} 0 17 = ap measuredNumber e in absurd (omega arith), λ l. absurd (omega arith));
-    leaves = (λ e. let z : _≡_ {A = ℕ} 0 18 = ap measuredNumber e in absurd (omega arith), λ p. absurd (not-both d third (p .1)));
+    leaves = (λ e. let z : _≡_ {A = ℕ} 0 18 = ap measuredNumber e in absurd (omega arith), λ p. absurd (not-both d measurable (p .1)));
     refused = λ k e. absurd (loop-refused e);
-    done = (λ _. (room, third), λ _. inr (stateNumber d s, refl));
+    done = (λ _. (room, measurable), λ _. inr (stateNumber d s, refl));
     kept = kept;
     filled = λ e. absurd (filled-no-loop (sym e));
     loops = λ k e. record { zero = zero-all; state = s; named = loop-is e; on-loop = on };
     named = λ _ _. (λ _. (stateNumber d s, refl), λ _. (s, on));
-    exactly = λ _ _. (λ m. absurd (no-loop d third (m .0 .at) (m .1) s on), λ none. absurd (none (stateNumber d s) refl));
+    exactly = λ _ _. (λ m. absurd (no-loop d measurable (m .0 .at) (m .1) s on), λ none. absurd (none (stateNumber d s) refl));
   }
     where
       loop-refused : {j k : ℕ} → Loop j ≡ TurnedDown k → ⊥

@@ -3,11 +3,11 @@ use Prim.Native.Nat.{ℕ, _+_, _<_}
 use mathlib.Core.Path.{_≡_, refl, _∙_, subst}
 use mathlib.Core.List.{List, [], _∷_}
 use native.Mathlib.Omega.{arith}
-use Rattle.foundation.specs.First.{firstIn}
+use Rattle.foundation.specs.First.{firstIn, allIn}
 use Rattle.foundation.specs.Nth.{first, later}
 use Rattle.foundation.specs.Radix.{valuesOf}
 use Rattle.foundation.specs.Walk.{walk}
-use Rattle.terms.specs.Tree.{evalV}
+use Rattle.terms.specs.Tree.{evalV, hasV}
 use Rattle.decision.specs.Tests.{rowFrom}
 use Rattle.decision.specs.Examine.{examine}
 use Rattle.decision.specs.Verdict.{checked, verdictOf}
@@ -35,19 +35,19 @@ with-wrong-data = case wrong-data 1 8 9 3 0
 -- ---- computed: what is due, and when the check is decided
 
 given-due : (dueOf given (verdictOf given) 0 5 ≡ progress.Open 5) × (dueOf given (verdictOf given) 5 5 ≡ progress.Open 5) × (dueOf given (verdictOf given) 10 5 ≡ progress.Accepted 2)
-unfolding dueOf checked examine walk firstIn valuesOf rowFrom evalV
+unfolding dueOf checked examine walk firstIn allIn valuesOf rowFrom evalV hasV
 given-due = (refl, refl, refl)
 
 wrong-due : (dueOf wrong-data (verdictOf wrong-data) 0 5 ≡ progress.Open 5) × (dueOf wrong-data (verdictOf wrong-data) 5 5 ≡ progress.Failed 5)
-unfolding dueOf checked examine walk firstIn valuesOf rowFrom evalV
+unfolding dueOf checked examine walk firstIn allIn valuesOf rowFrom evalV hasV
 wrong-due = (refl, refl)
 
 given-stop : stopOf given (verdictOf given) ≡ 12
-unfolding checked examine walk firstIn valuesOf rowFrom evalV
+unfolding checked examine walk firstIn allIn valuesOf rowFrom evalV hasV
 given-stop = refl
 
 wrong-stop : stopOf wrong-data (verdictOf wrong-data) ≡ 10
-unfolding checked examine walk firstIn valuesOf rowFrom evalV
+unfolding checked examine walk firstIn allIn valuesOf rowFrom evalV hasV
 wrong-stop = refl
 
 given-reports : Reports as-given

@@ -1,7 +1,7 @@
 -- Demand 3 (00; 01, "What demand 3 speaks of"; 02, order 1): "a single claim about every such list and every such check". What is
 -- promised of a design is `Demand3` in criteria/specs/Bisimilar; here, that it is so of every design text that is accepted anywhere, by
--- the functions' contracts (specs/Contracts), that every good text is accepted, and that a text without marks means what it did before
--- there were any. It holds: `claim3` in proofs/Demand3.
+-- the functions' contracts (specs/Contracts), that every good text is accepted, and that a text without marks means what it would if
+-- there were none. It holds: `claim3` in proofs/Demand3.
 use Prim.Native.Nat.{ℕ, _≤_}
 use mathlib.Core.Path.{_≡_}
 use mathlib.Core.Logic.{_↔_}
@@ -39,8 +39,8 @@ pub record Among (text : List ℕ) : Type 0 where
   pub every-list : {calls : List Called} {desk : Desk} {m k : ℕ} → Calls calls desk → Walked calls text m k → states (designText text) ≤ m
       → AcceptedIn calls text
 
--- "Without the line all steps are marked": the criteria and the lowest failure are those of 01, and what is accepted keeps demand 3 as 00
--- words it, of every run of internal steps (criteria/specs/Unmarked)
+-- "Without the line all steps are marked": the criteria and the lowest failure are those of 01 and, of missing values, of 02, order 5; and
+-- what is accepted keeps demand 3 as 00 words it, of every run of internal steps (criteria/specs/Unmarked)
 pub record AsUnmarked (text : List ℕ) : Type 1 where
   pub criteria : Meets (designText text) ↔ plain.Meets (designText text)
   pub failure : (x : Failure) → LowestFailure (designText text) x ↔ plain.LowestFailure (designText text) x

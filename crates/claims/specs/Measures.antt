@@ -1,17 +1,18 @@
--- A measure made by the desk (02, order 4): "fill a lent slice of 16-bit numbers with the length of the longest run of marked internal steps
--- from each invariant state, 0 elsewhere. If marked steps form a loop among invariant states, write 0 for every state and name some state on
--- one. Where the slice is filled, a measure meeting criterion 5 exists exactly if no loop is named, a measure here being any 16-bit number
--- for each state; the one written is nowhere larger than any that does. Answers: after 11, 17 for a slice shorter than the number of states,
--- then 18 where criterion 3 fails in some state." Runs, loops and measures are in criteria/specs/Measure; calls are those of the functions'
--- contracts (specs/Contracts). 11 is `measure-empty` of `Refusals`, and 1 to 7 of a text `by-measuring` of `TurnsDown`, in specs/Outcomes. It
--- holds: `measures` in proofs/Measures.
+-- A measure made by the desk (02, order 4): "fill a lent slice of 16-bit numbers with the length of the longest run of marked internal
+-- steps from each invariant state, 0 elsewhere. If marked steps form a loop among invariant states, write 0 for every state and name some
+-- state on one. Where the slice is filled, a measure meeting criterion 5 exists exactly if no loop is named, a measure here being any
+-- 16-bit number for each state; the one written is nowhere larger than any that does. Answers: after 11, 17 for a slice shorter than the
+-- number of states, then 18 where criterion 3 fails in some state." "Order 4's 18 covers criterion 10 too, the measure apart" (order 5).
+-- Runs, loops and measures are in criteria/specs/Measure; calls are those of the functions' contracts (specs/Contracts). 11 is
+-- `measure-empty` of `Refusals`, and 1 to 7 of a text `by-measuring` of `TurnsDown`, in specs/Outcomes. It holds: `measures` in
+-- proofs/Measures.
 use Prim.Native.Nat.{ℕ, _≤_, _<_}
 use mathlib.Core.Path.{_≡_}
 use mathlib.Core.Logic.{_≢_, _⊎_, _↔_}
 use mathlib.Core.List.{List}
 use lib.ListN.{length}
 use Rattle.criteria.specs.Design.{Design, State, InSize, states, stateNumber}
-use Rattle.criteria.specs.Measure.{OnLoop, Measure, MeetsThird, FailsThird, MeetsFifth}
+use Rattle.criteria.specs.Measure.{OnLoop, Measure, Measurable, Unmeasurable, MeetsFifth}
 use Rattle.design.specs.Lines.{designText}
 use Rattle.design.specs.Faults.{DesignText}
 use Rattle.answers.specs.declared.Measured.{Measured}
@@ -46,19 +47,20 @@ pub record Loops (d : Design) (slice : List ℕ) (k : ℕ) : Type 0 where
 
 -- what a call came to that had this design: r is its answer, `before` and `after` what the slice held and holds
 pub record MadeOf (d : Design) (before after : List ℕ) (r : Measured) : Type 0 where
-  -- "17 for a slice shorter than the number of states, then 18 where criterion 3 fails in some state": these alone, and nothing is written
+  -- "17 for a slice shorter than the number of states, then 18 where criterion 3 fails in some state", or criterion 10, "the measure apart":
+  -- these alone, and nothing is written
   pub short : (r ≡ TurnedDown 17) ↔ (length before < states d)
-  pub leaves : (r ≡ TurnedDown 18) ↔ ((states d ≤ length before) × FailsThird d)
+  pub leaves : (r ≡ TurnedDown 18) ↔ ((states d ≤ length before) × Unmeasurable d)
   pub refused : (k : ℕ) → r ≡ TurnedDown k → after ≡ before
-  pub done : ((r ≡ Filled) ⊎ ((k : ℕ) × (r ≡ Loop k))) ↔ ((states d ≤ length before) × MeetsThird d)
+  pub done : ((r ≡ Filled) ⊎ ((k : ℕ) × (r ≡ Loop k))) ↔ ((states d ≤ length before) × Measurable d)
   -- "Past a result, a lent buffer or slice keeps its content" (01)
   pub kept : KeptPast (states d) before after
   pub filled : r ≡ Filled → Fills d after
   pub loops : (k : ℕ) → r ≡ Loop k → Loops d after k
   -- "If marked steps form a loop among invariant states, .. name some state on one": and only then
-  pub named : states d ≤ length before → MeetsThird d → ((s : State) × OnLoop d s) ↔ ((k : ℕ) × (r ≡ Loop k))
+  pub named : states d ≤ length before → Measurable d → ((s : State) × OnLoop d s) ↔ ((k : ℕ) × (r ≡ Loop k))
   -- "a measure meeting criterion 5 exists exactly if no loop is named"
-  pub exactly : states d ≤ length before → MeetsThird d → ((μ : Measure) × MeetsFifth d (μ .at)) ↔ ((k : ℕ) → r ≢ Loop k)
+  pub exactly : states d ≤ length before → Measurable d → ((μ : Measure) × MeetsFifth d (μ .at)) ↔ ((k : ℕ) → r ≢ Loop k)
 
 pub record Measures : Type 0 where
   -- on a desk that a text was loaded to, however far its check has come; the desk stays as it is

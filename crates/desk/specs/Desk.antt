@@ -36,7 +36,7 @@ emptyDesk = record {
   fields = replicate maxFields 0;
   starts = replicate lineStarts 0;
   counts = record { kind1 = 0; kind2 = 0; kind3 = 0; kind4 = 0; kind8 = 0 };
-  plan = replicate 256 0;
+  plan = replicate 387 0;
   next = 0;
   phase = phase.Empty;
 }

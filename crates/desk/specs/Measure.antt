@@ -8,17 +8,18 @@ use Prim.Native.Nat.{ℕ}
 use Rattle.answers.specs.declared.Phase.the-variants as phase
 use Rattle.answers.specs.declared.Measured.{Measured}
 use Rattle.answers.specs.declared.Measured.the-variants.{TurnedDown}
-use Rattle.criteria.specs.Measure.{MeetsThird, FailsThird}
+use Rattle.criteria.specs.Measure.{Measurable, Unmeasurable}
 use Rattle.design.specs.Loaded.{designIn}
 use Rattle.measure.specs.Answer.{HasRoom, MeasureIn}
 use Rattle.desk.specs.declared.Desk.{Desk}
 
--- the number that it returns in n places: 11 on an empty desk, else 17 without room, else 18 where criterion 3 fails in some state; 0 is done
+-- the number that it returns in n places: 11 on an empty desk, else 17 without room, else 18 where criterion 3 fails in some state, or criterion 10,
+-- the measure apart; 0 is done
 pub data MeasureNumber (d : Desk) (n : ℕ) : ℕ → Type 0 where
   on-empty : d .phase ≡ phase.Empty → MeasureNumber d n 11
   without-room : d .phase ≢ phase.Empty → (HasRoom (d .fields) (d .starts) (d .counts) n → ⊥) → MeasureNumber d n 17
-  criterion-fails : d .phase ≢ phase.Empty → HasRoom (d .fields) (d .starts) (d .counts) n → FailsThird (designIn (d .fields) (d .starts) (d .counts)) → MeasureNumber d n 18
-  done : d .phase ≢ phase.Empty → HasRoom (d .fields) (d .starts) (d .counts) n → MeetsThird (designIn (d .fields) (d .starts) (d .counts)) → MeasureNumber d n 0
+  criterion-fails : d .phase ≢ phase.Empty → HasRoom (d .fields) (d .starts) (d .counts) n → Unmeasurable (designIn (d .fields) (d .starts) (d .counts)) → MeasureNumber d n 18
+  done : d .phase ≢ phase.Empty → HasRoom (d .fields) (d .starts) (d .counts) n → Measurable (designIn (d .fields) (d .starts) (d .counts)) → MeasureNumber d n 0
 
 -- the answer, and what is written
 pub data MeasureOf (d : Desk) (before after : List ℕ) : Measured → Type 0 where
