@@ -1,7 +1,7 @@
 #!/usr/bin/env bash
 # Checks every table of examples/ with ./check and with the C program buy, and compares with reports.tsv, byte for byte, and the exit status
 # of ./check with the verdict; gives each table marks by the C program marks; and makes a measure for it by the C program measure, which is
-# compared with measures.tsv. Ends with 1 if any differs.
+# compared with measures.tsv, as is the message where it makes none. Ends with 1 if any differs.
 set -euo pipefail
 cd "$(dirname "$0")/.."
 program=target/bin/check_table
@@ -32,7 +32,7 @@ for file in examples/*.txt; do
     esac
     [ "$("$work/marks" "$file")" = "$due" ] || { echo "examples: $name: marks doesn't write \"$due\""; differ=1; }
     due=$(awk -F '\t' -v name="$name" '$1 == name { print $2 }' examples/measures.tsv)
-    [ "$("$work/measure" "$file")" = "$due" ] || { echo "examples: $name: measure doesn't write \"$due\""; differ=1; }
+    [ "$("$work/measure" "$file" 2>&1)" = "$due" ] || { echo "examples: $name: measure doesn't write \"$due\""; differ=1; }
     count=$((count + 1))
 done
 # Where losing is marked too, there is a loop.

@@ -13,7 +13,7 @@ extern "C" {
 
 /* The version, as in the file VERSION: the first number changes if a call that there was answers otherwise, the second if calls or kinds
  * of lines are added, the third if neither. */
-#define CHECKER_VERSION "1.3.0"
+#define CHECKER_VERSION "2.0.0"
 
 /* What check_design returns. */
 #define CHECK_ACCEPTED 0
@@ -38,7 +38,7 @@ extern "C" {
  *
  *   columns   0 accepted   1 failed                             2 turned down
  *    1 to  6  0            1                                    2
- *    7 to 12  0            the criterion, 1 to 9                the number of the lowest fault, 1 to 7
+ *    7 to 12  0            the criterion, 1 to 10               the number of the lowest fault, 1 to 7
  *   13 to 18  0            the state                            0
  *   19 to 24  0            the row, counted from 1              0
  *   25 to 30  0            the sum value                        0
@@ -46,14 +46,14 @@ extern "C" {
  *
  * For example "     1     8     9     3     0\n": criterion 8 fails in state 9, for row 3 and sum value 0. A state's number counts the values
  * of its parameters in mixed radix, the first most significant. The row is the implementation's; in criterion 7 it is the
- * specification's, and criteria 1 and 2 have row 0. The bytes of the report area after the 31st keep their content. There is no byte 0 at
- * the end.
+ * specification's, and criteria 1, 2 and 10 have row 0. The bytes of the report area after the 31st keep their content. There is no byte 0
+ * at the end.
  *
  * Any bytes may be in the text. It is only read, and nothing of it is kept. The two areas must not overlap. An area of length 0 may have
  * any address, NULL among them.
  *
  * The function has no state, allocates nothing, makes no system call and always returns; threads may call it at the same time, each with a
- * report area of its own. It uses less than 128 KiB of stack: 41,544 bytes at the deepest terms, measured on x86-64 by bench/run.sh.
+ * report area of its own. It uses less than 128 KiB of stack: 32,696 bytes at the deepest terms, measured on x86-64 by bench/run.sh.
  * How long it takes depends on the design, which has up to 65,536 states, 64 rows and 256 sum values for each row.
  */
 uint32_t check_design(const uint8_t *text, size_t text_len, uint8_t *report, size_t report_len);
@@ -101,7 +101,7 @@ size_t unmark_design(const uint8_t *text, size_t text_len, uint8_t *buffer, size
 #define MEASURE_LOOP 1
 #define MEASURE_TURNED_DOWN 2
 
-/* The number that it gives when it turns a call down, beside 1 to 7 for a fault of the text. */
+/* The number that it gives when it turns a call down, beside 1 to 7 for a fault of the text. The last is for criterion 10 too. */
 #define MEASURE_SHORT_SLICE 17
 #define MEASURE_CRITERION_3 18
 
@@ -118,7 +118,8 @@ size_t unmark_design(const uint8_t *text, size_t text_len, uint8_t *buffer, size
  *               holds; 0 is written for every state
  *   2  1 to 7   turned down: the text is no design text; this is the number of its lowest fault
  *      17       turned down: slice_len is below the number of states, those where the invariant does not hold among them
- *      18       turned down: criterion 3 fails in some state where the invariant holds, for some row, internal or visible
+ *      18       turned down: in some state criterion 3 fails, for some row, internal or visible; or criterion 10 does, by another term
+ *               than the measure
  * Of several reasons to turn a call down the lowest is given. Whether the other criteria hold does not matter.
  *
  * The measure that is written is, in each state where the invariant holds, the length of the longest run of marked steps from there, counted
@@ -132,10 +133,10 @@ size_t unmark_design(const uint8_t *text, size_t text_len, uint8_t *buffer, size
  * number must be aligned as their types are, and number must not be NULL. An area of length 0 may have any address, NULL among them.
  *
  * The function has no state, allocates nothing, makes no system call and always returns; threads may call it at the same time, each with a
- * slice and a number of its own. It uses less than 512 KiB of stack: 287,000 bytes, measured as above, most of them for two arrays with a
+ * slice and a number of its own. It uses less than 512 KiB of stack: 287,240 bytes, measured as above, most of them for two arrays with a
  * place for each state. That is more than some threads have. How long it takes depends on the design: it looks once at each state, row and
- * sum value, for criterion 3, and once at each state, internal row and sum value, for the runs, however long these are, and at most once more
- * for each state.
+ * sum value, for criteria 10 and 3, and once at each state, internal row and sum value, for the runs, however long these are, and at most
+ * once more for each state.
  */
 uint32_t measure_design(const uint8_t *text, size_t text_len, uint16_t *slice, size_t slice_len, uint32_t *number);
 

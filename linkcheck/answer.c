@@ -57,9 +57,10 @@ struct header {
 
 enum { HEADER_MARK = 0x6B6E696C };
 
-/* More words than any answer has: a byte of the name becomes six at most, and what is said of a table is far shorter than this. */
+/* More words than any answer has: a byte of the name becomes six at most, and what is said of a table is far shorter than this, though it
+ * may have a term of 255 fields twice. */
 static size_t too_long(const char *name) {
-    return 6 * strlen(name) + 4096;
+    return 6 * strlen(name) + 16384;
 }
 
 static bool receive(int from, void *bytes, size_t length) {

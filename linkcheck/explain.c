@@ -6,18 +6,20 @@
 
 static const char *const criteria[] = {
     "", "start", "mapped values", "invariant", "mapping", "measure", "allowed by ours", "offered by the board", "data", "next state",
+    "values",
 };
 static const char *const faults[] = {
     "", "length of the text", "columns", "number of fields", "kinds of lines", "sizes, initial values, spans", "terms", "actions",
-    [MARK_OTHER_FORMULA] = "marks", [MARK_TOO_LONG] = "length of the result", [MEASURE_CRITERION_3] = "criterion 3",
+    [MARK_OTHER_FORMULA] = "marks", [MARK_TOO_LONG] = "length of the result",
 };
 
 const char *criterion_word(unsigned criterion) {
     return criterion < sizeof criteria / sizeof *criteria ? criteria[criterion] : "";
 }
 
-const char *fault_word(unsigned number) {
-    return number < sizeof faults / sizeof *faults && faults[number] ? faults[number] : "";
+const char *fault_word(const struct fault *f) {
+    if (f->number == MEASURE_CRITERION_3) return f->criterion == VALUES ? "criterion 10" : "criterion 3";
+    return f->number < sizeof faults / sizeof *faults && faults[f->number] ? faults[f->number] : "";
 }
 
 /* ---- the place ---- */
@@ -42,18 +44,58 @@ static void print_place(struct output *out, const struct table *t, const struct 
     print(out, ", sum value %u", f->sum);
 }
 
+/* ---- what is missing ---- */
+
+/* At the initial state the invariant, or where it holds the mapping. */
+static struct missing missing_at_start(const struct table *t, const struct state *s) {
+    const struct missing m = missing_invariant(t, s);
+    return m.part || !invariant_holds(t, s) ? m : missing_mapped(t, s);
+}
+
+/* Where the step of a row leads, which has its values there: what the criterion asks for. */
+static struct missing missing_at_next(const struct table *t, unsigned criterion, const struct state *next) {
+    const struct missing none = {.part = NOTHING};
+    if (outside(&t->impl, next) < t->impl.parameters) return none;
+    switch (criterion) {
+    case KEEPS_INVARIANT: return missing_invariant(t, next);
+    case KEEPS_MAPPING: case NEXT: return missing_mapped(t, next);
+    case SMALLER_MEASURE: return missing_measure(t, next);
+    default: return none;
+    }
+}
+
+struct missing missing_at(const struct table *t, const struct failure *f) {
+    const struct state s = numbered_state(&t->impl, f->state);
+    const struct row *row = failing_row(t, f);
+    if (f->criterion == START) return missing_at_start(t, &s);
+    if (f->criterion == VALUES) return first_missing(t, &s, f->measure_apart ? ALL_BUT_MEASURE : ALL);
+    if (!row || row_is_ours(f)) return (struct missing){.part = NOTHING};
+    const struct state next = next_state(&t->impl, row, &s, f->sum);
+    return missing_at_next(t, f->criterion, &next);
+}
+
 /* ---- what differs, for each criterion ---- */
 
-/* The failing state, where it is mapped to, and where the failing row leads. */
+/* The failing state, where it is mapped to, where the failing row leads, and what is missing. */
 struct here {
     const struct table *t;
     const struct row *row;
     unsigned sum;
     struct state state, mapped, next;
+    struct missing missing;
 };
+
+static void print_no_value(struct output *out, const struct here *h) {
+    print_missing(out, h->t, &h->missing);
+}
 
 static void print_start(struct output *out, const struct here *h) {
     const struct state ours = initial_state(&h->t->spec);
+    if (h->missing.part) {
+        put(out, "in the initial state there is ");
+        print_no_value(out, h);
+        return;
+    }
     if (!invariant_holds(h->t, &h->state)) {
         put(out, "the invariant does not hold in the initial state");
         return;
@@ -77,7 +119,8 @@ static void print_invariant(struct output *out, const struct here *h) {
     put(out, "the step leads to ");
     print_numbered(out, p, &h->next);
     if (i < p->parameters) print(out, ", and %u is not below the size %u of parameter %u", h->next.value[i], p->size[i], i);
-    else put(out, ", where the invariant does not hold");
+    else put(out, h->missing.part ? ", where there is " : ", where the invariant does not hold");
+    if (h->missing.part) print_no_value(out, h);
 }
 
 static void print_mapping(struct output *out, const struct here *h) {
@@ -86,14 +129,19 @@ static void print_mapping(struct output *out, const struct here *h) {
     print_state(out, &h->t->spec, &h->mapped);
     put(out, ", the step leads to ");
     print_numbered(out, &h->t->impl, &h->next);
-    put(out, ", mapped to ");
-    print_state(out, &h->t->spec, &after);
+    put(out, h->missing.part ? ", where there is " : ", mapped to ");
+    if (h->missing.part) print_no_value(out, h);
+    else print_state(out, &h->t->spec, &after);
 }
 
 static void print_measure(struct output *out, const struct here *h) {
-    print(out, "the measure is %u, and %u after the %sstep to ", measure(h->t, &h->state), measure(h->t, &h->next),
-          h->t->has_marks ? "marked " : "");
+    print(out, "the measure is %u, and ", measure(h->t, &h->state));
+    if (!h->missing.part) print(out, "%u ", measure(h->t, &h->next));
+    print(out, "after the %sstep to ", h->t->has_marks ? "marked " : "");
     print_numbered(out, &h->t->impl, &h->next);
+    if (!h->missing.part) return;
+    put(out, " there is ");
+    print_no_value(out, h);
 }
 
 static void print_allowed(struct output *out, const struct here *h) {
@@ -131,9 +179,10 @@ static void print_next(struct output *out, const struct here *h) {
     const struct state boards = mapped(h->t, &h->next), our_next = next_state(&h->t->spec, ours, &h->mapped, h->sum);
     put(out, "the board's step leads to ");
     print_numbered(out, &h->t->impl, &h->next);
-    put(out, ", mapped to ");
-    print_state(out, &h->t->spec, &boards);
-    put(out, ", ours to ");
+    put(out, h->missing.part ? ", where there is " : ", mapped to ");
+    if (h->missing.part) print_no_value(out, h);
+    else print_state(out, &h->t->spec, &boards);
+    put(out, h->missing.part ? "; ours leads to " : ", ours to ");
     print_state(out, &h->t->spec, &our_next);
 }
 
@@ -141,11 +190,11 @@ void print_difference(struct output *out, const struct table *t, const struct fa
     static void (*const difference[])(struct output *, const struct here *) = {
         [START] = print_start, [MAPPED_VALUES] = print_mapped_values, [KEEPS_INVARIANT] = print_invariant,
         [KEEPS_MAPPING] = print_mapping, [SMALLER_MEASURE] = print_measure, [ALLOWED] = print_allowed,
-        [OFFERED] = print_offered, [DATA] = print_data, [NEXT] = print_next,
+        [OFFERED] = print_offered, [DATA] = print_data, [NEXT] = print_next, [VALUES] = print_no_value,
     };
     struct here h = {.t = t, .row = failing_row(t, f), .sum = f->sum, .state = numbered_state(&t->impl, f->state)};
-    if (f->criterion < START || f->criterion > NEXT || (f->criterion >= KEEPS_INVARIANT && !h.row)) return;
     h.mapped = mapped(t, &h.state);
+    h.missing = missing_at(t, f);
     if (h.row && !row_is_ours(f)) h.next = next_state(&t->impl, h.row, &h.state, h.sum);
     difference[f->criterion](out, &h);
 }
@@ -157,7 +206,7 @@ void print_failure(struct output *out, const struct table *t, const struct failu
 }
 
 void print_turned_down(struct output *out, const struct fault *f) {
-    print(out, "turned down %u (%s)", f->number, fault_word(f->number));
+    print(out, "turned down %u (%s)", f->number, fault_word(f));
     if (f->line) print(out, ", line %zu", f->line);
     if (f->words[0]) print(out, ": %s", f->words);
 }

@@ -1,6 +1,8 @@
 /* The transition system of one side: the states that its initial state reaches, numbered as they are found, and their steps. Two steps
- * with the same label and the same end are one transition, which is marked if one of them is. */
+ * with the same label and the same end are one transition, which is marked if one of them is. Where a row's condition, data or next values
+ * have no value there is no transition. */
 #define _POSIX_C_SOURCE 200809L
+#include "missing.h"
 #include "show.h"
 #include "state.h"
 
@@ -80,8 +82,9 @@ static void leave(struct graph *g, uint32_t from) {
         for (unsigned sum = 0; sum < row->span; sum++) {
             if (!enabled(row, &s, sum)) continue;
             const struct state next = next_state(g->p, row, &s, sum);
-            if (within(g, &next))
-                g->edge[g->edges++] = (struct edge){row->action, data_number(row, &s, sum), found(g, &next), marked(row, &s, sum)};
+            const unsigned data = data_number(row, &s, sum);
+            if (data != NO_VALUE && within(g, &next))
+                g->edge[g->edges++] = (struct edge){row->action, data, found(g, &next), marked(row, &s, sum)};
         }
     }
     qsort(g->edge, g->edges, sizeof *g->edge, by_label);
@@ -97,7 +100,9 @@ static void graph_free(struct graph *g) {
 /* Finds every state. Gives NULL, or why it can't. */
 static const char *explore(struct graph *g, uint32_t most) {
     const struct state start = initial_state(g->p);
-    if (!within(g, &start)) return "the invariant does not hold in the initial state, so that no state is within it";
+    if (!within(g, &start))
+        return missing_invariant(g->t, &start).part ? "the invariant has no value in the initial state, so that no state is within it"
+                                                    : "the invariant does not hold in the initial state, so that no state is within it";
     found(g, &start);
     for (uint32_t from = 0; from < g->states; from++) {
         leave(g, from);
@@ -135,10 +140,22 @@ static void print_aut(struct output *out, struct graph *g) {
     }
 }
 
+/* Whether criterion 10 fails in a state of the implementation; or would in one that is mapped to this state of the specification. */
+static bool lacks_value(const struct graph *g, uint32_t n) {
+    const struct state *s = &g->state[n];
+    return (g->side == IMPLEMENTATION ? first_missing(g->t, s, ALL) : missing_in_rows(g->p, s)).part;
+}
+
+static bool some_lack_value(const struct graph *g) {
+    uint32_t n = 0;
+    while (n < g->states && !lacks_value(g, n)) n++;
+    return n < g->states;
+}
+
 static void print_node(struct output *out, const struct graph *g, uint32_t n) {
     print(out, "  %lu [label=\"", (unsigned long)n);
     print_state(out, g->p, &g->state[n]);
-    print(out, "\"%s];\n", focus_point(g->p, &g->state[n]) ? ", peripheries=2" : "");
+    print(out, "\"%s%s];\n", focus_point(g->p, &g->state[n]) ? ", peripheries=2" : "", lacks_value(g, n) ? ", color=red" : "");
 }
 
 static const char *style(const struct edge *e) {
@@ -150,6 +167,7 @@ static void print_dot(struct output *out, struct graph *g) {
     const bool impl = g->side == IMPLEMENTATION;
     put(out, "// States by their values; those with a double line are focus points.\n");
     if (impl) put(out, g->t->has_marks ? "// Internal steps are gray; those that are not marked are dashed.\n" : "// Internal steps are gray.\n");
+    if (some_lack_value(g)) put(out, "// In red ones a value is missing: steps that lack one are left out.\n");
     print(out, "digraph %s {\n", impl ? "implementation" : "specification");
     put(out, "  rankdir=LR;\n  start [shape=point];\n  start -> 0;\n");
     for (uint32_t from = 0; from < g->states; from++) {

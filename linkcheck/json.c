@@ -31,10 +31,28 @@ static void print_marks(struct output *out, const struct verdict *v, const struc
     if (f->criterion == OFFERED) print(out, ",\"unmarked_enabled\":%s", truth(unmarked_step(&v->table.impl, s).row));
 }
 
+static void print_row(struct output *out, unsigned row, bool ours, unsigned action, unsigned sum) {
+    print(out, ",\"row\":%u,\"row_of\":\"%s\",\"action\":%u,\"sum\":%u", row, ours ? "specification" : "implementation", action, sum);
+}
+
 static void print_values(struct output *out, const struct process *p, const struct state *s) {
     put(out, "\"values\":[");
     for (unsigned i = 0; i < p->parameters; i++) print(out, "%s%u", i ? "," : "", s->value[i]);
     put(out, "]");
+}
+
+/* A value that is missing, if the failure is by one. */
+static void print_missing_value(struct output *out, const struct table *t, const struct failure *f) {
+    const struct missing m = missing_at(t, f);
+    if (!m.part) return;
+    print(out, ",\"missing\":{\"line\":%zu,\"part\":\"%s\"", line_of(t, m.gap.at), part_word(m.part));
+    if (m.part == A_MAPPED_VALUE || m.part == A_NEXT_VALUE) print(out, ",\"parameter\":%u", m.parameter);
+    if (m.row) print_row(out, missing_row(&m), missing_is_ours(t, &m), m.row->action, m.sum);
+    put(out, ",");
+    print_values(out, m.process, &m.at);
+    put(out, ",\"term\":\"");
+    print_gap(out, t, &m);
+    print(out, "\",\"dividend\":%u}", m.gap.dividend);
 }
 
 static void print_failed(struct output *out, const struct verdict *v) {
@@ -43,17 +61,16 @@ static void print_failed(struct output *out, const struct verdict *v) {
     const struct row *row = failing_row(&v->table, f);
     print(out, ",\"criterion\":%u,\"about\":\"%s\",\"state\":%u,", f->criterion, criterion_word(f->criterion), f->state);
     print_values(out, &v->table.impl, &s);
-    if (row)
-        print(out, ",\"row\":%u,\"row_of\":\"%s\",\"action\":%u,\"sum\":%u", f->row, row_is_ours(f) ? "specification" : "implementation",
-              row->action, f->sum);
+    if (row) print_row(out, f->row, row_is_ours(f), row->action, f->sum);
     if (v->table.has_marks) print_marks(out, v, &s);
     put(out, ",\"difference\":\"");
     print_difference(out, &v->table, f); /* it has no character to escape */
     put(out, "\"");
+    print_missing_value(out, &v->table, f);
 }
 
 static void print_fault(struct output *out, const struct fault *f) {
-    print(out, ",\"number\":%u,\"about\":\"%s\"", f->number, fault_word(f->number));
+    print(out, ",\"number\":%u,\"about\":\"%s\"", f->number, fault_word(f));
     if (f->line) print(out, ",\"line\":%zu", f->line);
     if (f->words[0]) print(out, ",\"fault\":\"%s\"", f->words);
 }
@@ -75,11 +92,12 @@ void json_verdict(struct output *out, const char *name, const struct verdict *v)
 
 /* ---- a measure ---- */
 
+/* A state, and the step from it if there is a row. */
 static void print_stop(struct output *out, const struct process *p, const struct stop *stop) {
     const struct state s = numbered_state(p, stop->state);
     print(out, "\"state\":%u,", stop->state);
     print_values(out, p, &s);
-    print(out, ",\"row\":%u,\"sum\":%u", stop->row, stop->sum);
+    if (stop->row) print(out, ",\"row\":%u,\"sum\":%u", stop->row, stop->sum);
 }
 
 static void print_numbers(struct output *out, const struct measured *m) {
@@ -109,6 +127,7 @@ static void print_refusal(struct output *out, const struct measured *m) {
     put(out, ",\"fault\":\"");
     print_difference(out, &m->table, f);
     put(out, "\"");
+    print_missing_value(out, &m->table, f);
 }
 
 void json_measure(struct output *out, const char *name, const struct measured *m) {

@@ -23,7 +23,8 @@ static struct step first_step(const struct measured *m) {
     return (struct step){m->table.impl.row, 0};
 }
 
-/* The number of the state that a step leads to. If one led outside the invariant, the table would have been turned down. */
+/* The number of the state that a step leads to. If one lacked a value or led outside the invariant, the table would have been turned
+ * down. */
 static unsigned led_to(const struct measured *m, const struct state *s, const struct step *step) {
     const struct state next = next_state(&m->table.impl, step->row, s, step->sum);
     if (!keeps_invariant(&m->table, &next)) other_rules();
@@ -33,7 +34,13 @@ static unsigned led_to(const struct measured *m, const struct state *s, const st
 /* ---- a measure ---- */
 
 unsigned excess(const struct measured *m, unsigned state) {
-    return m->own[state] > m->number[state] ? m->own[state] - m->number[state] : 0;
+    return m->own[state] != NO_VALUE && m->own[state] > m->number[state] ? m->own[state] - m->number[state] : 0;
+}
+
+/* Where the text's own measure fails, if it hasn't before. NO_VALUE is above every measure. */
+static void own_fails(struct measured *m, struct failure f) {
+    if (m->own_meets) m->own_failure = f;
+    m->own_meets = false;
 }
 
 /* The length of the longest run from a state, by the numbers of the states that its marked steps lead to, which are looked at for the
@@ -43,9 +50,7 @@ static unsigned longest_run(struct measured *m, unsigned number, const struct st
     for (struct step at = first_step(m); marked_step(&m->table.impl, s, &at); at.sum++) {
         const unsigned next = led_to(m, s, &at);
         if (m->number[next] >= longest) longest = m->number[next] + 1u;
-        if (m->own[next] < m->own[number] || !m->own_meets) continue;
-        m->own_meets = false;
-        m->own_failure = (struct failure){SMALLER_MEASURE, number, row_number(m, &at), at.sum};
+        if (m->own[next] >= m->own[number]) own_fails(m, (struct failure){SMALLER_MEASURE, number, row_number(m, &at), at.sum, false});
     }
     return longest;
 }
@@ -53,7 +58,7 @@ static unsigned longest_run(struct measured *m, unsigned number, const struct st
 static void look_at_own(struct measured *m) {
     for (unsigned k = 0; k < m->states; k++) {
         const struct state s = state_of(m, k);
-        m->own[k] = (uint16_t)(invariant_holds(&m->table, &s) ? measure(&m->table, &s) : 0);
+        m->own[k] = invariant_holds(&m->table, &s) ? measure(&m->table, &s) : 0;
     }
 }
 
@@ -64,6 +69,7 @@ static void look_at_numbers(struct measured *m) {
     look_at_own(m);
     for (unsigned k = 0; k < m->states; k++) {
         const struct state s = state_of(m, k);
+        if (m->own[k] == NO_VALUE) own_fails(m, (struct failure){.criterion = VALUES, .state = k});
         if (m->number[k] != (invariant_holds(&m->table, &s) ? longest_run(m, k, &s) : 0)) other_rules();
         if (m->number[k] > m->number[m->largest]) m->largest = k;
         if (excess(m, k) > excess(m, m->above)) m->above = k;
@@ -143,16 +149,23 @@ static struct step step_out(const struct table *t, const struct state *s) {
     return (struct step){NULL, 0};
 }
 
-static void find_step_out(struct measured *m) {
-    for (unsigned k = 0; k < m->states; k++) {
-        const struct state s = state_of(m, k);
-        if (!invariant_holds(&m->table, &s)) continue;
-        const struct step out = step_out(&m->table, &s);
-        if (!out.row) continue;
-        m->fault.number = MEASURE_CRITERION_3;
-        m->failure = (struct failure){KEEPS_INVARIANT, k, row_number(m, &out), out.sum};
-        return;
-    }
+/* Whether criterion 10, the measure apart, or else criterion 3 fails in a state, and which. */
+static bool fails_in(struct measured *m, unsigned k) {
+    const struct state s = state_of(m, k);
+    m->failure = (struct failure){.criterion = VALUES, .state = k, .measure_apart = true};
+    if (first_missing(&m->table, &s, ALL_BUT_MEASURE).part) return true;
+    if (!invariant_holds(&m->table, &s)) return false;
+    const struct step out = step_out(&m->table, &s);
+    if (out.row) m->failure = (struct failure){KEEPS_INVARIANT, k, row_number(m, &out), out.sum, false};
+    return out.row;
+}
+
+static void find_failure(struct measured *m) {
+    unsigned k = 0;
+    while (k < m->states && !fails_in(m, k)) k++;
+    if (k == m->states) return;
+    m->fault.number = MEASURE_CRITERION_3;
+    m->fault.criterion = m->failure.criterion;
 }
 
 /* ---- all of it ---- */
@@ -163,7 +176,7 @@ static void measure_of(struct measured *m, const struct text *text) {
     m->fault = table_read(&m->table, text->bytes, text->len);
     if (!m->fault.number) m->states = (unsigned)state_count(&m->table.impl);
     const bool turned_down = m->outcome == MEASURE_TURNED_DOWN;
-    if (turned_down && number == MEASURE_CRITERION_3 && !m->fault.number) find_step_out(m);
+    if (turned_down && number == MEASURE_CRITERION_3 && !m->fault.number) find_failure(m);
     if (turned_down != (m->fault.number != 0) || (turned_down && m->fault.number != number)) other_rules();
     if (m->outcome == MEASURE_LOOP) find_loop(m, number);
     else if (m->outcome == MEASURE_FILLED && number == 0) look_at_numbers(m);
@@ -180,7 +193,7 @@ static void print_at(struct output *out, const struct measured *m, unsigned numb
 static void print_own(struct output *out, const struct measured *m) {
     put(out, "own measure: ");
     if (!m->own_meets) {
-        put(out, "fails criterion 5, ");
+        print(out, "fails criterion %u, ", m->own_failure.criterion);
         print_failure(out, &m->table, &m->own_failure);
     } else if (excess(m, m->above) == 0) {
         put(out, "the smallest");

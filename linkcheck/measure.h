@@ -17,17 +17,17 @@ struct measured {
     unsigned states;
     uint16_t number[MEASURE_PLACES]; /* the smallest measure of each state */
 
-    uint16_t own[MEASURE_PLACES]; /* filled: the text's own measure of each state, 0 where the invariant does not hold */
+    uint32_t own[MEASURE_PLACES]; /* filled: the text's own measure of each state, or NO_VALUE; 0 where the invariant does not hold */
     unsigned largest;             /* the lowest state with the largest number */
-    bool own_meets;               /* the text's own measure meets criterion 5 */
+    bool own_meets;               /* the text's own measure has a value where the invariant holds, and meets criterion 5 */
     unsigned above;               /* the lowest state where it is above the smallest by most */
-    struct failure own_failure;   /* the lowest state, row and sum value where it fails criterion 5 */
+    struct failure own_failure;   /* the lowest state where it fails criterion 10 or 5, and the step that fails 5 */
 
     struct stop loop[MEASURE_PLACES]; /* a loop: its states in order, from the one that was named */
     size_t length;
 
     struct fault fault;     /* turned down; its line is 0 and its words are empty for 18 */
-    struct failure failure; /* for 18, the lowest state, row and sum value where criterion 3 fails */
+    struct failure failure; /* for 18, the lowest state where criterion 10, the measure apart, or 3 fails, and the step that fails 3 */
 };
 
 /* By how much the text's own measure is above the smallest in a state. */

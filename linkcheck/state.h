@@ -7,7 +7,7 @@
 
 #include <stdbool.h>
 
-/* One value for each parameter of a process. */
+/* One value for each parameter of a process; NO_VALUE where a step or the mapping lacks it. No term is evaluated in such a state. */
 struct state {
     unsigned value[MAX_PARAMETERS];
 };
@@ -23,9 +23,10 @@ unsigned long state_count(const struct process *p);
 
 bool same_state(const struct process *p, const struct state *a, const struct state *b);
 
-/* The first parameter whose value is not below its size; the number of parameters if there is none. */
+/* The first parameter whose value is not below its size, or is missing; the number of parameters if there is none. */
 unsigned outside(const struct process *p, const struct state *s);
 
+/* Whether the condition has a value and holds. */
 bool enabled(const struct row *r, const struct state *s, unsigned sum);
 struct state next_state(const struct process *p, const struct row *r, const struct state *s, unsigned sum);
 unsigned data_number(const struct row *r, const struct state *s, unsigned sum);
@@ -33,7 +34,7 @@ unsigned data_number(const struct row *r, const struct state *s, unsigned sum);
 /* The row of a visible action; NULL if there is none. */
 const struct row *row_of(const struct process *p, unsigned action);
 
-/* Whether the step of an enabled internal row is marked. */
+/* Whether the step of an enabled internal row is marked: its mark has a value and holds. */
 bool marked(const struct row *r, const struct state *s, unsigned sum);
 
 /* A row for a sum value. */
@@ -51,6 +52,7 @@ bool focus_point(const struct process *p, const struct state *s);
 /* The first internal step that is enabled but not marked; its row is NULL if there is none. */
 struct step unmarked_step(const struct process *p, const struct state *s);
 
+/* Whether the invariant has a value and holds. */
 bool invariant_holds(const struct table *t, const struct state *s);
 
 /* Criterion 3 of a step that leads there: it is inside the sizes, and the invariant holds. */
@@ -58,7 +60,7 @@ bool keeps_invariant(const struct table *t, const struct state *next);
 struct state mapped(const struct table *t, const struct state *s);
 unsigned measure(const struct table *t, const struct state *s);
 
-/* Writes the values as (2, 1); and with the number, if they are inside the sizes, as state 9 = (2, 1). */
+/* Writes the values, none of which is missing, as (2, 1); and with the number, if they are inside the sizes, as state 9 = (2, 1). */
 void print_state(struct output *out, const struct process *p, const struct state *s);
 void print_numbered(struct output *out, const struct process *p, const struct state *s);
 

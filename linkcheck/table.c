@@ -240,6 +240,12 @@ static struct fault check_actions(const struct table *t) {
     return f;
 }
 
+size_t line_of(const struct table *t, term at) {
+    size_t i = 0;
+    while (at >= t->line[i].field + t->line[i].count) i++;
+    return i + 1;
+}
+
 struct fault table_read(struct table *t, const uint8_t *text, size_t len) {
     t->fields = t->lines = 0;
     t->impl.parameters = t->impl.rows = t->spec.parameters = t->spec.rows = 0;

@@ -52,10 +52,14 @@ struct table {
     bool has_marks; /* there is a line of kind 8 */
 };
 
+/* The line that a term begins in, counted from 1. */
+size_t line_of(const struct table *t, term at);
+
 /* Where a text breaks which rule. */
 struct fault {
-    unsigned number; /* the turned-down number: 1 to 7, or 15 or 16 of a writer; 0 for none */
-    size_t line;     /* counted from 1; 0 if it is no single line's */
+    unsigned number;    /* the turned-down number: 1 to 7, 15 or 16 of a writer, 18 of a measure; 0 for none */
+    unsigned criterion; /* of 18: the one that fails, 3 or 10 */
+    size_t line;        /* counted from 1; 0 if it is no single line's */
     char words[120];
 };
 

@@ -72,29 +72,47 @@ term scan_formula(struct scan *s) {
 
 /* ---- evaluation: the place moves past the term ---- */
 
+/* Where a term is evaluated, and the first remainder by zero that was met. After one, what comes out is of no meaning. */
 struct point {
     const unsigned *parameters;
     unsigned sum;
+    struct gap gap;
 };
 
-static bool holds(term *at, const struct point *p);
+static bool holds(term *at, struct point *p);
+static unsigned value(term *at, struct point *p);
 
-static unsigned value(term *at, const struct point *p) {
+/* What is met in the branch that isn't taken doesn't count. */
+static unsigned choice(term *at, struct point *p) {
+    const bool first = holds(at, p);
+    struct point aside = *p;
+    const unsigned a = value(at, first ? p : &aside), b = value(at, first ? &aside : p);
+    return first ? a : b;
+}
+
+static unsigned remainder_of(unsigned dividend, unsigned divisor, term at, struct point *p) {
+    if (divisor) return dividend % divisor;
+    if (!p->gap.at) p->gap = (struct gap){at, dividend};
+    return 0;
+}
+
+static unsigned value(term *at, struct point *p) {
+    const term start = *at;
     unsigned mark = *(*at)++;
     if (mark == NUMBER) return *(*at)++;
     if (mark == PARAMETER) return p->parameters[*(*at)++];
     if (mark == SUM_VALUE) return p->sum;
-    bool choice = mark == CHOICE && holds(at, p);
+    if (mark == CHOICE) return choice(at, p);
     unsigned a = value(at, p), b = value(at, p);
     switch (mark) {
     case SUM: return (a + b) & UINT16_MAX;
     case DIFFERENCE: return (a - b) & UINT16_MAX;
-    case REMAINDER: return b ? a % b : a;
-    default: return choice ? a : b;
+    default: return remainder_of(a, b, start, p);
     }
 }
 
-static bool holds(term *at, const struct point *p) {
+/* Both parts of `15` and `16` are evaluated, whatever the first is. */
+static bool holds(term *at, struct point *p) {
     unsigned mark = *(*at)++;
     if (mark == TRUE || mark == FALSE) return mark == TRUE;
     if (mark == EQUAL || mark == LESS) {
@@ -107,16 +125,39 @@ static bool holds(term *at, const struct point *p) {
     return mark == AND ? a && b : a || b;
 }
 
+static unsigned value_or_none(term *at, const unsigned *parameters, unsigned sum, struct gap *gap) {
+    struct point p = {parameters, sum, {NULL, 0}};
+    const unsigned number = value(at, &p);
+    *gap = p.gap;
+    return p.gap.at ? NO_VALUE : number;
+}
+
 unsigned value_at(term v, const unsigned *parameters, unsigned sum) {
-    return value(&v, &(struct point){parameters, sum});
+    struct gap gap;
+    return value_or_none(&v, parameters, sum, &gap);
 }
 
 bool holds_at(term f, const unsigned *parameters, unsigned sum) {
-    return holds(&f, &(struct point){parameters, sum});
+    struct point p = {parameters, sum, {NULL, 0}};
+    const bool truth = holds(&f, &p);
+    return truth && !p.gap.at;
+}
+
+struct gap gap_in_formula(term f, const unsigned *parameters, unsigned sum) {
+    struct point p = {parameters, sum, {NULL, 0}};
+    holds(&f, &p);
+    return p.gap;
 }
 
 void values_at(term v, unsigned count, const unsigned *parameters, unsigned sum, unsigned *values) {
-    for (unsigned i = 0; i < count; i++) values[i] = value(&v, &(struct point){parameters, sum});
+    struct gap gap;
+    for (unsigned i = 0; i < count; i++) values[i] = value_or_none(&v, parameters, sum, &gap);
+}
+
+unsigned gap_in_values(term v, unsigned count, const unsigned *parameters, unsigned sum, struct gap *gap) {
+    unsigned i = 0;
+    while (i < count && value_or_none(&v, parameters, sum, gap) != NO_VALUE) i++;
+    return i;
 }
 
 /* ---- infix ---- */
@@ -213,4 +254,34 @@ term print_value(struct output *out, term v, char letter) {
 term print_formula(struct output *out, term f, char letter) {
     formula_text(&(struct printer){out, letter}, &f, LOOSE);
     return f;
+}
+
+/* Passes a term, and gives what it reads: bit i for parameter i, the bit after those of the parameters for the sum value. */
+static unsigned reads(term *at) {
+    unsigned read = 0;
+    for (unsigned due = 1; due > 0; due--) {
+        switch (*(*at)++) {
+        case NUMBER: ++*at; break;
+        case PARAMETER: read |= 1u << *(*at)++; break;
+        case SUM_VALUE: read |= 1u << MAX_PARAMETERS; break;
+        case TRUE: case FALSE: break;
+        case NOT: due += 1; break;
+        case CHOICE: due += 3; break;
+        default: due += 2;
+        }
+    }
+    return read;
+}
+
+void print_divisor_reads(struct output *out, term remainder, char letter, const unsigned *parameters, unsigned sum) {
+    const char *before = " with ";
+    term at = remainder + 1;
+    reads(&at);
+    const unsigned read = reads(&at);
+    for (unsigned i = 0; i < MAX_PARAMETERS; i++) {
+        if (!(read & 1u << i)) continue;
+        print(out, "%s%c%u = %u", before, letter, i, parameters[i]);
+        before = ", ";
+    }
+    if (read & 1u << MAX_PARAMETERS) print(out, "%ss = %u", before, sum);
 }

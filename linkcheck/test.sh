@@ -1,7 +1,7 @@
 #!/usr/bin/env bash
 # Builds linkcheck and tries it: reports against compare/reports.tsv, exit statuses, the stored outputs of expected/, texts with and without
-# a line of kind 8, measures against those of test/measures.py, and every look at every table and at damaged ones with the sanitizers and
-# valgrind, where they are there. Ends with 1 at the first fault.
+# a line of kind 8, measures against those of test/measures.py, missing values against those of test/values.py, and every look at every table
+# and at damaged ones with the sanitizers and valgrind, where they are there. Ends with 1 at the first fault.
 # Usage: test.sh [COUNT [SEED]] for the damaged texts; test.sh --remake stores the outputs of expected/ anew.
 set -euo pipefail
 cd "$(dirname "$0")/.."
@@ -55,6 +55,64 @@ no-such-parameter $s/11$/12 1 2 0 0/
 internal-row-of-ours s/^4  1 4/4  0 4/
 END
 
+# ---- values that are missing: changes of a typed table, by name ----
+
+# The board of test/values.txt is told how many pumps are open (row 1), takes a car's ticket s and works out its pump, s mod pumps (row 2),
+# sends that to its display, where it may be lost (row 3), and calls the car (row 4). Row 2 asks that a pump is open. In a change the lines
+# are: 7 to 10 its rows, 11 to 13 ours, 14 the invariant, 15 the mapping, 16 the measure, 17 the mark.
+# open_some: `open` asks for a pump. no_pump: the number of the pump is 0 everywhere but on the board.
+open_some='s/^\([34]  3 3   \)12 1 0 0 0/\115 12 1 0 0 0 14 12 2 0 0/'
+no_pump='15s/1 2$/0 0/; s/^\([34]  1 3 .*\)5 2 1 1$/\10 0/; s/^\([34]  2 1 .*\)1 2    0 0/\10 0    0 0/'
+mkdir "$work/values"
+while read -r name change; do
+    change=${change/open_some/$open_some}
+    change=${change/no_pump/$no_pump}
+    sed "$change" linkcheck/test/values.txt | "$linkcheck" --columns > "$work/values/$name.txt" || fail "$name: no columns"
+    if [ "$name" != given ] && cmp -s "$work/values/"{given,"$name"}.txt; then fail "$name: no change"; fi
+done << 'END'
+given
+invariant 14s/10/13 5 1 2 1 1 0 9/
+invariant-at-start 14s/10/13 5 1 2 4 1 1 0 1 0 9/
+invariant-after-a-step 14s/10/13 5 1 2 4 1 1 0 2 0 9/
+invariant-after-a-step-and-condition 14s/10/13 5 1 2 4 1 1 0 2 0 9/; 10s/12 1 0 0 2/15 12 1 0 0 2 13 5 1 2 1 1 0 9/
+invariant-after-a-step-out-of-the-sizes 14s/10/13 5 1 2 4 1 1 0 3 0 9/; 7s/2      1 2$/3 2 0 1   1 2/
+invariant-after-an-internal-step 14s/10/13 5 1 2 4 1 0 0 2 0 9/
+invariant-and-after-false 14s/10/14 15 11 12 5 0 1 1 1 0 0/
+invariant-or-after-true 14s/10/16 10 12 5 0 1 1 1 0 0/
+invariant-and-before-false 14s/10/14 15 12 5 0 1 1 1 0 0 11/
+invariant-excludes-no-pumps 14s/10/14 12 1 1 0 0/; open_some; 8s/15 \(12 1 0 0 0\).* 2  /\1 2  /
+invariant-excludes-but-open-leads-there 14s/10/14 12 1 1 0 0/; 8s/15 \(12 1 0 0 0\).* 2  /\1 2  /
+invariant-excludes-by-and 14s/10/15 14 12 1 1 0 0 13 5 1 2 1 1 0 9/
+invariant-excludes-by-choice 14s/10/13 0 0 6 12 1 1 0 0 0 0 3 0 1 5 1 2 1 1/; open_some
+mapping 15s/1 2$/6 12 1 1 0 0 5 1 2 1 1 1 2/
+mapping-at-start 15s/1 2$/6 12 1 1 0 1 5 1 2 0 0 1 2/
+mapping-after-a-step 15s/1 2$/6 12 1 1 0 2 5 1 2 4 1 1 0 2 1 2/
+mapping-after-an-internal-step 15s/1 2$/6 12 1 0 0 2 5 1 2 4 1 0 0 2 1 2/
+measure-branch-not-taken 16s/.*/7 6 12 1 0 0 1 6 12 1 1 0 0 0 1 3 0 1 5 0 3 1 1 0 0/
+measure-branch-taken 16s/.*/7 6 12 1 0 0 1 6 12 1 1 0 0 3 0 1 5 0 3 1 1 0 1 0 0/
+measure-choice-by-none 16s/.*/7 6 12 1 0 0 1 6 12 5 0 3 1 1 0 0 0 1 0 1 0 0/
+measure-after-a-step 16s/.*/7 6 12 1 0 0 1 0 1 5 0 0 4 1 0 0 2/
+measure-after-an-unmarked-step 16s/.*/7 6 12 1 0 0 1 6 12 1 2 0 2 5 0 1 0 0 0 1 0 0/; 9s/1 2$/6 12 2 0 0 0 2 0 0/; no_pump
+measure-and-mapping 16s/.*/7 6 12 1 0 0 1 0 1 5 0 0 1 1/; 15s/1 2$/6 12 1 1 0 0 5 1 2 1 1 1 2/
+measure-and-condition 16s/.*/7 6 12 1 0 0 1 0 1 5 0 0 1 1/; 10s/12 1 0 0 2/15 12 1 0 0 2 13 5 1 2 1 1 0 9/
+condition 10s/12 1 0 0 2/15 12 1 0 0 2 13 5 1 2 1 1 0 9/
+condition-for-a-sum-value 7s/12 1 0 0 0/15 12 1 0 0 0 14 12 5 0 1 4 2 0 1 0 9/
+mark 17s/12 2 0 1/15 12 2 0 1 13 5 1 2 1 1 0 9/
+data 10s/1 2    0 0/5 1 2 1 1    0 0/
+data-reached 10s/1 2    0 0/5 1 2 4 1 1 0 1    0 0/
+next-value 8s/15 \(12 1 0 0 0\).* 2  /\1 2  /
+several-in-rows 8s/15 \(12 1 0 0 0\).* 2  /\1 2  /; 10s/12 1 0 0 2/15 12 1 0 0 2 13 5 1 2 1 1 0 9/; 17s/12 2 0 1/13 5 1 2 1 1 0 9/
+no-guard s/^\([34]  1 3   \)15 \(12 1 0 0 0\) 14 12 1 1 0 0/\1\2/
+ours-condition 13s/12 1 0 0 1/15 12 1 0 0 1 13 5 1 2 1 1 0 9/
+ours-data 13s/1 2    0 0/5 1 2 1 1    0 0/
+ours-next-value 12s/15 \(12 1 0 0 0\).* 2  /\1 2  /
+ours-of-an-action-the-board-has-not 13s/$/\n4  9 2   13 5 1 2 4 1 1 2 0 9   2   1 0 1 1 1 2/
+ours-outside-the-sizes 13s/12 1 0 0 1/15 12 1 0 0 1 13 5 1 2 1 1 0 9/; 15s/1 2$/6 12 1 1 0 0 0 7 1 2/
+remainder-in-a-dividend 10s/1 2    0 0/5 5 1 2 0 0 1 1    0 0/
+remainder-in-a-divisor 10s/1 2    0 0/5 1 2 5 1 2 3 1 1 1 1    0 0/
+divisor-of-several 14s/10/13 5 3 1 2 0 5 4 1 0 6 12 1 1 1 2 0 0 0 9 0 9/
+END
+
 # ---- stored outputs: a name in expected/ and the arguments that give it, in the folder if one is set ----
 
 boards=()
@@ -79,7 +137,7 @@ expect_each() {
     shift 2
     for file in "$@"; do
         # shellcheck disable=SC2086
-        "$linkcheck" $options "$file" 2>&1 || echo "status $?"
+        (cd "${folder:-.}" && "$linkcheck" $options "$file" 2>&1) || echo "status $?"
     done > "$work/out"
     stored "$name" "$options"
 }
@@ -98,12 +156,23 @@ folder=$work expect marks.json --json marks
 folder=$work expect marked.txt --show marks/given.txt
 folder=$work expect marked.impl.aut --aut impl marks/given.txt
 folder=$work expect marked.impl.dot --dot impl marks/given.txt
+folder=$work expect values.report --report values
+folder=$work expect values.txt values
+folder=$work expect values.json --json values
+folder=$work expect missing.txt --show values/ours-next-value.txt
+folder=$work expect missing.impl.aut --aut impl values/data-reached.txt
+folder=$work expect missing.condition.aut --aut impl values/condition-for-a-sum-value.txt
+folder=$work expect missing.impl.dot --dot impl values/data-reached.txt
+folder=$work expect missing.next.dot --dot values/no-guard.txt
 short=(examples/{pump,retry,buffer-two}.txt)
 for name in P_measure_0 P_inv_false P_first_size_2 c1_invariant_middle abp_plain m_c5_both_loops_marked t45 t67; do
     short+=("$tables/$name.txt")
 done
 expect_each measures.txt --measure "${short[@]}" examples/{buffer-one,alternating-bit,concurrent-alternating-bit-with-loss}.txt
 expect_each measures.json "--measure --json" "${short[@]}"
+mapfile -t values < <(cd "$work" && printf '%s\n' values/*.txt)
+folder=$work expect_each values.measures.txt --measure "${values[@]}"
+folder=$work expect_each values.measures.json "--measure --json" "${values[@]}"
 cmp "$tables/P_given.txt" linkcheck/expected/columns.txt
 # The pages show what is said.
 shown() { grep -qxF -e "    $1" "$2" || fail "$2 does not show: $1"; }
@@ -159,6 +228,13 @@ status 3 --show "$work/missing"
 status 0 --aut impl "$bad"
 status 2 --aut impl "$none"
 status 1 --aut impl "$tables/P_inv_false.txt"
+grep -q 'the invariant does not hold in the initial state' "$work/error" || fail "--aut without a state: $(cat "$work/error")"
+status 1 --dot impl "$work/values/invariant-at-start.txt"
+grep -q 'the invariant has no value in the initial state' "$work/error" || fail "--dot without a state: $(cat "$work/error")"
+status 0 --dot spec "$work/values/invariant-at-start.txt"
+status 1 --show "$work/values/no-guard.txt"
+status 2 --measure "$work/values/no-guard.txt"
+status 0 --measure "$work/values/measure-branch-taken.txt"
 status 3 --dot spec "$work/missing"
 status 0 --help
 [ "$("$linkcheck" --version)" = "linkcheck $(cat VERSION)" ] || fail "--version is not that of the file VERSION"
@@ -273,9 +349,9 @@ measures_of() {
     done > "$work/measures"
     linkcheck/test/measures.py < "$work/measures" || fail "a measure is not the smallest"
 }
-measures_of "$tables"/*.txt "$work"/marks/*.txt
+measures_of "$tables"/*.txt "$work"/{marks,values}/*.txt
 ${CC:-cc} -std=c11 -Wall -Wextra -O2 linkcheck/test/slices.c target/staticlib/libmeasuring.a -o "$work/slices"
-"$work/slices" "$tables"/*.txt "$work"/marks/*.txt || fail "a slice is not written as it should be"
+"$work/slices" "$tables"/*.txt "$work"/{marks,values}/*.txt || fail "a slice is not written as it should be"
 if paste "$work/words" "$work/measures" | grep '  accepted' | grep -v '"own_meets":true'; then fail "accepted by another measure"; fi
 sed '$d' examples/retry.txt > "$work/loop"
 out_of_size=$tables/P_first_size_2.txt
@@ -344,18 +420,22 @@ grep -q 'new\\u000aline \\"\\\\\\ufffd.txt' "$work/out" || fail "JSON: $(cat "$w
 
 # ---- damaged texts, and what looks at memory ----
 
-mkdir -p "$work/damaged/marks"
+mkdir -p "$work"/damaged/{marks,values}
 marked=$((count / 10 + 1))
 ${CC:-cc} -std=c11 -Wall -Wextra -O2 linkcheck/test/damage.c -o "$work/damage"
 mapfile -t whole < <(printf '%s\n' $tables/*.txt | grep -Ev '/(t[1-7]|s_[0-9])')
 "$work/damage" "$work/damaged" "$count" "$seed" "${whole[@]}"
 "$work/damage" "$work/damaged/marks" "$marked" "$seed" "$work"/marks/*.txt
+"$work/damage" "$work/damaged/values" "$marked" "$seed" "$work"/values/*.txt
 "$linkcheck" "$work/damaged" > "$work/plain" || true
 # Each text turned down has its fault found: the words come from another reading than the number.
 for found in "$work/words" "$work/plain"; do
     if grep 'turned down [0-9] ([^)]*)\(, line [0-9]*\)\?$' "$found"; then fail "a fault is not found"; fi
 done
-measures_of "$work"/damaged/*[0-9] "$work"/damaged/marks/*
+measures_of "$work"/damaged/*[0-9] "$work"/damaged/{marks,values}/*
+# What is said to be missing is, and nothing comes before it.
+"$linkcheck" --json "$tables" "$work"/{marks,values,damaged} > "$work/json" || [ $? = 2 ] || fail "--json"
+linkcheck/test/values.py < "$work/json" || fail "a missing value is not as it is said"
 # What is said to differ differs.
 for found in "$work/words" "$work/plain"; do
     if grep -e "data \([0-9]*\), ours \1\$" -e 'mapped to \(([^)]*)\), ours to \1$' -e 'mapped to \(([^)]*)\), our initial state is \1$' \
@@ -392,18 +472,20 @@ if linkcheck/build.sh "$work/sanitized" -g -fsanitize=address,undefined -fno-san
     cmp "$work/words" "$work/looked" || fail "the sanitizers' build answers otherwise"
     looks "$work/damaged" "$work/sanitized"
     cmp "$work/plain" "$work/looked" || fail "the sanitizers' build answers otherwise"
-    few=("$tables"/P_*.txt "$tables"/[abfikr]*.txt "$tables"/t[1-7][1-7]*.txt "$work"/marks/*.txt "$work"/damaged/{,marks/}?)
+    few=("$tables"/P_*.txt "$tables"/[abfikr]*.txt "$tables"/t[1-7][1-7]*.txt "$work"/{marks,values}/*.txt)
+    few+=("$work"/damaged/{,marks/,values/}?)
     looks_at_each "$work/sanitized"
     checked="the address and undefined behaviour sanitizers"
 fi
 if valgrind -q --error-exitcode=99 "$linkcheck" --help > /dev/null 2>&1; then
     mkdir "$work/some"
     cp "$work"/damaged/[1-9]?? "$work/some" 2> /dev/null || cp "$work"/damaged/? "$work/some"
-    cp "$work"/marks/*.txt "$work/some"
+    cp -r "$work"/{marks,values} "$work/some"
     looks "$work/some" valgrind -q --error-exitcode=99 --leak-check=full "$linkcheck"
-    few=("$tables/P_given.txt" "$tables/t56.txt" "$work/marks/given.txt")
+    few=("$tables/P_given.txt" "$tables/t56.txt" "$work/marks/given.txt" "$work"/values/{no-guard,measure-branch-taken}.txt)
     looks_at_each valgrind -q --error-exitcode=99 --leak-check=full "$linkcheck"
     checked="$checked and valgrind"
 fi
-echo "linkcheck: $(wc -l < "$work/due") tables as in compare/reports.tsv, $((count + marked)) damaged texts from seed $seed, $checked: no fault"
+damaged=$((count + 2 * marked))
+echo "linkcheck: $(wc -l < "$work/due") tables as in compare/reports.tsv, $damaged damaged texts from seed $seed, $checked: no fault"
 tail -n 1 "$work/plain"

@@ -19,7 +19,7 @@ compile linkcheck/test/nonblocking.c -o "$work/nonblocking"
 tables=compare/tables
 good=$tables/P_given.txt bad=$tables/P_data_row3.txt none=$tables/t45.txt
 marked=$tables/m_P_given.txt other=examples/retry.txt full=$tables/m_t3_fields_4096_without.txt
-leads_out=$tables/P_first_size_2.txt loop=$work/loop still=$tables/buffer1.txt
+leads_out=$tables/P_first_size_2.txt loop=$work/loop still=$tables/buffer1.txt no_value=examples/bad-no-pumps.txt
 sed '$d' "$other" > "$loop"
 EIO=5 EINTR=4 EAGAIN=11 ENOMEM=12 EACCES=13 EMFILE=24 ENOSPC=28 ECHILD=10 ECONNRESET=104
 
@@ -132,6 +132,7 @@ closed '2>&-' 3 --columns README.md
 closed '2>&-' 3 --columns "$work/missing"
 closed '2>&-' 3 --unmark "$other"
 closed '2>&-' 3 --measure "$leads_out"
+closed '2>&-' 3 --measure "$no_value"
 
 # What a process sends is looked at: if any byte of its first header is another, its four tables are not checked, named and counted.
 four=("$good" "$good" "$good" "$good")
@@ -161,6 +162,40 @@ if [ $# = 0 ]; then
 4294967295 0 $good
 0 0 $none
 END
+    # A criterion that there isn't; a row where there is none, or none where there is one; 10 where nothing lacks a value, another where
+    # something does.
+    while read -r criterion state row table; do
+        export OTHER_RETURNS=1 OTHER_VERDICT=1 OTHER_CRITERION=$criterion OTHER_STATE=$state OTHER_ROW=$row
+        for format in "" --json; do
+            due 3 "the library was built for other rules" "$work/other" $format "$table"
+            if grep failed "$work/out" | grep -v '^0 tables'; then fail "criterion $criterion of $table"; fi
+        done
+        due 3 "the library was built for other rules" "$work/other" --show "$table"
+        written "" "--show $table by other rules"
+    done << END
+0 0 0 $good
+11 0 0 $good
+2 0 1 $good
+8 0 0 $good
+8 0 4 $good
+10 0 0 $good
+10 0 1 $no_value
+8 0 2 $no_value
+2 0 0 $no_value
+10 4 0 $no_value
+END
+    # With the right answers there is something to write.
+    while read -r criterion state row table; do
+        export OTHER_CRITERION=$criterion OTHER_STATE=$state OTHER_ROW=$row
+        due 1 "" "$work/other" "$table"
+        grep -q "failed: criterion $criterion (" "$work/out" || fail "criterion $criterion of $table: $(cat "$work/out")"
+    done << END
+1 4 0 $no_value
+8 9 3 $good
+10 0 0 $no_value
+10 3 0 $no_value
+END
+    unset OTHER_RETURNS OTHER_VERDICT OTHER_CRITERION OTHER_STATE OTHER_ROW
     while read -r returns number arguments; do
         # shellcheck disable=SC2086
         OTHER_RETURNS=$returns OTHER_VERDICT=$number due 3 "the library was built for other rules" "$work/other" $arguments
@@ -209,6 +244,8 @@ END
 2 18 0 $none
 2 0 0 $leads_out
 2 17 0 $leads_out
+2 0 0 $no_value
+2 17 0 $no_value
 3 0 0 $still
 4294967295 0 0 $still
 END
@@ -219,6 +256,7 @@ END
 0 0 $still
 1 7 $loop
 2 18 $leads_out
+2 18 $no_value
 2 4 $none
 END
 fi
@@ -365,10 +403,12 @@ with_every_fault --unmark "$other"
 with_every_fault --measure "$good"
 input=$loop with_every_fault --measure -
 with_every_fault --measure "$leads_out"
+with_every_fault --measure "$no_value"
 with_every_fault --measure "$none"
 with_every_fault --measure --json "$tables/s_0_256_256.txt"
 input=$loop with_every_fault --measure --json -
 with_every_fault --measure --json "$leads_out"
+with_every_fault --json -j 2 "$no_value" "$good"
 with_every_fault --measure --json "$work/missing"
 sanitized="no sanitizer"
 export ASAN_OPTIONS=exitcode=99:verify_asan_link_order=0 UBSAN_OPTIONS=print_stacktrace=1

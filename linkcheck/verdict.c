@@ -1,6 +1,7 @@
 /* Reading a text and checking it: the worked example of a program that calls check_design. */
 #define _POSIX_C_SOURCE 200809L
 #include "verdict.h"
+#include "explain.h"
 #include "input.h"
 #include "output.h"
 
@@ -24,13 +25,24 @@ _Noreturn void other_rules(void) {
     give_up("the library was built for other rules than linkcheck; build both anew");
 }
 
-/* A library that gives another verdict than these three, or takes a text which can't be taken apart here, was made for other rules. */
+/* Criteria 3 to 9 fail by a row. Criterion 10 is tried before 2 to 9: it is the one that fails in a state exactly if something there has no
+ * value. */
+static bool is_by_these_rules(const struct table *t, const struct failure *f) {
+    const struct state s = numbered_state(&t->impl, f->state);
+    const bool by_row = f->criterion >= KEEPS_INVARIANT && f->criterion <= NEXT;
+    if (f->criterion < START || f->criterion > VALUES || by_row != (failing_row(t, f) != NULL)) return false;
+    return f->criterion == START || (f->criterion == VALUES) == (first_missing(t, &s, ALL).part != NOTHING);
+}
+
+/* A library that gives another verdict than these three, takes a text which can't be taken apart here, or sees another criterion fail than
+ * can fail first, was made for other rules. */
 void verdict_of(struct verdict *v, const struct text *t) {
     v->outcome = check_design(t->bytes, t->len, v->report, sizeof v->report);
     if (v->outcome > CHECK_TURNED_DOWN || report_number(v->report, 0) != v->outcome) other_rules();
     const unsigned second = report_number(v->report, 1);
-    v->failure = (struct failure){second, report_number(v->report, 2), report_number(v->report, 3), report_number(v->report, 4)};
+    v->failure = (struct failure){second, report_number(v->report, 2), report_number(v->report, 3), report_number(v->report, 4), false};
     v->fault = table_read(&v->table, t->bytes, t->len);
     if (v->outcome == CHECK_TURNED_DOWN && v->fault.number != second) v->fault = (struct fault){.number = second};
     if (v->outcome != CHECK_TURNED_DOWN && v->fault.number) other_rules();
+    if (v->outcome == CHECK_FAILED && !is_by_these_rules(&v->table, &v->failure)) other_rules();
 }

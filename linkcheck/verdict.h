@@ -19,6 +19,7 @@ int text_read(struct text *t, const char *path);
 /* A criterion that does not hold, and where. The row is counted from 1, and 0 if there is none. */
 struct failure {
     unsigned criterion, state, row, sum;
+    bool measure_apart; /* of criterion 10: what the measure lacks doesn't count */
 };
 
 struct verdict {

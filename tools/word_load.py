@@ -35,7 +35,8 @@ def last_write(register, before):
 
 
 def is_blanks(register, before):
-    return bool(re.match(r'movabs\s+\%s,' % BLANKS, last_write(register, before)[0]))
+    """blanks were put into the register; the last line that writes it may be of another way through the function"""
+    return any(re.match(r'movabs\s+\%s,%s$' % (BLANKS, register), code) for code in before)
 
 
 def is_load(register, before):

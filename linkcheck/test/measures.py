@@ -1,72 +1,36 @@
 #!/usr/bin/env python3
 """Holds what linkcheck --measure --json writes, read from standard input, against the tables: longest runs by rounds until nothing changes,
-loops step by step, criterion 3 and the text's own measure in every state. Terms become Python's. Texts turned down by 1 to 7, and tables
-where there is more to look at than LOOKS states with a row and a sum value, are only counted. Ends with 1 at the first fault."""
-import itertools
+loops step by step, criteria 10 and 3 and the text's own measure in every state. Texts turned down by 1 to 7, and tables where there is
+more to look at than LOOKS states with a row and a sum value, are only counted. Ends with 1 at the first fault."""
 import json
 import sys
+sys.dont_write_bytecode = True
+import tables
 
 LOOKS = 60000
 
 
-def rem(a, b):
-    return a % b if b else a
-
-
-def term(fields):
-    """the term that comes next, over parameters p and the sum value s"""
-    mark = next(fields)
-    if mark == 0: return str(next(fields))
-    if mark == 1: return 'p[%d]' % next(fields)
-    if mark in (2, 10, 11): return {2: 's', 10: 'True', 11: 'False'}[mark]
-    first = term(fields)
-    if mark == 14: return '(not %s)' % first
-    second = term(fields)
-    if mark == 6: return '(%s if %s else %s)' % (second, first, term(fields))
-    if mark == 5: return 'rem(%s, %s)' % (first, second)
-    if mark in (3, 4): return '((%s %s %s) & 65535)' % (first, '+-'[mark - 3], second)
-    return '(%s %s %s)' % (first, {12: '==', 13: '<', 15: 'and', 16: 'or'}[mark], second)
-
-
-def function(body):
-    return eval('lambda p, s: ' + body, {'rem': rem})
-
-
-class Table:
-    def __init__(self, name):
-        with open(name) as file:
-            lines = [[int(line[i:i + 6]) for i in range(0, len(line) - 1, 6)] for line in file]
-        self.sizes = [line[1] for line in lines if line[0] == 1]
-        self.states = list(itertools.product(*map(range, self.sizes)))
-        self.rows = []
-        for line in lines:
-            fields = iter(line[1:])
-            if line[0] == 3:
-                action, span, condition, _ = next(fields), next(fields), term(fields), term(fields)
-                to = '(%s)' % ''.join(term(fields) + ', ' for _ in self.sizes)
-                self.rows.append([action, span, function(condition), function(to), None])
-            elif line[0] == 5: self.invariant = function(term(fields))
-            elif line[0] == 7: self.measure = function(term(fields))
-            elif line[0] == 8:
-                for row in self.rows:
-                    if row[0] == 0: row[4] = function(term(fields))
-
-    def looks(self):
-        return len(self.states) * sum(row[1] for row in self.rows)
-
+class Table(tables.Table):
     def walk(self):
-        """where criterion 3 fails first, None if it doesn't; else the marked steps from each state within the invariant"""
-        self.number = {state: k for k, state in enumerate(self.states)}
-        within = {state for state in self.states if self.invariant(state, 0)}
-        self.steps = {self.number[state]: [] for state in sorted(within)}
-        for state in sorted(within):
-            for r, (action, span, condition, to, mark) in enumerate(self.rows, 1):
-                for s in range(span):
-                    if not condition(state, s): continue
-                    if to(state, s) not in within: return {'state': self.number[state], 'values': list(state), 'row': r, 'sum': s}
-                    if action == 0 and (mark is None or mark(state, s)):
-                        self.steps[self.number[state]].append((r, s, self.number[to(state, s)]))
+        """where criterion 10, the measure apart, or 3 fails first, None if neither does; else the marked steps from each state within the
+        invariant"""
+        self.steps = {}
+        for k, state in enumerate(self.states):
+            at = {'state': k, 'values': list(state)}
+            for missing in self.missing(state, measure=False): return dict(at, about='criterion 10', missing=missing)
+            if not self.invariant(state): continue
+            self.steps[k] = []
+            for r, row in enumerate(self.rows, 1):
+                for s in range(row.span):
+                    if not row.condition(state, s): continue
+                    to = row.to(state, s)
+                    if not self.holds(to): return dict(at, about='criterion 3', row=r, sum=s, **self.missing_at(to))
+                    if row.action == 0 and row.mark(state, s): self.steps[k].append((r, s, self.number[to]))
         return None
+
+    def missing_at(self, to):
+        found = self.missing_outside_rows('invariant', to) if to in self.number else []
+        return {'missing': found[0]} if found else {}
 
     def runs(self):
         """the longest run from each state, None if there is a loop"""
@@ -84,9 +48,9 @@ def due_of(t):
     if out: return dict(out, measure='turned down', number=18)
     longest = t.runs()
     if longest is None: return {'measure': 'loop'}
-    own = {k: t.measure(t.states[k], 0) for k in t.steps}
+    own = {k: t.measure(t.states[k]) for k in t.steps}
     due = {'measure': 'filled', 'states': len(t.states), 'largest': max(longest), 'numbers': longest}
-    due['own_meets'] = all(own[to] < own[k] for k, steps in t.steps.items() for _, _, to in steps)
+    due['own_meets'] = None not in own.values() and all(own[to] < own[k] for k, steps in t.steps.items() for _, _, to in steps)
     if due['own_meets']: due['own_excess'] = max((own[k] - longest[k] for k in t.steps), default=0)
     return due
 
@@ -122,7 +86,8 @@ for line in sys.stdin:
         seen['large'] = seen.get('large', 0) + 1
         continue
     due = due_of(table)
-    got = {member: told[member] for member in told if member in due or member == 'own_excess'}
+    got = {member: told[member] for member in told if member in due or member in ('own_excess', 'row', 'sum', 'missing')}
+    if 'missing' in got: got['missing'] = tables.place(got['missing'])
     if got != due or kind == 'loop' and not (is_loop(table, told) and len(told['loop']) == shortest(table, told['state'])):
         sys.exit('measures: %s: %s is due, not %s' % (told['file'], due, line.strip()))
     seen[kind] = seen.get(kind, 0) + 1
