@@ -7,6 +7,20 @@ c   1,024 states, 32 + 32 rows of span 256, all enabled
 d   4,096 states, 16 internal rows of span 16 with a measure, 8 visible rows
 e     256 states, 8 rows of span 256 with large terms
 f  65,536 states, the rows of the pump table
+a, c, d and e divide by numbers, b and f not at all.
+
+by_..  accepted, and divide in conditions, data and next values; but for the first by what is computed:
+by_number    65,536 states, 12 rows of span 16; by numbers
+by_count     65,536 states, rows of span up to 16; by a count of pumps that the invariant keeps from 0
+by_count_wide   256 states, 8 rows of span 256; the same
+by_two        4,096 states, 8 rows of span 16; each by two parameters that the invariant keeps from 0
+by_more      65,536 states, 8 rows of span 16; by a parameter and one
+by_less      65,536 states, 8 rows of span 16; by a parameter less one, which the invariant keeps from 0
+by_sum        4,096 states, 8 rows of span 256; by the sum value and one
+by_guarded   65,536 states, 4 rows of span 4; where the divisor, a parameter, is 0, in a quarter of the states, the branch is not taken
+by_remainder  the same, by a remainder
+by_late       4,096 states, 24 rows of span 64; the state rules them out or not in a part before that which divides, by a count as above
+by_late_sum   the same, by the sum value and one
 
 rising, falling, scattered  a chain of 65,535 internal steps over 65,536 states, in that order of their numbers; the first two have their
 measure and are accepted
@@ -94,6 +108,96 @@ def f():
                 [choice(equal(phase, num(0)), num(0), num(1)), price], choice(equal(phase, num(1)), num(1), num(0)))
 
 
+def by_number():
+    rows = []
+    for i in range(12):
+        state = equal(rem(par(0), num(12)), num(i))
+        condition = both(state, less(rem(SUM, num(7)), num(6))) if i % 2 else state
+        nexts = [rem(add(par(i), SUM), num(256)) for i in range(2)]
+        rows.append((i + 1, 16, condition, rem(add(par(1), SUM), num(251)), nexts))
+    return same(rows, [(256, 0), (256, 0)], [(256, 0), (256, 0)])
+
+
+def by_count():
+    """Phase, pumps and ticket: a car with a ticket goes to the slot ticket mod pumps. A ticket is taken in phase 0 and printed after it."""
+    def rows(pumps, ticket, here, next_state):
+        slot = rem(ticket, pumps)
+        return [
+            (1, 16, here(TRUE), slot, next_state(1, pumps, rem(add(ticket, SUM), num(2048)))),
+            (2, 1, here(less(slot, num(8))), slot, next_state(0, pumps, ticket)),
+            (3, 16, here(equal(rem(SUM, pumps), slot)), rem(add(ticket, SUM), pumps),
+             next_state(1, pumps, rem(add(ticket, slot), num(2048)))),
+            (4, 15, here(equal(slot, num(0))), SUM, next_state(0, add(SUM, num(1)), ticket)),
+        ]
+    phase, ready = par(0), equal(par(0), num(0))
+    impl = rows(par(1), par(2), lambda f: both(ready, f), lambda after, *values: [num(after), *values])
+    spec = rows(par(0), par(1), lambda f: f, lambda after, *values: [*values])
+    printing = (0, 1, equal(phase, num(1)), num(0), [num(0), par(1), par(2)])
+    return text([(2, 0), (16, 4), (2048, 0)], [(16, 4), (2048, 0)], [printing] + impl, spec, less(num(0), par(1)), [par(1), par(2)], phase)
+
+
+def by_count_wide():
+    pumps = par(0)
+    nexts = [pumps, rem(SUM, pumps)]
+    rows = [(i + 1, 256, less(rem(add(SUM, num(i)), pumps), num(i + 2)), rem(add(SUM, par(1)), pumps), nexts) for i in range(8)]
+    return same(rows, [(16, 1), (16, 0)], [(16, 1), (16, 0)], less(num(0), pumps))
+
+
+def by_two():
+    first, second = par(0), par(1)
+    rows = [(i + 1, 16, equal(rem(SUM, first), rem(num(i), second)), rem(add(SUM, second), first), [first, second]) for i in range(8)]
+    return same(rows, [(64, 1), (64, 1)], [(64, 1), (64, 1)], both(less(num(0), first), less(num(0), second)))
+
+
+def slots(divisor, initial, invariant):
+    slot = rem(add(par(1), SUM), divisor)
+    rows = [(i + 1, 16, equal(rem(par(1), divisor), num(i)), slot, [par(0), slot]) for i in range(8)]
+    return same(rows, [(256, initial), (256, 0)], [(256, initial), (256, 0)], invariant)
+
+
+def by_more():
+    return slots(add(par(0), num(1)), 0, TRUE)
+
+
+def by_less():
+    return slots(sub(par(0), num(1)), 2, less(num(1), par(0)))
+
+
+def by_sum():
+    slot = rem(par(1), add(SUM, num(1)))
+    rows = [(i + 1, 256, less(slot, num(8 + i)), slot, [rem(add(par(0), SUM), num(16)), slot]) for i in range(8)]
+    return same(rows, [(16, 0), (256, 0)], [(16, 0), (256, 0)])
+
+
+def guarded(divisor):
+    rows = []
+    for i in range(4):
+        slot = choice(equal(divisor, num(0)), num(i), rem(add(par(1), num(i)), divisor))
+        after = choice(negation(equal(divisor, num(0))), rem(add(par(1), SUM), divisor), par(1))
+        rows.append((i + 1, 4, less(slot, num(i + 1)), add(slot, SUM), [par(0), after]))
+    return same(rows, [(4, 0), (16384, 0)], [(4, 0), (16384, 0)])
+
+
+def by_guarded(): return guarded(par(0))
+
+
+def by_remainder(): return guarded(rem(par(1), num(4)))
+
+
+def late(divisor, invariant):
+    in_time = less(rem(SUM, divisor), num(60))
+    rows = [(i + 1, 64, both(equal(par(0), num(2 * i)), in_time), rem(add(SUM, par(1)), divisor), [par(0), par(1)]) for i in range(24)]
+    return same(rows, [(64, 0), (64, 1)], [(64, 0), (64, 1)], invariant)
+
+
+def by_late():
+    return late(par(1), less(num(0), par(1)))
+
+
+def by_late_sum():
+    return late(add(SUM, num(1)), TRUE)
+
+
 HALF = num(32768)
 NUMBER = add(par(1), choice(equal(par(0), num(0)), num(0), HALF))
 
@@ -166,6 +270,7 @@ def digits():
     return (' 65535' * 64 + '\n') * 64
 
 
-for table in (a, b, c, d, e, f, rising, falling, scattered, limits, room, blanks, numbers, digits):
+for table in (a, b, c, d, e, f, by_number, by_count, by_count_wide, by_two, by_more, by_less, by_sum, by_guarded, by_remainder, by_late, by_late_sum,
+              rising, falling, scattered, limits, room, blanks, numbers, digits):
     with open(sys.argv[1] + '/' + table.__name__ + '.txt', 'w') as out:
         out.write(table())

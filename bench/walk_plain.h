@@ -1,11 +1,15 @@
 /* The walk in plain C, written for speed: the same arrays, no test that a loaded design does not need, each state's mapping and measure
  * once, each row's partner found before, a state left at its first failure. `hoist` is 1 where a condition that does not read the
- * sum value is evaluated once for a row, and a row that does not read it at all is looked at once. It answers whether all pass. */
+ * sum value is evaluated once for a row, and a row that does not read it at all is looked at once. It answers whether all pass. A term that
+ * is evaluated and divides by zero is noted, and a state fails with it, whichever criterion it is that names it. */
 #ifndef WALK_PLAIN_H
 #define WALK_PLAIN_H
 #include "table.h"
 
 struct got { uint16_t value; uint16_t next; };
+
+/* whether a term that was evaluated has no value */
+static int missing;
 
 static struct got formula_at(const uint16_t *f, unsigned at, const uint16_t *p, unsigned sum);
 
@@ -18,10 +22,20 @@ static struct got value_at(const uint16_t *f, unsigned at, const uint16_t *p, un
     case 2: return (struct got){sum, at + 1};
     case 3: a = value_at(f, at + 1, p, sum); b = value_at(f, a.next, p, sum); return (struct got){a.value + b.value, b.next};
     case 4: a = value_at(f, at + 1, p, sum); b = value_at(f, a.next, p, sum); return (struct got){a.value - b.value, b.next};
-    case 5: a = value_at(f, at + 1, p, sum); b = value_at(f, a.next, p, sum); return (struct got){b.value ? a.value % b.value : a.value, b.next};
-    default:
-        c = formula_at(f, at + 1, p, sum); a = value_at(f, c.next, p, sum); b = value_at(f, a.next, p, sum);
+    case 5:
+        a = value_at(f, at + 1, p, sum); b = value_at(f, a.next, p, sum);
+        if (!b.value) { missing = 1; return (struct got){0, b.next}; }
+        return (struct got){a.value % b.value, b.next};
+    default: { /* what the branch that is not taken lacks is forgotten */
+        c = formula_at(f, at + 1, p, sum);
+        int before = missing;
+        a = value_at(f, c.next, p, sum);
+        if (!c.value) missing = before;
+        before = missing;
+        b = value_at(f, a.next, p, sum);
+        if (c.value) missing = before;
         return (struct got){c.value ? a.value : b.value, b.next};
+    }
     }
 }
 
@@ -45,10 +59,12 @@ static unsigned values_at(const uint16_t *f, unsigned at, unsigned n, const uint
     return at;
 }
 
+/* how many terms one with this mark holds */
+static const int more[] = {0, 0, 0, 2, 2, 2, 3, 0, 0, 0, 0, 0, 2, 2, 1, 2, 2};
+
 /* whether `2` stands in n terms; *at is the place after them */
 static int reads_sum(const uint16_t *f, unsigned *at, unsigned n)
 {
-    static const int more[] = {0, 0, 0, 2, 2, 2, 3, 0, 0, 0, 0, 0, 2, 2, 1, 2, 2};
     int reads = 0;
     for (unsigned left = n; left; left--) {
         unsigned mark = f[(*at)++];
@@ -59,15 +75,30 @@ static int reads_sum(const uint16_t *f, unsigned *at, unsigned n)
     return reads;
 }
 
+/* whether a term divides by anything but a number above 0; *at is the place after it */
+static int can_lack(const uint16_t *f, unsigned *at)
+{
+    unsigned mark = f[(*at)++];
+    int lacks = 0;
+    if (mark < 2) (*at)++;
+    for (int i = 0; i < more[mark]; i++) {
+        if (mark == 5 && i == 1) lacks |= f[*at] || !f[*at + 1];
+        lacks |= can_lack(f, at);
+    }
+    return lacks;
+}
+
 /* mark is the place of the formula in the line of kind 8, 0 if there is none */
-struct row { unsigned at, span, action, partner, looks, free, mark; };
+struct row { unsigned at, span, action, partner, looks, free, mark, lacks, mark_lacks, own_looks; };
 
 static void plain_rows(const struct table *t, unsigned first, unsigned n, unsigned m, struct row *rows, int *reads)
 {
     for (unsigned i = 0; i < n; i++) {
         unsigned start = t->starts[first + i];
-        rows[i] = (struct row){start + 3, t->fields[start + 2], t->fields[start + 1], 0, 0, 0, 0};
+        rows[i] = (struct row){.at = start + 3, .span = t->fields[start + 2], .action = t->fields[start + 1]};
         unsigned at = start + 3;
+        for (unsigned k = 0; k < 2 + m; k++) rows[i].lacks |= can_lack(t->fields, &at);
+        at = start + 3;
         rows[i].free = !reads_sum(t->fields, &at, 1);
         reads[i] = reads_sum(t->fields, &at, 1 + m) || !rows[i].free;
     }
@@ -77,8 +108,24 @@ static void plain_marks(const struct table *t, unsigned line, unsigned n, struct
 {
     if (!t->kind[8]) return;
     unsigned at = t->starts[line] + 1;
+    for (unsigned i = 0; i < n; i++) {
+        unsigned start = at;
+        if (rows[i].action) continue;
+        rows[i].mark = start;
+        rows[i].mark_lacks = can_lack(t->fields, &start);
+        reads[i] |= reads_sum(t->fields, &at, 1);
+    }
+}
+
+/* the conditions of the specification's rows, and data and next values of those enabled: what else looks at them leaves some out */
+static void plain_specification(const uint16_t *f, const struct row *rows, unsigned n, unsigned k, const uint16_t *w)
+{
+    uint16_t z[8];
     for (unsigned i = 0; i < n; i++)
-        if (!rows[i].action) { rows[i].mark = at; reads[i] |= reads_sum(t->fields, &at, 1); }
+        for (unsigned e = 0; rows[i].lacks && e < rows[i].own_looks; e++) {
+            struct got c = formula_at(f, rows[i].at, w, e);
+            if (c.value) values_at(f, value_at(f, c.next, w, e).next, k, w, e, z);
+        }
 }
 
 static int plain_walk(const struct table *t, size_t from, size_t n, int hoist)
@@ -104,13 +151,17 @@ static int plain_walk(const struct table *t, size_t from, size_t n, int hoist)
         int reads = !sr[i].free;
         for (unsigned j = 0; j < k3; j++) if (ir[j].action == sr[i].action) { unsigned at = ir[j].at; sr[i].partner = j + 1; reads |= reads_sum(f, &at, 1); break; }
         sr[i].looks = hoist && !reads ? 1 : sr[i].span;
+        sr[i].own_looks = hoist && !sread[i] ? 1 : sr[i].span;
         sr[i].free &= hoist;
     }
     for (size_t s = from; s < from + n; s++) {
         uint16_t v[8], w[8], x[8], y[8], z[8];
         unsigned left = s;
         for (unsigned i = k1; i-- > 0; left /= size[i]) v[i] = left % size[i];
-        if (!formula_at(f, inv, v, 0).value) continue;
+        missing = 0;
+        int holds = formula_at(f, inv, v, 0).value;
+        if (missing) return 0;
+        if (!holds) continue;
         values_at(f, map, k2, v, 0, w);
         for (unsigned i = 0; i < k2; i++) if (w[i] >= spec_size[i]) return 0;
         unsigned measure = value_at(f, mea, v, 0).value;
@@ -118,9 +169,13 @@ static int plain_walk(const struct table *t, size_t from, size_t n, int hoist)
         for (unsigned i = 0; i < k3; i++) {
             const struct row *r = ir + i;
             struct got c = {0, 0};
-            if (r->free) { c = formula_at(f, r->at, v, 0); if (!c.value) continue; }
+            if (r->free) { c = formula_at(f, r->at, v, 0); if (!c.value && !r->mark_lacks) continue; }
             for (unsigned e = 0; e < r->looks; e++) {
-                if (!r->free) { c = formula_at(f, r->at, v, e); if (!c.value) continue; }
+                if (r->free && !c.value) { formula_at(f, r->mark, v, e); continue; }
+                if (!r->free) {
+                    c = formula_at(f, r->at, v, e);
+                    if (!c.value) { if (r->mark_lacks) formula_at(f, r->mark, v, e); continue; }
+                }
                 struct got d = value_at(f, c.next, v, e);
                 values_at(f, d.next, k1, v, e, x);
                 for (unsigned k = 0; k < k1; k++) if (x[k] >= size[k]) return 0;
@@ -150,6 +205,8 @@ static int plain_walk(const struct table *t, size_t from, size_t n, int hoist)
                 if (!r->partner || !formula_at(f, ir[r->partner - 1].at, v, e).value) return 0;
             }
         }
+        plain_specification(f, sr, k4, k2, w);
+        if (missing) return 0;
     }
     return 1;
 }

@@ -58,17 +58,20 @@ static int is_changed(const struct text *t) { return memcmp(lent, t->bytes, t->l
 
 // The one-call check.
 
-// How many texts came to what: accepted, failed by criterion 1 to 9, turned down by number 1 to 7.
-enum { SORTS = 17 };
+// How many texts came to what: accepted, failed by a criterion, turned down by a number.
+enum { CRITERIA = 10, TURNED_DOWN = 7, SORTS = 1 + CRITERIA + TURNED_DOWN };
+
+// A remainder by zero is its dividend at this level.
+enum { HAS_ALL_VALUES = 4 };
 
 struct counts {
-    unsigned all[SORTS], marked[SORTS], by_marks;
+    unsigned all[SORTS], marked[SORTS], dividing[SORTS], by_marks, by_numbers, by_zero[SORTS];
 };
 
 static int sort_of(const uint8_t *report) {
     unsigned verdict, number;
     sscanf((const char *)report, "%6u%6u", &verdict, &number);
-    return verdict == 0 ? 0 : verdict == 1 ? (int)number : 9 + (int)number;
+    return verdict == 0 ? 0 : verdict == 1 ? (int)number : CRITERIA + (int)number;
 }
 
 // Whether the report is another one without the line of kind 8.
@@ -81,21 +84,34 @@ static int by_marks(const struct text *t, const uint8_t *report) {
     return memcmp(other, report, REPORT) != 0;
 }
 
+// Whether the report is another one where every term has a value.
+static int by_zero(const struct text *t, const uint8_t *report) {
+    uint8_t other[REPORT];
+    reference_check_at(HAS_ALL_VALUES, t->bytes, t->len, other, REPORT);
+    return memcmp(other, report, REPORT) != 0;
+}
+
 static void count(struct counts *seen, const struct text *t, const uint8_t *report) {
-    int sort = sort_of(report);
+    int sort = sort_of(report), is_design = sort <= CRITERIA;
     seen->all[sort]++;
-    if (!has_marks(t)) return;
-    seen->marked[sort]++;
-    seen->by_marks += sort < 10 && by_marks(t, report);
+    if (has_marks(t)) {
+        seen->marked[sort]++;
+        seen->by_marks += is_design && by_marks(t, report);
+    }
+    if (!is_design) return;
+    enum dividing dividing = dividing_of(t);
+    seen->by_numbers += dividing == BY_NUMBERS;
+    seen->dividing[sort] += dividing == BY_TERMS;
+    seen->by_zero[sort] += by_zero(t, report);
 }
 
 static void print_counts(const char *what, const unsigned *seen) {
     unsigned texts = 0;
     for (int c = 0; c < SORTS; c++) texts += seen[c];
     printf("fuzz: %u %s: accepted %u; failed by criterion", texts, what, seen[0]);
-    for (int c = 1; c < 10; c++) printf(" %u", seen[c]);
+    for (int c = 1; c <= CRITERIA; c++) printf(" %u", seen[c]);
     printf("; turned down by number");
-    for (int c = 10; c < SORTS; c++) printf(" %u", seen[c]);
+    for (int c = CRITERIA + 1; c < SORTS; c++) printf(" %u", seen[c]);
     printf("\n");
 }
 
@@ -204,7 +220,7 @@ static const unsigned over[STEPS] = {0, 10, 100};
 
 // What came of all calls, and of those with a slice of just so many places as there are states.
 struct measures {
-    unsigned calls, filled, loops, by_number[MOST_NUMBER], exact, exact_filled, exact_over[STEPS], exact_loops, exact_18;
+    unsigned calls, filled, loops, by_number[MOST_NUMBER], exact, exact_filled, exact_over[STEPS], exact_loops, exact_18, exact_18_by_zero;
 };
 
 // Both with a slice of so many places, among places that they must leave alone. Which state is named on a loop is free, so the reference
@@ -234,6 +250,13 @@ static unsigned largest(const uint16_t *slice, size_t n) {
     return most;
 }
 
+// Whether it is turned down by 18 where every term has a value.
+static int has_18(const struct text *t, size_t states) {
+    static uint16_t slice[MOST_PLACES];
+    uint32_t number;
+    return reference_measure_at(HAS_ALL_VALUES, t->bytes, t->len, slice, states, &number) == REFERENCE_NO_MEASURE;
+}
+
 // With a slice of just as many places as there are states, of more, of one less, of any less, and of none.
 static struct known measure_one(int i, const struct text *t, struct measures *seen) {
     struct known known = {reference_states(t->bytes, t->len), 0};
@@ -252,6 +275,7 @@ static struct known measure_one(int i, const struct text *t, struct measures *se
         seen->exact_filled += result == REFERENCE_FILLED;
         seen->exact_loops += result == REFERENCE_LOOP;
         seen->exact_18 += result == REFERENCE_NO_MEASURE;
+        seen->exact_18_by_zero += result == REFERENCE_NO_MEASURE && !has_18(t, n);
         for (int s = 0; s < STEPS; s++) seen->exact_over[s] += result == REFERENCE_FILLED && largest(slice, n) > over[s];
     }
     return known;
@@ -263,7 +287,7 @@ static void print_measures(const struct measures *seen) {
     printf(", 17: %u, 18: %u\n", seen->by_number[17], seen->by_number[18]);
     printf("fuzz: %u of them with a place for each state: filled %u, the largest number", seen->exact, seen->exact_filled);
     for (int s = 0; s < STEPS; s++) printf(" over %u in %u,", over[s], seen->exact_over[s]);
-    printf(" loops %u, 18: %u\n", seen->exact_loops, seen->exact_18);
+    printf(" loops %u, 18: %u, of these by a missing value %u\n", seen->exact_loops, seen->exact_18, seen->exact_18_by_zero);
 }
 
 // Lists of desk calls.
@@ -350,7 +374,8 @@ static void read_pool(struct pool *p, int tables, char **names) {
         struct text *t = &p->table[p->tables];
         read_text(names[i], t);
         if (t->len >= 8000) continue;
-        if (has_marks(t) && is_accepted(t)) p->accepted[p->marked++] = p->tables;
+        if (is_accepted(t)) p->good[p->accepted++] = p->tables;
+        if (has_marks(t) && is_accepted(t)) p->good_marked[p->marked++] = p->tables;
         p->tables++;
     }
     if (!p->marked) fail("no accepted table with marks among", names[0]);
@@ -382,6 +407,9 @@ int main(int n, char **words) {
     print_counts("texts", seen.all);
     print_counts("of them with marks", seen.marked);
     printf("fuzz: %u of these get another report without the line of kind 8\n", seen.by_marks);
+    print_counts("of the designs divide by what can be 0", seen.dividing);
+    print_counts("of them have another report where a remainder by zero is its dividend", seen.by_zero);
+    printf("fuzz: %u designs more divide, by numbers above 0 alone\n", seen.by_numbers);
     for (int k = 0; k < 2; k++) print_writer(&writers[k]);
     print_measures(&measures);
 }

@@ -1,7 +1,7 @@
 #!/usr/bin/env bash
-# Compares the checker with the one in compare/reference over texts made from a seed: random designs with and without marks, changed ones and
-# damaged texts. First check_design, mark_design, unmark_design and measure_design from C, with buffers and slices of several lengths and
-# every place of them, then lists of desk calls. Needs cargo and a C compiler.
+# Compares the checker with the one in compare/reference over texts made from a seed: random designs with and without marks, those that
+# divide by what can be 0, changed ones and damaged texts. First check_design, mark_design, unmark_design and measure_design from C, with
+# buffers and slices of several lengths and every place of them, then lists of desk calls. Needs cargo and a C compiler.
 # Usage: fuzz.sh [COUNT [SEED]]
 set -euo pipefail
 cd "$(dirname "$0")/.."

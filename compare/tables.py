@@ -1,5 +1,6 @@
 #!/usr/bin/env python3
-"""Writes the tables of compare/tables that are edges of the rules: each limit, turned-down number and criterion, marks, and measures.
+"""Writes the tables of compare/tables that are edges of the rules: each limit, turned-down number and criterion, marks, measures, and
+terms without a value.
 
 Usage: tables.py DIRECTORY. The same files come out each time. The other tables there are kept by hand.
 """
@@ -789,9 +790,390 @@ def long_runs():
         put("o_loop_long_%s_back" % name, small(parameters=[(300, 0)], rows=[goes_on + choice([12, 1, 0, 0, 7], [0, middle], after)]))
 
 
+# Terms without a value. If a remainder by zero were its dividend, most of these tables would be accepted.
+
+HERE = {"first": (0, 0), "middle": (1, 3), "last": (2, 7)}
+NEVER = [5, 0, 7, 0, 0]
+
+
+def divisor(here):
+    """0 where a formula holds, elsewhere 65,535."""
+    return choice(here, [0, 0], [0, 65535])
+
+
+def lacking(here):
+    """A true formula that has no value where another holds."""
+    return [12, 5, 0, 7] + divisor(here) + [0, 7]
+
+
+def value_lacks(here, value):
+    return [5] + value + divisor(here)
+
+
+def formula_lacks(here, formula):
+    return [15] + formula + lacking(here)
+
+
+def sums(depth, value):
+    """A value of that depth more, the same."""
+    return [3, 0, 0] * depth + value
+
+
+def values_that_lack(here, value):
+    """The same value by many terms, none with a value where a formula holds."""
+    lack = lacking(here)
+    return {
+        "divisor": value_lacks(here, value),
+        "of_dividend": [5] + value_lacks(here, value) + [0, 65535],
+        "of_divisor": [5] + value + [3, 0, 65535, 5, 0, 0] + divisor(here),
+        "of_sum": [3] + value + [5, 0, 0] + divisor(here),
+        "of_sum_first": [3, 5, 0, 0] + divisor(here) + value,
+        "of_difference": [4] + value + [5, 0, 0] + divisor(here),
+        "taken_first": choice(here, [5] + value + [0, 0], value),
+        "taken_second": choice([14] + here, value, [5] + value + [0, 0]),
+        "in_choice": choice(lack, value, value),
+        "in_choice_not": choice([14] + lack, value, value),
+        "in_choice_and": choice([15, 11] + lack, value, value),
+        "in_choice_or": choice([16, 10] + lack, value, value),
+        "nested": sums(5, choice([16, 10, 14, 15, 11] + lack, value, value)),
+        "deep": sums(25, value_lacks(here, value)),
+    }
+
+
+def formulas_that_lack(here, formula):
+    lack = lacking(here)
+    missing = value_lacks(here, [0, 7])
+    return {
+        "and": [15] + formula + lack,
+        "and_first": [15] + lack + formula,
+        "and_false": [16] + formula + [15, 11] + lack,
+        "and_false_last": [16] + formula + [15] + lack + [11],
+        "or_true": [15] + formula + [16, 10] + lack,
+        "or_true_last": [15] + formula + [16] + lack + [10],
+        "not": [15] + formula + [14, 14] + lack,
+        "less": [15] + formula + [13] + missing + [0, 8],
+        "less_last": [15] + formula + [13, 0, 6] + missing,
+        "equal_both": [15] + formula + [12] + missing + missing,
+        "taken_first": [15] + formula + [12, 0, 7] + choice(here, NEVER, [0, 7]),
+        "taken_second": [15] + formula + [12, 0, 7] + choice([14] + here, [0, 7], NEVER),
+        "in_choice": [15] + formula + [12, 0, 7] + choice(lack, [0, 7], [0, 7]),
+        "nested": [14] * 4 + [16] + formula + [15, 11, 12, 0, 0] + choice([16, 10] + lack, [0, 0], [0, 0]),
+        "deep": [14] * 24 + formula_lacks(here, formula),
+    }
+
+
+def values_that_do_not(here, value):
+    """The same value with a remainder by zero that is nowhere evaluated."""
+    return {
+        "never_first": choice([11], NEVER, value),
+        "never_second": choice([10], value, NEVER),
+        "guarded": choice([12, *divisor(here), 0, 0], value, [5] + value + divisor(here)),
+        "guarded_first": choice([14] + here, value_lacks(here, value), value),
+        "guarded_twice": choice([10], choice([11], NEVER, value), choice([10], NEVER, NEVER)),
+    }
+
+
+def formulas_that_do_not(here, formula):
+    return {name: [15] + formula + [12, 0, 7] + term for name, term in values_that_do_not(here, [0, 7]).items()}
+
+
+MAPPING = ([6, 12, 1, 0, 0, 0, 0, 0, 0, 1], [1, 1])
+MEASURE = [6, 12, 1, 0, 0, 1, 0, 1, 0, 0]
+
+
+def of_row(rows, row, part, term):
+    return with_row(rows, row, **{part: term})
+
+
+# Each place of the wide table: whether it has a formula, its term, and the table with another one.
+PLACES = {
+    "invariant": (True, [10], lambda term: changed(WIDE, 11, [5] + term)),
+    "mapping_first": (False, MAPPING[0], lambda term: changed(WIDE, 12, [6] + term + MAPPING[1])),
+    "mapping_last": (False, MAPPING[1], lambda term: changed(WIDE, 12, [6] + MAPPING[0] + term)),
+    "measure": (False, MEASURE, lambda term: changed(WIDE, 13, [7] + term)),
+    "mark": (True, [10], lambda term: marked(WIDE, term)),
+}
+for sort, table in (("row", ROWS), ("spec_row", SPEC_ROWS)):
+    for number, (_, *terms_) in table.items():
+        for part, term in zip(("condition", "data", "phase", "price"), terms_):
+            if (sort, number, part) != ("row", 2, "data"):
+                PLACES["%s%d_%s" % (sort, number, part)] = (
+                    part == "condition", term, lambda term, table=table, number=number, part=part: of_row(table, number, part, term))
+
+
+def at_mapped(state):
+    return (min(state[0], 1), state[1])
+
+
+def lacks_at_places():
+    """A value is missing in each place in turn, in the first, a middle and the last state; where a row is enabled and where it is not."""
+    for place, (is_formula, term, table) in PLACES.items():
+        lacks = formula_lacks if is_formula else value_lacks
+        for name, state in HERE.items():
+            state = at_mapped(state) if place.startswith("spec") else state
+            put("c10_%s_%s" % (place, name), table(lacks(at_state(*state), term)))
+        put("c10_%s_everywhere" % place, table(lacks([10], term)))
+        # Rows are enabled in one phase or two; in the other ones only a condition and a mark are looked at.
+        for phase in range(3):
+            put("c10_%s_phase_%d" % (place, phase), table(lacks([12, 1, 0, 0, phase], term)))
+
+
+def lacks_by_terms():
+    for place, state in (("invariant", (0, 3)), ("mapping_first", (0, 3)), ("mapping_last", (0, 3)), ("measure", (0, 3)), ("mark", (0, 3)),
+                         ("row2_condition", (0, 3)), ("row3_condition", (2, 3)), ("row3_data", (2, 3)), ("row2_phase", (1, 3)),
+                         ("row4_price", (2, 6)), ("spec_row3_condition", (1, 3)), ("spec_row1_data", (0, 3)), ("spec_row3_price", (1, 3))):
+        is_formula, term, table = PLACES[place]
+        here = at_state(*state)
+        for name, other in (formulas_that_lack if is_formula else values_that_lack)(here, term).items():
+            put("c10_%s_by_%s" % (place, name), table(other))
+        for name, other in (formulas_that_do_not if is_formula else values_that_do_not)(here, term).items():
+            put("c10_%s_has_%s" % (place, name), table(other))
+
+
+def lacks_for_a_sum():
+    for place, span, phase in (("row1_condition", 8, 0), ("row2_condition", 5, 0), ("row3_condition", 3, 2), ("row1_data", 8, 0),
+                               ("row3_data", 3, 2), ("row1_price", 8, 0), ("row2_phase", 5, 1), ("mark", 5, 1),
+                               ("spec_row1_condition", 8, 0), ("spec_row3_data", 3, 1), ("spec_row1_price", 8, 0)):
+        is_formula, term, table = PLACES[place]
+        for s in sorted({0, span // 2, span - 1, span}):
+            put("c10_%s_sum_%d" % (place, s), table((formula_lacks if is_formula else value_lacks)(at_sum(phase, 3, s), term)))
+    # Nothing but the divisor reads the sum value.
+    for span in (1, 2, 256):
+        for name, at in (("first", 0), ("last", span - 1), ("none", span)):
+            by = [4, 2, 0, at]
+            divides, has = [1, span, 10, 5, 0, 0, *by, 0, 0], [1, span, 10, 0, 0, 0, 0]
+            put("c10_by_sum_data_%d_%s" % (span, name), small(rows=[divides], spec_rows=[has]))
+            put("c10_by_sum_spec_data_%d_%s" % (span, name), small(rows=[has], spec_rows=[divides]))
+            put("c10_by_sum_mark_%d_%s" % (span, name), marked(small(rows=[[0, span, 10, 0, 0, 0, 0]]), [14, 12, 5, 0, 0, *by, 0, 0]))
+            never = [0, span, 11, 0, 0, 0, 0]
+            put("c10_by_sum_mark_not_enabled_%d_%s" % (span, name), marked(small(rows=[never]), [12, 5, 0, 0, *by, 0, 0]))
+            put("c10_by_sum_condition_%d_%s" % (span, name), small(rows=[[1, span, 14, 12, 5, 0, 0, *by, 0, 0, 0, 0, 0, 0]]))
+            # The row is enabled for the sum value that it divides by, or for the others.
+            put("c10_by_sum_enabled_%d_%s" % (span, name), marked(small(rows=[[0, span, 12, 2, 0, at, 0, 0, 5, 0, 0, *by]]), [11]))
+            put("c10_by_sum_not_enabled_%d_%s" % (span, name), marked(small(rows=[[0, span, 14, 12, 2, 0, at, 0, 0, 5, 0, 0, *by]]), [11]))
+
+
+def lacks_at_initial_state():
+    """The invariant and the mapping are criterion 1's there, the measure and all else criterion 10's."""
+    for name, initial in HERE.items():
+        start = changed(changed(WIDE, 0, [1, 3, initial[0]]), 1, [1, 8, initial[1]])
+        start = changed(changed(start, 2, [2, 2, min(initial[0], 1)]), 3, [2, 8, initial[1]])
+        here = at_state(*initial)
+        put("c10_start_%s_invariant" % name, changed(start, 11, [5] + formula_lacks(here, [10])))
+        put("c10_start_%s_mapping_first" % name, changed(start, 12, [6] + value_lacks(here, MAPPING[0]) + MAPPING[1]))
+        put("c10_start_%s_mapping_last" % name, changed(start, 12, [6] + MAPPING[0] + value_lacks(here, MAPPING[1])))
+        put("c10_start_%s_measure" % name, changed(start, 13, [7] + value_lacks(here, MEASURE)))
+        put("c10_start_%s_mark" % name, marked(start, lacking(here)))
+        elsewhere = [14] + here
+        put("c10_start_%s_invariant_elsewhere" % name, changed(start, 11, [5] + formula_lacks(elsewhere, [10])))
+        put("c10_start_%s_mapping_elsewhere" % name, changed(start, 12, [6] + MAPPING[0] + value_lacks(elsewhere, MAPPING[1])))
+    # Criterion 1 fails there, and state 0 lacks a value.
+    late = small(parameters=[(2, 1)], measure=value_lacks([12, 1, 0, 0, 0], [0, 0]))
+    put("c10_start_last_measure_of_first", late)
+    put("c1_before_10_invariant", changed(late, 2, [5, 12, 1, 0, 0, 0]))
+    put("c1_before_10_mapping", changed(late, 3, [6, 1, 0]))
+
+
+def lacks_at_next_state():
+    """Four states, with steps from state 1: what lacks a value at state 3 is a failure of the step that leads there, which comes before."""
+    other = [0, 1, 11, 0, 0, 0, 0]
+    step = [2, 12, 1, 0, 0, 1, 0, 0, 6, 12, 2, 0, 1, 0, 3, 0, 2]
+    from_above = [2, 12, 1, 0, 0, 4] + step[6:]
+    here = [12, 1, 0, 0, 3]
+    for name in ("nothing", "invariant", "mapping", "measure", "measure_invariant", "measure_mapping", "invariant_mapping"):
+        def ways(size, row, mapping=(0, 0), measure=(4, 0, 5, 1, 0), **more):
+            parts = {
+                "invariant": formula_lacks(here, [10]) if "invariant" in name else [10],
+                "mapping": value_lacks(here, [*mapping]) if "mapping" in name else mapping,
+                "measure": value_lacks(here, [*measure]) if "measure" in name else measure,
+            }
+            return small(parameters=[(size, 0)], rows=[other, row], **parts, **more)
+
+        put("c10_next_internal_" + name, ways(4, [0] + step))
+        put("c10_next_marked_" + name, marked(ways(4, [0] + step), [11], [10]))
+        put("c10_next_unmarked_" + name, marked(ways(4, [0] + step), [10], [11]))
+        put("c10_next_unmarked_once_" + name, marked(ways(4, [0] + step), [10], FIRST_SUM))
+        put("c10_next_from_above_" + name, ways(5, [0] + from_above, measure=[1, 0]))
+        put("c10_next_visible_" + name, ways(4, [1] + step, mapping=choice([12, 1, 0, 0, 1], [0, 1], [0, 0]), spec_parameters=[(2, 0)],
+                                             spec_rows=[[1, 2, 12, 1, 0, 0, 1, 0, 0, 0, 0]]))
+    # Out of the sizes, where the invariant would lack a value.
+    leaves = [12, 1, 0, 0, 2, 0, 0, 0, 4]
+    put("c10_next_out_of_size", small(parameters=[(4, 0)], rows=[[0, 1] + leaves], invariant=lacking([12, 1, 0, 0, 4])))
+    put("c10_next_out_of_size_visible", small(parameters=[(4, 2)], rows=[[1, 1] + leaves], invariant=lacking([12, 1, 0, 0, 4])))
+
+
+def order_of_10():
+    """In each state before the others; a lower state's failure comes first."""
+    fails = {
+        "2": lambda here: changed(WIDE, 12, [6] + MAPPING[0] + choice(here, [0, 8], [1, 1])),
+        "3": lambda here: with_row(ROWS, 4, phase=choice(here, [0, 3], [1, 0])),
+        "4": lambda here: with_row(ROWS, 2, price=choice(here, [5, 3, 1, 1, 0, 1, 0, 8], [1, 1])),
+        "5": lambda here: with_row(ROWS, 2, phase=choice(here, [0, 1], [0, 2])),
+        "6": lambda here: with_row(SPEC_ROWS, 2, condition=[14] + here),
+        "7": lambda here: with_row(ROWS, 4, condition=[14] + here),
+        "8": lambda here: with_row(ROWS, 4, data=choice(here, [0, 99], [0, 3])),
+        "9": lambda here: with_row(ROWS, 4, price=choice(here, [5, 3, 1, 1, 0, 1, 0, 8], [1, 1])),
+    }
+    phases = {"4": 1, "5": 1, "6": 0, "7": 0}
+    for criterion, table in fails.items():
+        phase = phases.get(criterion, 0)
+        failing = table(at_state(phase, 4))
+        put("c10_none_with_%s" % criterion, failing)
+        for name, price in (("lower", 3), ("same", 4), ("higher", 5)):
+            here = at_state(phase, price)
+            put("c10_%s_than_%s_measure" % (name, criterion), changed(failing, 13, [7] + value_lacks(here, MEASURE)))
+            put("c10_%s_than_%s_mark" % (name, criterion), marked(failing, lacking(here)))
+            extra = [4, 12, 1, 11, *value_lacks(here, [0, 0]), 1, 0, 1, 1]
+            put("c10_%s_than_%s_not_enabled" % (name, criterion), failing[:11] + [extra] + failing[11:])
+            condition = [4, 12, 1, 15, 11, *lacking(here), 0, 0, 1, 0, 1, 1]
+            put("c10_%s_than_%s_spec_condition" % (name, criterion), failing[:11] + [condition] + failing[11:])
+
+
+def lacks_in_specification():
+    """Rows of actions that the implementation hasn't, and mapped states out of their sizes."""
+    def alone(condition, data=(0, 0), nexts=(0, 0), mapping=(1, 0), **more):
+        row = [1, 3, *condition, *data, *nexts]
+        return small(parameters=[(4, 0)], spec_parameters=[(4, 0)], spec_rows=[row], mapping=mapping, **more)
+
+    three = [12, 1, 0, 0, 3]
+    put("c10_alone_not_enabled", alone([11]))
+    put("c10_alone_condition", alone([15, 11] + lacking(three)))
+    put("c10_alone_condition_last_sum", alone([15, 11] + lacking([15, 12, 2, 0, 2] + three)))
+    put("c10_alone_data_not_enabled", alone([11], NEVER))
+    put("c10_alone_next_not_enabled", alone([11], nexts=NEVER))
+    put("c10_alone_data", alone(three, NEVER))
+    put("c10_alone_next", alone(three, nexts=NEVER))
+    put("c10_alone_both", alone(three, NEVER, NEVER))
+    put("c10_alone_data_outside_invariant", alone(three, NEVER, invariant=[13, 1, 0, 0, 3]))
+    put("c10_alone_data_not_mapped_to", alone(three, NEVER, mapping=choice(three, [0, 1], [1, 0])))
+    # At the mapped numbers, in size or not.
+    for name, mapped in (("size", 4), ("65535", 65535)):
+        out = choice(three, [0, mapped], [1, 0])
+        here = [12, 1, 0, 0, mapped]
+        put("c10_out_%s" % name, alone([11], mapping=out))
+        put("c10_out_%s_condition" % name, alone([15, 11] + lacking(here), mapping=out))
+        put("c10_out_%s_data" % name, alone(here, NEVER, mapping=out))
+        put("c10_out_%s_next" % name, alone(here, nexts=NEVER, mapping=out))
+        put("c10_out_%s_next_not_enabled" % name, alone([14, 10], nexts=NEVER, mapping=out))
+        put("c10_out_%s_at_implementation" % name, alone([15, 11] + lacking(three), mapping=out))
+    put("c10_out_wraps", alone([15, 11, 12, 0, 0, 5, 0, 0, 3, 1, 0, 0, 1], mapping=choice(three, [0, 65535], [1, 0])))
+    # Not at a focus point: the specification's row is looked at all the same.
+    step = [0, 1, 13, 1, 0, 0, 3, 0, 0, 3, 1, 0, 0, 1]
+    for name, formula in (("marked", [10]), ("unmarked", [11])):
+        for part, row in (("nothing", [1, 1, 11, *NEVER, 0, 0]), ("condition", [1, 1, 15, 11, *lacking([10]), 0, 0, 0, 0]),
+                          ("data", [1, 1, 10, *NEVER, 0, 0]), ("next", [1, 1, 10, 0, 0, *NEVER])):
+            table = small(parameters=[(4, 0)], rows=[step], spec_rows=[row], measure=[4, 0, 3, 1, 0])
+            put("c10_no_focus_%s_%s" % (name, part), marked(table, formula))
+
+
+def outside_the_invariant():
+    """State 3 of 4 is outside; nothing but the invariant has a value there."""
+    out = [12, 1, 0, 0, 3]
+    rows = [[0, 2, *formula_lacks(out, [12, 1, 0, 0, 1]), 0, 0, *value_lacks(out, [0, 0])],
+            [1, 2, *formula_lacks(out, [14, 12, 1, 0, 0, 1]), *value_lacks(out, [2]), *value_lacks(out, [2])]]
+    spec_rows = [[1, 2, *formula_lacks(out, [10]), *value_lacks(out, [2]), *value_lacks(out, [0, 0])]]
+    for name, invariant in (("outside", [14] + out), ("inside", [10]), ("lacking", [12, 5, 0, 0, 4, 0, 3, 1, 0, 0, 0]),
+                            ("false_and_lacking", [15, 14] + out + lacking(out)), ("false", [11])):
+        table = small(parameters=[(4, 0)], rows=rows, spec_rows=spec_rows, invariant=invariant, mapping=value_lacks(out, [0, 0]),
+                      measure=value_lacks(out, [1, 0]))
+        put("c10_invariant_" + name, marked(table, lacking(out)))
+    put("c10_invariant_lacks_outside_reach", small(parameters=[(4, 0)], invariant=[15, 13, 1, 0, 0, 3] + lacking(out)))
+
+
+def zeros():
+    """What is 0 and divides, and what is not."""
+    def data(dividend, by):
+        return small(parameters=[(2, 0)], rows=[[1, 1, 10, 5, *dividend, *by, 1, 0]], spec_rows=[[1, 1, 10, *dividend, 0, 0]])
+
+    for dividend in (0, 1, 65535):
+        put("c10_%d_mod_0" % dividend, data([0, dividend], [0, 0]))
+    for name, by in (("sum", [3, 0, 65535, 0, 1]), ("difference", [4, 0, 9, 0, 9]), ("parameter", [1, 0]),
+                     ("difference_of_parameter", [4, 1, 0, 1, 0]), ("remainder", [5, 0, 6, 0, 3]),
+                     ("remainder_by_parameter", [5, 0, 9, 1, 0]), ("choice", [6, 10, 0, 0, 0, 1]),
+                     ("difference_to_1", [4, 0, 1, 1, 0]), ("sum_value", [2])):
+        put("c10_by_" + name, data([0, 0], by))
+    for name, by in (("difference", [4, 0, 0, 0, 1]), ("choice", [6, 11, 0, 0, 0, 9]), ("sum", [3, 1, 0, 0, 65534]), ("65535", [0, 65535])):
+        put("c10_has_by_" + name, data([0, 7], by))
+    never = [12, *NEVER, *NEVER]
+    put("c10_never_loads", small(rows=[[0, 1, *never, 0, 0, *NEVER]], invariant=never, mapping=NEVER, measure=NEVER))
+    put("c10_only_measure", small(measure=NEVER))
+    put("c10_only_measure_marks_too", marked(small(rows=[[0, 1, 11, 0, 0, 0, 0]], measure=NEVER), never))
+
+
+def slots_of_pumps():
+    """Pumps (4) and ticket (6): a car with that ticket goes to the slot ticket mod pumps. Row 2 sets how many pumps there are."""
+    slot, fewer = [5, 1, 1, 1, 0], [3, 0, 1, 5, 2, 0, 3]
+    keeps = [13, 0, 0, 1, 0]
+
+    def pumps(slot=slot, sets=fewer, invariant=keeps, condition=(10,), initial=3, measure=(0, 0)):
+        rows = [[1, 6, *condition, *slot, 1, 0, 2], [2, 4, 10, 2, *sets, 1, 1]]
+        both = {"parameters": [(4, initial), (6, 0)], "spec_parameters": [(4, initial), (6, 0)], "rows": rows, "spec_rows": rows}
+        return small(**both, invariant=invariant, mapping=(1, 0, 1, 1), measure=measure)
+
+    guarded = choice([12, 1, 0, 0, 0], [0, 0], slot)
+    put("c10_pumps", pumps())
+    put("c10_pumps_any", pumps(invariant=[10]))
+    put("c10_pumps_any_guarded", pumps(slot=guarded, invariant=[10], sets=[2]))
+    put("c10_pumps_any_sets_0", pumps(invariant=[10], sets=[2]))
+    put("c10_pumps_sets_0", pumps(sets=[2]))
+    put("c10_pumps_start_0", pumps(initial=0))
+    put("c10_pumps_condition", pumps(condition=[13, *slot, 0, 2]))
+    put("c10_pumps_condition_any", pumps(condition=[15, *keeps, 13, *slot, 0, 2], invariant=[10]))
+    put("c10_pumps_measure", pumps(measure=slot))
+    put("c10_pumps_measure_any", pumps(measure=slot, slot=guarded, invariant=[10]))
+    put("c10_pumps_invariant_divides", pumps(invariant=[15, *keeps, 13, *slot, 0, 4]))
+    put("c10_pumps_invariant_guards", pumps(invariant=[15, *keeps, 13, *guarded, 0, 4]))
+
+
+# Measures: a missing value is 18, but for the measure's own.
+
+def runs_that_lack():
+    here = [12, 1, 0, 0, 2]
+    chain = edges(4, (3, 2), (2, 1), (1, 0))[:-1]
+    for where, table in (("", chain), ("_outside", edges(4, (1, 0), outside=[2])[:-1])):
+        table = changed(table, -1, [7, 1, 0])
+        rows, invariant, mapping, measure = internal_rows(table), table[-3], table[-2], table[-1]
+
+        def both(condition, data, nexts, spec_condition):
+            spec = [4, 1, 2, *spec_condition, 0, 0, 0, 0]
+            return table[:2] + [[3, 1, 2, *condition, *data, *nexts]] + table[2:-3] + [spec] + table[-3:]
+
+        zero, stays = [0, 0], [1, 0]
+        put("o_lacks_nothing" + where, table)
+        put("o_lacks_invariant" + where, changed(table, -3, [5] + formula_lacks(here, invariant[1:])))
+        put("o_lacks_mapping" + where, changed(table, -2, [6] + value_lacks(here, mapping[1:])))
+        put("o_lacks_measure" + where, changed(table, -1, [7] + value_lacks(here, measure[1:])))
+        put("o_lacks_condition" + where, both([15, 11] + lacking(here), zero, stays, [11]))
+        put("o_lacks_condition_last_sum" + where, both([15, 11] + lacking([15, 12, 2, 0, 1] + here), zero, stays, [11]))
+        put("o_lacks_data" + where, both([10], value_lacks(here, zero), stays, [10]))
+        put("o_lacks_data_not_enabled" + where, both([14] + here, value_lacks(here, zero), stays, [10]))
+        put("o_lacks_next" + where, both([10], zero, value_lacks(here, stays), [10]))
+        put("o_lacks_next_not_enabled" + where, both([14] + here, zero, value_lacks(here, stays), [10]))
+        put("o_lacks_spec_condition" + where, both([11], zero, stays, [15, 11] + lacking([10])))
+        for part, row in (("data", [10, *NEVER, 0, 0]), ("next", [10, 0, 0, *NEVER]), ("data_not_enabled", [11, *NEVER, 0, 0])):
+            put("o_lacks_spec_%s%s" % (part, where), table[:-3] + [[4, 2, 2, *row]] + table[-3:])
+        for i in range(rows):
+            put("o_lacks_mark_%d%s" % (i, where), marked(table, *[[10]] * i, lacking(here), *[[10]] * (rows - i - 1)))
+    put("o_lacks_measure_everywhere", changed(chain, -1, [7] + NEVER))
+    put("o_lacks_measure_and_leaves", changed(edges(4, (3, 2), (1, 4)), -2, [7] + NEVER))
+    loop = edges(4, *along(3, 2, 3))
+    put("o_lacks_measure_loop", changed(loop, -2, [7] + NEVER))
+    put("o_lacks_mapping_loop", changed(loop, -3, [6] + value_lacks([12, 1, 0, 0, 1], [0, 0])))
+    put("o_lacks_mark_loop", changed(loop, -1, [8] + lacking([12, 1, 0, 0, 1]) + [10]))
+    for name, first, second in (("taken", NEVER, [0, 2]), ("not_taken", [0, 2], NEVER)):
+        put("o_lacks_where_" + name, changed(chain, 2, [3, 0, 1, 12, 1, 0, 0, 3, 0, 0] + choice([12, 1, 0, 0, 3], first, second)))
+    # Divides by the sum value, enabled for those above 0 or for all.
+    by_sum = [0, 0, 4, 1, 0, 3, 0, 1, 5, 4, 1, 0, 0, 1, 2]
+    above = [13, 0, 0, 1, 0]
+    put("o_lacks_next_of_0", small(parameters=[(6, 0)], rows=[[0, 4, *above, *by_sum]], measure=[1, 0]))
+    put("o_lacks_next_of_0_not_enabled", small(parameters=[(6, 0)], rows=[[0, 4, 15, *above, 13, 0, 0, 2, *by_sum]], measure=[1, 0]))
+
+
 for part in (long_texts, bad_columns, many_fields, shapes, bounds, terms, actions, together, criteria, many_states, all_marked,
              marks_of_designs, count_of_marks, place_of_marks, terms_of_marks, fields_of_marks, faults_with_marks, marks_by_sum,
-             order_of_marks, focus_points, marks_and_criteria, wide_marks, runs, loops, steps_that_leave, long_runs):
+             order_of_marks, focus_points, marks_and_criteria, wide_marks, runs, loops, steps_that_leave, long_runs, lacks_at_places,
+             lacks_by_terms, lacks_for_a_sum, lacks_at_initial_state, lacks_at_next_state, order_of_10, lacks_in_specification,
+             outside_the_invariant, zeros, slots_of_pumps, runs_that_lack):
     part()
 for name, table in made.items():
     with open(os.path.join(directory, name + ".txt"), "wb") as file:

@@ -1,5 +1,5 @@
-// Texts made from a seed: designs, those that try again and those about measures among them, with and without marks; changed and damaged
-// ones; and what is long.
+// Texts made from a seed: designs, those that try again, those about measures and those that divide among them, with and without marks;
+// changed and damaged ones; and what is long.
 #ifndef TEXTS_H
 #define TEXTS_H
 #include <stdint.h>
@@ -7,17 +7,17 @@
 #include <stdlib.h>
 #include <string.h>
 
-enum { ROOM = 40000, POOL = 2000 };
+enum { ROOM = 40000, POOL = 2500 };
 
 struct text {
     uint8_t bytes[ROOM];
     size_t len;
 };
 
-// Stored tables, from which others are made, and the places of those that have marks and are accepted.
+// Stored tables, from which others are made, and the places of those that are accepted, and of those of them that have marks.
 struct pool {
     struct text table[POOL];
-    int tables, accepted[POOL], marked;
+    int tables, good[POOL], accepted, good_marked[POOL], marked;
 };
 
 static uint64_t seed;
@@ -77,7 +77,8 @@ static void value(struct text *t, int depth, unsigned params, int row) {
     case 2: field(t, 2); break;
     case 6: field(t, 6); formula(t, depth - 1, params, row);
         value(t, depth - 1, params, row); value(t, depth - 1, params, row); break;
-    default: field(t, pick == 7 ? 5 : pick); value(t, depth - 1, params, row); value(t, depth - 1, params, row);
+    default: field(t, pick == 7 ? 5 : pick); value(t, depth - 1, params, row);
+        if (pick == 7) fields(t, 2, (unsigned[]){0, 1 + rnd(5)}); else value(t, depth - 1, params, row);
     }
 }
 
@@ -686,6 +687,319 @@ static void mark_text(struct text *t) {
     add(t, &line);
 }
 
+// Texts that divide. A term is replaced by one that has the same value wherever it has any, 65,535 now and then apart. If a remainder by
+// zero were its dividend, the new text would have the old one's report.
+
+enum { NO_FIELD = 65536, MOST_TERMS = 1024, MOST_DEPTH = 32 };
+
+static unsigned field_at(const struct text *t, size_t at) {
+    char columns[7] = {0};
+    if (at + 6 > t->len || memchr(t->bytes + at, 10, 6)) return NO_FIELD;
+    memcpy(columns, t->bytes + at, 6);
+    return (unsigned)atoi(columns) % 65536;
+}
+
+static int is_mark(unsigned n) { return n < 7 || (9 < n && n < 17); }
+
+// How many terms one with this mark holds, and whether the one in a place is a formula.
+static unsigned parts_of(unsigned mark) {
+    static const uint8_t parts[] = {0, 0, 0, 2, 2, 2, 3, 0, 0, 0, 0, 0, 2, 2, 1, 2, 2};
+    return mark < sizeof parts ? parts[mark] : 0;
+}
+
+static int holds_formula(unsigned mark, unsigned i) { return mark > 13 || (mark == 6 && i == 0); }
+
+// The end of the term that starts there, 0 if none does.
+static size_t term_end(const struct text *t, size_t at, int depth) {
+    unsigned mark = field_at(t, at);
+    if (!is_mark(mark) || depth > MOST_DEPTH) return 0;
+    at += mark < 2 ? 12 : 6;
+    for (unsigned i = 0; i < parts_of(mark) && at; i++) at = term_end(t, at, depth + 1);
+    return at;
+}
+
+enum place { INVARIANT, MAPPING, MEASURE, MARK, CONDITION, DATA, NEXT, SPEC_CONDITION, SPEC_DATA, SPEC_NEXT, PLACES };
+
+// A term of a text: where it starts and ends, where it stands, whether it is a formula; and the parameters that it may read, by the kind of
+// their lines, and whether it may read the sum value.
+struct term {
+    size_t at, end;
+    enum place place;
+    int formula, row;
+    unsigned kind, params;
+};
+
+static enum place place_of(unsigned kind, unsigned i) {
+    static const enum place alone[] = {INVARIANT, MAPPING, MEASURE, MARK};
+    if (kind > 4) return alone[kind - 5];
+    return (kind == 3 ? CONDITION : SPEC_CONDITION) + (i < 2 ? i : 2);
+}
+
+// All terms that stand by themselves, but for the data of internal rows. Gives how many.
+static unsigned terms_of(const struct text *t, struct term *list) {
+    const unsigned impl = lines_with(t, "     1"), spec = lines_with(t, "     2");
+    unsigned n = 0;
+    for (size_t line = 0; line < t->len;) {
+        unsigned kind = field_at(t, line);
+        int internal = kind == 3 && field_at(t, line + 6) == 0, row = kind == 3 || kind == 4;
+        size_t at = line + (row ? 18 : 6), end = 0;
+        for (unsigned i = 0; 2 < kind && kind < 9 && n < MOST_TERMS && (end = term_end(t, at, 1)) > 0; i++, at = end) {
+            enum place place = place_of(kind, i);
+            int formula = place == INVARIANT || place == MARK || place == CONDITION || place == SPEC_CONDITION;
+            if (internal && place == DATA) continue;
+            list[n++] = (struct term){at, end, place, formula, row || kind == 8, kind == 4 ? 2 : 1, kind == 4 ? spec : impl};
+        }
+        while (line < t->len && t->bytes[line] != 10) line++;
+        line++;
+    }
+    return n;
+}
+
+// How a text divides: not at all, by numbers above 0, or by what can be 0.
+enum dividing { NOWHERE, BY_NUMBERS, BY_TERMS };
+
+static enum dividing dividing_at(const struct text *t, size_t *at) {
+    unsigned mark = field_at(t, *at);
+    enum dividing most = NOWHERE;
+    *at += mark < 2 ? 12 : 6;
+    for (unsigned i = 0; i < parts_of(mark); i++) {
+        enum dividing by = mark != 5 || i == 0 ? NOWHERE : field_at(t, *at) == 0 && field_at(t, *at + 6) > 0 ? BY_NUMBERS : BY_TERMS;
+        enum dividing part = dividing_at(t, at);
+        most = by > most ? by : most;
+        most = part > most ? part : most;
+    }
+    return most;
+}
+
+static enum dividing dividing_of(const struct text *t) {
+    static struct term list[MOST_TERMS];
+    enum dividing most = NOWHERE;
+    for (unsigned i = terms_of(t, list); i-- > 0;) {
+        enum dividing here = dividing_at(t, &list[i].at);
+        most = here > most ? here : most;
+    }
+    return most;
+}
+
+// Some term of one of the first places, or one within it.
+static int some_term(const struct text *t, struct term *found, unsigned places) {
+    static struct term list[MOST_TERMS];
+    unsigned n = terms_of(t, list), seen = 0;
+    for (int tries = 0; tries < 8 && !seen; tries++) {
+        enum place place = rnd(places);
+        for (unsigned i = 0; i < n; i++)
+            if (list[i].place == place && list[i].params && rnd(++seen) == 0) *found = list[i];
+    }
+    while (seen && rnd(2)) {
+        unsigned mark = field_at(t, found->at), parts = parts_of(mark);
+        if (!parts) break;
+        unsigned part = rnd(parts);
+        size_t at = found->at + 6;
+        for (unsigned i = 0; i < part; i++) at = term_end(t, at, 1);
+        found->formula = holds_formula(mark, part);
+        found->at = at;
+        found->end = term_end(t, at, 1);
+    }
+    return seen > 0;
+}
+
+// The size of a parameter.
+static unsigned size_of(const struct text *t, unsigned kind, unsigned i) {
+    for (size_t line = 0; line < t->len; line++) {
+        if (line && t->bytes[line - 1] != 10) continue;
+        if (field_at(t, line) == kind && i-- == 0) { unsigned size = field_at(t, line + 6); return size ? size : 1; }
+    }
+    return 1;
+}
+
+// What is 0 in some states or for some sum values; now and then in none, or in all.
+static void divisor(struct text *out, const struct text *t, const struct term *term) {
+    unsigned i = rnd(term->params), size = size_of(t, term->kind, i), n = rnd(size);
+    switch (rnd(term->row ? 13 : 9)) {
+    case 0: fields(out, 2, (unsigned[]){1, i}); break;
+    case 1: case 2: case 3: fields(out, 5, (unsigned[]){4, 1, i, 0, rnd(2) ? size - 1 : n}); break;
+    case 4: fields(out, 5, (unsigned[]){4, 1, i, 1, rnd(term->params)}); break;
+    case 5: fields(out, 5, (unsigned[]){5, 1, i, 0, 1 + n}); break;
+    case 6: fields(out, 5, (unsigned[]){3, 1, i, 0, 1}); break;
+    case 7: field(out, 6); formula(out, 1 + rnd(3), term->params, term->row); fields(out, 4, (unsigned[]){0, rnd(2), 0, 1}); break;
+    case 8: fields(out, 2, (unsigned[]){0, rnd(3)}); break;
+    case 9: field(out, 2); break;
+    case 10: fields(out, 4, (unsigned[]){4, 2, 0, rnd(4)}); break;
+    case 11: fields(out, 4, (unsigned[]){3, 2, 0, 1}); break;
+    default: fields(out, 4, (unsigned[]){4, 2, 1, i});
+    }
+}
+
+// What is 0 in late states, where each of the first parameters has its last value.
+static void late_divisor(struct text *out, const struct text *t, const struct term *term) {
+    for (unsigned i = 1 + rnd(term->params); i-- > 0;) fields(out, 8, (unsigned[]){6, 13, 1, i, 0, size_of(t, term->kind, i) - 1, 0, 1});
+    fields(out, 2, (unsigned[]){0, 0});
+}
+
+static void is_zero(struct text *out, const struct text *by) { field(out, 12); add(out, by); fields(out, 2, (unsigned[]){0, 0}); }
+
+// A remainder, and one in a branch: that is taken where its divisor isn't 0, or wrongly where it is.
+
+static void remainder_by(struct text *out, const struct text *dividend, const struct text *by) {
+    field(out, 5);
+    add(out, dividend);
+    add(out, by);
+}
+
+static void guarded(struct text *out, const struct text *dividend, const struct text *by) {
+    enum { FIRST, SECOND, WRONG };
+    unsigned guard = rnd(6) ? rnd(WRONG) : WRONG;
+    field(out, 6);
+    if (guard == FIRST) field(out, 14);
+    is_zero(out, by);
+    if (guard == SECOND) add(out, dividend);
+    remainder_by(out, dividend, by);
+    if (guard != SECOND) add(out, dividend);
+}
+
+// A formula with such a remainder that holds or doesn't, if it has a value.
+static void settled(struct text *out, const struct text *remainder, int holds) {
+    struct text part = {.len = 0};
+    fields(&part, 1, (unsigned[]){12 + rnd(2)});
+    if (rnd(2)) { add(&part, remainder); fields(&part, 2, (unsigned[]){0, rnd(3)}); }
+    else { fields(&part, 2, (unsigned[]){0, rnd(3)}); add(&part, remainder); }
+    switch (rnd(4)) {
+    case 0: fields(out, 2, (unsigned[]){holds ? 16 : 15, holds ? 10 : 11}); add(out, &part); break;
+    case 1: field(out, holds ? 16 : 15); add(out, &part); field(out, holds ? 10 : 11); break;
+    case 2: fields(out, 3, (unsigned[]){14, holds ? 15 : 16, holds ? 11 : 10}); add(out, &part); break;
+    default: field(out, holds ? 12 : 13); add(out, remainder); add(out, remainder);
+    }
+}
+
+// Another formula, or another value, in place of an old one.
+
+static void dividing_formula(struct text *out, const struct text *old, const struct text *remainder) {
+    int also = rnd(2), first = rnd(2);
+    if (rnd(4) == 0) fields(out, 2, (unsigned[]){14, 14});
+    field(out, also ? 15 : 16);
+    if (first) add(out, old);
+    settled(out, remainder, also);
+    if (!first) add(out, old);
+}
+
+static void dividing_value(struct text *out, const struct text *old, const struct text *remainder, const struct text *by) {
+    int holds = rnd(2);
+    switch (rnd(6)) {
+    case 0: fields(out, 2, (unsigned[]){4, 3}); add(out, old); add(out, remainder); add(out, remainder); break;
+    case 1: field(out, 5); add(out, old); fields(out, 2, (unsigned[]){0, 65535}); break;
+    case 2: field(out, 5); add(out, old); field(out, 6); is_zero(out, by); fields(out, 4, (unsigned[]){0, 0, 0, 65535}); break;
+    case 3: // beside a branch that is never taken, and divides by 0
+        field(out, 6);
+        settled(out, remainder, holds);
+        if (holds) add(out, old);
+        field(out, 5); add(out, old); fields(out, 2, (unsigned[]){0, 0});
+        if (!holds) add(out, old);
+        break;
+    default: field(out, 6); settled(out, remainder, holds); add(out, old); add(out, old);
+    }
+}
+
+// Which processes have a count, their last parameter, that the invariant keeps from 0.
+enum counting { NO_COUNT, IMPLEMENTATION_COUNTS, BOTH_COUNT };
+
+static void divide_term(struct text *t, const struct term *term, const struct text *by, int is_guarded) {
+    struct text old = {.len = 0}, dividend = {.len = 0}, remainder = {.len = 0}, other = {.len = 0};
+    put(&old, t->bytes + term->at, term->end - term->at);
+    value(&dividend, 1, term->params, term->row);
+    if (is_guarded) guarded(&remainder, &dividend, by); else remainder_by(&remainder, &dividend, by);
+    if (term->formula) dividing_formula(&other, &old, &remainder); else dividing_value(&other, &old, &remainder, by);
+    splice(t, term->at, old.len, other.bytes, other.len);
+}
+
+static void divide(struct text *t, enum counting counting) {
+    struct term term;
+    struct text by = {.len = 0};
+    if (!some_term(t, &term, PLACES)) return;
+    if (counting >= term.kind && rnd(6)) fields(&by, 2, (unsigned[]){1, term.params - 1}); else divisor(&by, t, &term);
+    divide_term(t, &term, &by, rnd(3) > 0);
+}
+
+// In the invariant, the mapping or the measure: a step from a lower state leads to what has no value.
+static void divide_late(struct text *t) {
+    struct term term;
+    struct text by = {.len = 0};
+    if (!some_term(t, &term, MEASURE + 1)) return;
+    late_divisor(&by, t, &term);
+    divide_term(t, &term, &by, 0);
+}
+
+static size_t line_end_from(const struct text *t, size_t at) {
+    while (at < t->len && t->bytes[at] != 10) at++;
+    return at;
+}
+
+// The text with one parameter more, a count that all rows keep and the invariant keeps from 0; the specification has it too, or not. Seldom
+// a row takes one away, the invariant doesn't keep it, or it starts at 0.
+static enum counting count_more(struct text *t) {
+    static struct text out;
+    enum { TAKES_ONE, NOT_KEPT, STARTS_AT_0, OTHERS = 12 };
+    const unsigned impl = lines_with(t, "     1"), spec = lines_with(t, "     2"), size = 2 + rnd(3), wrong = rnd(OTHERS), both = rnd(2);
+    unsigned initial = wrong == STARTS_AT_0 ? 0 : 1 + rnd(size - 1), wrong_row = rnd(4);
+    if (impl == 0 || impl > 7 || spec == 0 || spec > 7) return NO_COUNT;
+    out.len = 0;
+    for (size_t line = 0, end; line < t->len; line = end) {
+        unsigned kind = field_at(t, line);
+        end = line_end_from(t, line);
+        put(&out, t->bytes + line, kind == 5 ? 6 : end - line);
+        if (kind == 3 && wrong == TAKES_ONE && wrong_row-- == 0) fields(&out, 5, (unsigned[]){4, 1, impl, 0, 1});
+        else if (kind == 3 || (kind == 6 && both)) fields(&out, 2, (unsigned[]){1, impl});
+        else if (kind == 4 && both) fields(&out, 2, (unsigned[]){1, spec});
+        else if (kind == 5) {
+            if (wrong != NOT_KEPT) fields(&out, 6, (unsigned[]){15, 13, 0, 0, 1, impl});
+            put(&out, t->bytes + line + 6, end - line - 6);
+        }
+        if (end < t->len) { line_end(&out); end++; }
+        if (field_at(t, end) == kind || (kind != 1 && !(kind == 2 && both))) continue;
+        fields(&out, 3, (unsigned[]){kind, size, initial});
+        line_end(&out);
+    }
+    *t = out;
+    return both ? BOTH_COUNT : IMPLEMENTATION_COUNTS;
+}
+
+// The last value less another.
+static void mirrored(struct text *t, unsigned size) { fields(t, 3, (unsigned[]){4, 0, size - 1}); }
+
+// The term that starts there, one parameter read the other way round. Gives its end.
+static size_t mirrored_term(struct text *out, const struct text *t, size_t at, unsigned i, unsigned size) {
+    unsigned mark = field_at(t, at);
+    size_t end = at + (mark < 2 ? 12 : 6);
+    if (mark == 1 && field_at(t, at + 6) == i) mirrored(out, size);
+    put(out, t->bytes + at, end - at);
+    for (unsigned part = 0; part < parts_of(mark); part++) end = mirrored_term(out, t, end, i, size);
+    return end;
+}
+
+// The text with the values of some implementation parameter the other way round: steps that led to higher states lead to lower ones. Its
+// lines are whole.
+static void mirror(struct text *t) {
+    static struct text out;
+    const unsigned impl = lines_with(t, "     1"), i = rnd(impl), size = size_of(t, 1, i);
+    unsigned parameter = 0;
+    out.len = 0;
+    for (size_t line = 0, end; line < t->len; line = end + 1) {
+        unsigned kind = field_at(t, line);
+        size_t at = line + (kind == 3 ? 18 : 6);
+        end = line_end_from(t, line);
+        if (kind == 1 && parameter++ == i) fields(&out, 3, (unsigned[]){1, size, size - 1 - field_at(t, line + 12)});
+        else if (kind == 1 || kind == 2 || kind == 4) put(&out, t->bytes + line, end - line);
+        else {
+            put(&out, t->bytes + line, at - line);
+            for (unsigned part = 0; at < end; part++) {
+                if (kind == 3 && part == i + 2) mirrored(&out, size);
+                at = mirrored_term(&out, t, at, i, size);
+            }
+        }
+        line_end(&out);
+    }
+    *t = out;
+}
+
 // Changes of a text: one field, and bytes.
 
 // The start of some field, reckoned within its line.
@@ -805,15 +1119,31 @@ static void full(struct text *t) {
 
 static void from_pool(struct text *t, const struct pool *p) { *t = p->table[rnd(p->tables)]; }
 
-static void from_marked(struct text *t, const struct pool *p) { *t = p->table[p->accepted[rnd(p->marked)]]; }
+static void from_good(struct text *t, const struct pool *p) { *t = p->table[p->good[rnd(p->accepted)]]; }
+
+static void from_marked(struct text *t, const struct pool *p) { *t = p->table[p->good_marked[rnd(p->marked)]]; }
 
 static void made(struct text *t) {
     if (rnd(5)) related(t); else shaped(t);
     if (rnd(3) == 0) mark_text(t);
 }
 
+static void dividing(struct text *t, const struct pool *p) {
+    switch (rnd(10)) {
+    case 0: case 1: related(t); if (rnd(2)) mirror(t); break;
+    case 2: case 3: case 4: trying(t); if (rnd(2)) mirror(t); break;
+    case 5: about_measures(t); if (rnd(2)) mirror(t); break;
+    case 6: from_pool(t, p); break;
+    case 7: from_marked(t, p); break;
+    default: from_good(t, p);
+    }
+    if (rnd(3) == 0) { divide_late(t); return; }
+    enum counting counting = rnd(2) ? count_more(t) : NO_COUNT;
+    for (int i = 1 + rnd(3); i > 0; i--) divide(t, counting);
+}
+
 static void make_text(struct text *t, const struct pool *p) {
-    switch (rnd(32)) {
+    switch (rnd(46)) {
     case 0: case 1: case 2: case 3: case 4: made(t); break;
     case 5: case 6: made(t); mutate(t); break;
     case 7: made(t); damage(t); break;
@@ -831,7 +1161,11 @@ static void make_text(struct text *t, const struct pool *p) {
     case 23: case 24: case 25: case 26: case 27: case 28: about_measures(t); break;
     case 29: about_measures(t); flip(t, some_field(t)); break;
     case 30: about_measures(t); if (rnd(2)) mutate(t); else mark_text(t); break;
-    default: if (rnd(4)) { made(t); for (int i = 1 + rnd(6); i > 0; i--) mutate(t); } else if (rnd(2)) filled(t); else full(t);
+    case 31: dividing(t, p); mutate(t); break;
+    case 32: dividing(t, p); flip(t, some_field(t)); break;
+    case 33: dividing(t, p); if (rnd(2)) mark_text(t); else flip_marks(t); break;
+    case 34: if (rnd(4)) { made(t); for (int i = 1 + rnd(6); i > 0; i--) mutate(t); } else if (rnd(2)) filled(t); else full(t); break;
+    default: dividing(t, p);
     }
 }
 

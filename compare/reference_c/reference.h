@@ -7,6 +7,9 @@
 /* As check_design. */
 uint32_t reference_check(const uint8_t *text, size_t text_len, uint8_t *report, size_t report_len);
 
+/* The same by the rules after the requests up to another one. */
+uint32_t reference_check_at(uint32_t level, const uint8_t *text, size_t text_len, uint8_t *report, size_t report_len);
+
 /* As mark_design and unmark_design. */
 size_t reference_mark(const uint8_t *text, size_t text_len, uint8_t *buffer, size_t buffer_len, uint32_t *number);
 size_t reference_unmark(const uint8_t *text, size_t text_len, uint8_t *buffer, size_t buffer_len, uint32_t *number);
@@ -14,6 +17,7 @@ size_t reference_unmark(const uint8_t *text, size_t text_len, uint8_t *buffer, s
 /* What measure_design returns and tells. */
 enum { REFERENCE_FILLED, REFERENCE_LOOP, REFERENCE_NO_MEASURE };
 uint32_t reference_measure(const uint8_t *text, size_t text_len, uint16_t *slice, size_t slice_len, uint32_t *number);
+uint32_t reference_measure_at(uint32_t level, const uint8_t *text, size_t text_len, uint16_t *slice, size_t slice_len, uint32_t *number);
 
 /* How many states the design has; 0 if the text is turned down. */
 size_t reference_states(const uint8_t *text, size_t text_len);

@@ -43,6 +43,17 @@ pub unsafe extern "C" fn reference_check(text: *const u8, text_len: usize, repor
     u32::from(reference_checker::check_at(*LEVEL, lent(text, text_len), lent_to_write(report, report_len)))
 }
 
+fn level_of(number: u32) -> Level {
+    u8::try_from(number).ok().and_then(Level::new).expect("a level that the reference knows")
+}
+
+/// # Safety
+/// As for `reference_check`.
+#[no_mangle]
+pub unsafe extern "C" fn reference_check_at(level: u32, text: *const u8, text_len: usize, report: *mut u8, report_len: usize) -> u32 {
+    u32::from(reference_checker::check_at(level_of(level), lent(text, text_len), lent_to_write(report, report_len)))
+}
+
 /// The length of a writer's result, with the number 0; or 0, with the number by which it is turned down.
 unsafe fn written(result: Result<usize, u8>, number: *mut u32) -> usize {
     *number = result.map_or_else(u32::from, |_| 0);
@@ -72,13 +83,28 @@ fn returned(answer: Result<Made, u8>) -> (u32, u32) {
     }
 }
 
+fn measure_at(level: Level, text: &[u8], slice: &mut [u16]) -> (u32, u32) {
+    let mut desk = Desk::new();
+    let loaded = desk.load_at(level, text);
+    returned(loaded.and_then(|()| desk.make_measure(slice)))
+}
+
 /// # Safety
 /// The text's bytes are there, and so are the slice and the number, which nothing else uses.
 #[no_mangle]
 pub unsafe extern "C" fn reference_measure(text: *const u8, text_len: usize, slice: *mut u16, slice_len: usize, number: *mut u32) -> u32 {
-    let mut desk = Desk::new();
-    let loaded = desk.load_at(*LEVEL, lent(text, text_len));
-    let (result, told) = returned(loaded.and_then(|()| desk.make_measure(lent_to_write(slice, slice_len))));
+    let (result, told) = measure_at(*LEVEL, lent(text, text_len), lent_to_write(slice, slice_len));
+    *number = told;
+    result
+}
+
+/// # Safety
+/// As for `reference_measure`.
+#[no_mangle]
+pub unsafe extern "C" fn reference_measure_at(
+    level: u32, text: *const u8, text_len: usize, slice: *mut u16, slice_len: usize, number: *mut u32,
+) -> u32 {
+    let (result, told) = measure_at(level_of(level), lent(text, text_len), lent_to_write(slice, slice_len));
     *number = told;
     result
 }
