@@ -33,9 +33,6 @@ use Rattle.decision.proofs.Find.{Found, Missing, find, found-some, foun
 by-has-v : (v : Value) (s : State) (e : ℕ) → Reflects (Has (meantV v s e)) (hasV v s e)
 by-has-v v s e = by-iff (says-has-v v s e) (has-says-v v s e) (by-value (hasV v s e))
 
-by-has-f : (f : Formula) (s : State) (e : ℕ) → Reflects (Has (meantF f s e)) (hasF f s e)
-by-has-f f s e = by-iff (says-has-f f s e) (has-says-f f s e) (by-value (hasF f s e))
-
 by-have : (vs : List Value) (s : State) (e : ℕ) → Reflects (Have vs s e) (haveB vs s e)
 by-have vs s e = by-each (λ v. Has (meantV v s e)) (λ v. hasV v s e) (λ v. by-has-v v s e) vs
 

@@ -17,7 +17,7 @@ use Rattle.terms.specs.declared.Arith.{Arith}
 use Rattle.terms.specs.declared.Arith.the-variants.{Sum, Difference, Remainder}
 use Rattle.terms.specs.declared.Compare.the-variants.{Equal, Less}
 use Rattle.terms.specs.declared.Join.the-variants.{And, Or}
-use Rattle.terms.proofs.And.{and-left, and-right}
+use Rattle.terms.proofs.And.{and-left, and-right, and-both}
 use Rattle.divisors.specs.Divisors.{other, large, unknown, smallTo, smallAt, leafAt, operationOf, termAt, quietAt, safeAt, termOr, both, never, least, onlyIf, knownIf, spared, parameterMost, sumMost, mostV, byParameter, leafV, namedV, zeroV, yesF, noF, byOperation, dividesV, dividesF}
 use Rattle.divisors.proofs.Sets.{large-apart, parameter-not, parameter-apart, digits-safe, safe-digits, safe-term, term-safe, other-not-safe, safe-large, safe-both, either-safe, spared-safe}
 
@@ -27,16 +27,9 @@ or-right : (a b : Bool) → a ≡ false → a || b ≡ true → b ≡ true
 or-right true b n h = cc
 or-right false b n h = h
 
-or-one : (a b : Bool) → a || b ≡ true → (a ≡ true) ⊎ (b ≡ true)
-or-one true b h = inl refl
-or-one false b h = inr h
-
 or-none : (a b : Bool) → a || b ≡ false → (a ≡ false) × (b ≡ false)
 or-none true b h = absurd (false≢true (sym h))
 or-none false b h = (refl, h)
-
-and-both : {a b : Bool} → a ≡ true → b ≡ true → a && b ≡ true
-and-both p q = rw (p, q)
 
 -- one of two, each by the test that chooses it
 cond-by : {A : Type 0} (P : A → Type 0) (c : Bool) {x y : A} → (c ≡ true → P x) → (c ≡ false → P y) → P (cond c x y)

@@ -39,12 +39,6 @@ pub small-is : (ps : List ℕ) (a b c d e f g h : ℕ) → a ≡ getD ps 0 0 →
 unfolding smallTo
 small-is ps a b c d e f g h ea eb ec ed ee ef eg eh = rw (ea, eb, ec, ed, ee, ef, eg, eh)
 
-pub member-so : (b : Bool) (x : ℕ) → b ≡ true → x ≡ cond b x 0
-member-so b x e = rw e
-
-pub member-not : (b : Bool) (x : ℕ) → b ≡ false → 0 ≡ cond b x 0
-member-not b x e = rw e
-
 pub being-0 : (i : ℕ) → i < 8 → 2 * 2 ^ i % 4294967296 ≡ 2 ^ (i + 1)
 being-0 zero l = refl
 being-0 (suc zero) l = refl

@@ -12,6 +12,7 @@ use lib.ListN.{getD, drop}
 use Rattle.foundation.specs.Reflects.{_⇒_}
 use Rattle.terms.specs.Tree.{Value, Formula, hasF}
 use Rattle.terms.specs.Read.{readF}
+use Rattle.terms.proofs.And.{and-both}
 use Rattle.divisors.specs.Divisors.{safeAt, both, dividesV, dividesF}
 use Rattle.divisors.proofs.Sets.{safe-both}
 use Rattle.divisors.proofs.Divisors.{nothing-safe, only-both, safe-v, safe-f}
@@ -30,9 +31,6 @@ use Rattle.plan.proofs.Held.{row-by, row-is}
 -- nothing is not so anywhere
 pub safe-nothing : (c : ℕ) (v : List ℕ) → c ≡ 0 → safeAt c v ≡ true
 safe-nothing c v z = rw z (nothing-safe v)
-
-and-both : {a b : Bool} → a ≡ true → b ≡ true → a && b ≡ true
-and-both p q = rw (p, q)
 
 if-so : (a : Bool) {b : Bool} → b ≡ true → a ⇒ b ≡ true
 if-so true p = p

@@ -57,13 +57,6 @@ flags-small false true false r e = omega arith
 flags-small false false true r e = omega arith
 flags-small false false false r e = omega arith
 
-module _ (b : Bool) (x y : ℕ) where
-  pub one-first : b ≡ true → x ≡ cond b x y
-  one-first h = rw h
-
-  pub one-other : b ≡ false → y ≡ cond b x y
-  one-other h = rw h
-
 pub packed-is : (e : RowPlan) (flags x : ℕ) → flags ≡ flagsOf (e .free) (e .mark .free) (e .internal) → x ≡ packOf (e .partner) flags → x ≡ packedOf e
 unfolding packedOf
 packed-is e flags x eg ex = ex ∙ rw eg

@@ -60,13 +60,6 @@ module _ (f s p v : List ℕ) (h : Shape) (q : Process) (from : ℕ) where
   unfolding rowsLeft
   rows-end i l inv = sym (all-end asked (q .rows .count) i l) ∙ inv
 
--- the plan has them
-pub few-impl : (h : Shape) → Fits h → 0 + h .implementation .rows .count ≤ 64
-few-impl h fits = let l = fits .implementation .rows in omega arith
-
-pub few-spec : (h : Shape) → Fits h → 32 + h .specification .rows .count ≤ 64
-few-spec h fits = let l = fits .specification .rows in omega arith
-
 -- ---- the state
 
 module _ (f s v : List ℕ) (h : Shape) (safe : Bool) where
