@@ -24,7 +24,7 @@ pub record AtOnce (d : Design) (l : Label) (s t′ : State) : Type 0 where
   pub related : Related d to t′
 
 -- what a row carries that has its values there
-carries-some : {r : Row} {s : State} {e : ℕ} → RowHas r s → Enabled r s e → meantV (r .carries) s e ≡ some (dataNumber r s e)
+pub carries-some : {r : Row} {s : State} {e : ℕ} → RowHas r s → Enabled r s e → meantV (r .carries) s e ≡ some (dataNumber r s e)
 carries-some {r} {s} {e} h on = says-value (r .carries) s e (has-says-v (r .carries) s e (h .carries e on))
 
 module _ (d : Design) (a : Admitted d) (have : (s : State) → InvariantState d s → OthersHave d s) (others : (s : State) → InvariantState d s → Criteria d s) where

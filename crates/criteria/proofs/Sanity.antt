@@ -2,7 +2,8 @@
 -- specification can do something (`stuck-differs`: there is a reply), one whose action carries another number (`data-differs`: there is
 -- an answer with the same label), one with an internal step to where it can do nothing (`trap-differs`: internal steps lead to related
 -- states), one whose action may lead there (`fall-differs`: so do a step and its answer), and one that goes on where the specification's
--- action may lead to where that can do nothing (`end-differs`: so do a step and its reply).
+-- action may lead to where that can do nothing (`end-differs`: so do a step and its reply). And for rooted bisimilarity: the same but for the
+-- internal step (`rooted-..`), and one that may begin with an internal step that changes nothing (`idle-differs`: it is answered too).
 use mathlib.Core.Path.{_≡_, refl, sym, _∙_, subst}
 use mathlib.Core.Bool.{true, true≢false}
 use mathlib.Core.List.{List, [], _∷_}
@@ -16,7 +17,7 @@ use Rattle.terms.proofs.Meaning.{holds-says, value-says}
 use Rattle.terms.specs.declared.Compare.the-variants.{Equal}
 use Rattle.criteria.specs.Design.{Design, Row, Process, State, Have}
 use Rattle.criteria.specs.Step.{Label, Step, Chain, none, more, dataNumber, nextState}
-use Rattle.criteria.specs.Bisimilar.{Bisimilar}
+use Rattle.criteria.specs.Bisimilar.{Bisimilar, RootedBisimilar}
 
 -- action 1 with the number n, at any time
 abbrev always : ℕ → Row
@@ -103,8 +104,11 @@ module _ (a n : ℕ) where
   no-reply (more i c) e x = no-step (rw e at (i .step))
 
   -- a stuck state is no such specification's state
+  stuck-other : Bisimilar trap stuck one → ⊥
+  stuck-other b = let reply = b .is-bisimulation .back stuck one one (label 7) (b .relates) (steps 7) in no-reply (reply .chain) refl (reply .step)
+
   stuck-apart : (b : Bisimilar trap one one) → b .relation stuck one → ⊥
-  stuck-apart b related = let reply = b .is-bisimulation .back stuck one one (label 7) related (steps 7) in no-reply (reply .chain) refl (reply .step)
+  stuck-apart b related = stuck-other (record { relation = b .relation; is-bisimulation = b .is-bisimulation; relates = related })
 
 -- an internal step leads there
 pub trap-differs : Bisimilar (trap 0 0) one one → ⊥
@@ -129,15 +133,49 @@ fall-differs b =
 abbrev ends : Design
 ends = both (one-state (always 7 ∷ [])) (two-states 1 7)
 
+visible-rows : EachIs (always 7 ∷ []) (λ r. r .action ≡ 0 → ⊥)
+visible-rows = nth-cons (λ r. r .action ≡ 0 → ⊥) (λ h. omega arith) (λ k y at. absurd (nth-nil at))
+
 pub end-differs : Bisimilar ends one one → ⊥
 end-differs b =
     let reply = b .is-bisimulation .back one one stuck (label 7) (b .relates) (falling 1 7) in
     let there = subst (λ s. b .relation s stuck) (only-one (subst (λ s. Step (one-state (always 7 ∷ [])) (label 7) s (reply .to)) (stays-one (reply .chain) refl) (reply .step))) (reply .related) in
     no-step 1 7 (b .is-bisimulation .visible one stuck one (label 7) there (record { step = steps 7; nonzero = λ h. omega arith }) .step)
   where
-    visible-only : EachIs (always 7 ∷ []) (λ r. r .action ≡ 0 → ⊥)
-    visible-only = nth-cons (λ r. r .action ≡ 0 → ⊥) (λ h. omega arith) (λ k y at. absurd (nth-nil at))
-
     stays-one : {s u : State} {k : ℕ} → Chain ends s k u → s ≡ one → u ≡ one
     stays-one none e = e
-    stays-one (more i c) e = absurd (visible-only (i .step .at) (i .step .row) (i .step .is-row) (i .step .action ∙ i .zero))
+    stays-one (more i c) e = absurd (visible-rows (i .step .at) (i .step .row) (i .step .is-row) (i .step .action ∙ i .zero))
+
+-- ---- rooted
+
+pub rooted-stuck-differs : RootedBisimilar (beside []) one one → ⊥
+rooted-stuck-differs b = nth-nil (b .is-rooted .back one one one (label 7) (b .relates) (steps 7) .step .is-row)
+
+pub rooted-data-differs : RootedBisimilar (beside (always 5 ∷ [])) one one → ⊥
+rooted-data-differs b =
+    let answer = b .is-rooted .forth one one one (label 5) (b .relates) (steps 5) .step in
+    seven (answer .at) (answer .row) (answer .is-row) one (answer .sum) (value-says (answer .row .carries) one (answer .sum) 5 (answer .number) .1)
+
+pub rooted-fall-differs : RootedBisimilar (trap 1 7) one one → ⊥
+rooted-fall-differs b =
+    let answer = b .is-rooted .forth one one stuck (label 7) (b .relates) (falling 1 7) in
+    stuck-other 1 7 (subst (Bisimilar (trap 1 7) stuck) (only-one (answer .step)) (answer .bisimilar))
+
+pub rooted-end-differs : RootedBisimilar ends one one → ⊥
+rooted-end-differs b =
+    let reply = b .is-rooted .back one one stuck (label 7) (b .relates) (falling 1 7) in
+    let there = subst (λ s. Bisimilar ends s stuck) (only-one (reply .step)) (reply .bisimilar) in
+    no-step 1 7 (there .is-bisimulation .visible one stuck one (label 7) (there .relates) (record { step = steps 7; nonzero = λ h. omega arith }) .step)
+
+-- an internal step that stays
+abbrev idle : Row
+idle = record { action = 0; span = 1; condition = const true; carries = num 0; next = num 0 ∷ [] }
+
+idles : Step (one-state (always 7 ∷ idle ∷ [])) (record { action = 0; number = 0 }) one one
+unfolding evalV meantV meantF
+idles = record { at = 2; row = idle; sum = 0; is-row = later first; enabled = record { in-span = omega arith; condition = refl }; action = refl; number = refl; goes = record { have = number-has 0 one 0; same = refl } }
+
+pub idle-differs : RootedBisimilar (beside (always 7 ∷ idle ∷ [])) one one → ⊥
+idle-differs b =
+    let answer = b .is-rooted .forth one one one (record { action = 0; number = 0 }) (b .relates) idles .step in
+    visible-rows (answer .at) (answer .row) (answer .is-row) (answer .action)

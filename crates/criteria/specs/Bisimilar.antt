@@ -1,6 +1,6 @@
--- Branching bisimilarity, and demand 3 of a design (01, "What demand 3 speaks of"; 00, demand 3; 02, order 1). Source 000, section 6,
--- has it for processes that may both have internal steps; here the specification has none. Bisimilarity knows nothing of marks: its
--- chains are of internal steps.
+-- Branching bisimilarity, rooted and not, and demand 3 of a design (01, "What demand 3 speaks of"; 00, demand 3; 02, orders 1 and 6).
+-- Source 000, section 6.1, has it for processes that may both have internal steps; here the specification has none. Bisimilarity knows
+-- nothing of marks: its chains are of internal steps.
 use mathlib.Core.Path.{_≡_}
 use Prim.Native.Nat.{ℕ, _≤_}
 use Rattle.foundation.specs.Nth.{Nth}
@@ -42,6 +42,41 @@ pub record Bisimilar (d : Design) (s t : State) : Type 1 where
   pub relation : State → State → Type 0
   pub is-bisimulation : BranchingBisimulation d relation
   pub relates : relation s t
+
+-- ---- rooted (source 000, section 6.1: "initial τ-transitions are never truly silent. In other words, two states are considered equivalent
+-- if they can simulate each other's initial transitions, such that the resulting states are branching bisimilar")
+
+-- "t -a-> t′ with s′ ↔b t′": s′ is where the implementation's step led
+pub record RootedAnswer (d : Design) (l : Label) (t s′ : State) : Type 1 where
+  pub to : State
+  pub step : Step (d .spec) l t to
+  pub bisimilar : Bisimilar d s′ to
+
+-- "s -a-> s′ with s′ ↔b t′": t′ is where the specification's step led
+pub record RootedReply (d : Design) (l : Label) (s t′ : State) : Type 1 where
+  pub to : State
+  pub step : Step (d .impl) l s to
+  pub bisimilar : Bisimilar d to t′
+
+-- "A rooted branching bisimulation relation B is a binary relation on states in process graphs such that:" (clauses 3 and 4 are about states
+-- in which a process ends, "s ↓"; ours don't end)
+pub record RootedBranchingBisimulation (d : Design) (R : State → State → Type 0) : Type 1 where
+  -- it is between states of the implementation and of the specification
+  pub between : (s t : State) → R s t → InSize (d .impl) s × StateOf (d .spec) t
+  -- "1. if s B t and s -a-> s′, then t -a-> t′ with s′ ↔b t′": for every step, an internal one too
+  pub forth : (s t s′ : State) (l : Label) → R s t → Step (d .impl) l s s′ → RootedAnswer d l t s′
+  -- "2. if s B t and t -a-> t′, then s -a-> s′ with s′ ↔b t′": at once, without internal steps before it
+  pub back : (s t t′ : State) (l : Label) → R s t → Step (d .spec) l t t′ → RootedReply d l s t′
+
+-- "Two states s and t are rooted branching bisimilar, .. if there is a rooted branching bisimulation relation B such that s B t."
+pub record RootedBisimilar (d : Design) (s t : State) : Type 1 where
+  pub relation : State → State → Type 0
+  pub is-rooted : RootedBranchingBisimulation d relation
+  pub relates : relation s t
+
+-- "both initial states rooted branching bisimilar" (02, order 6)
+abbrev pub InitialRooted : Design → Type 1
+InitialRooted d = RootedBisimilar d (initialState (d .impl)) (initialState (d .spec))
 
 -- ---- demand 3
 

@@ -1,5 +1,5 @@
 -- Enabled rows, marks, focus points, steps and their labels, lists of internal and of marked steps (01, "Nine criteria", "What demand 3
--- speaks of"; 02, orders 1 and 5; source 004, section 4). Where a value is missing nothing is enabled, marked or a step.
+-- speaks of"; 02, orders 1, 5 and 6; source 004, section 4). Where a value is missing nothing is enabled, marked or a step.
 use mathlib.Core.Path.{_≡_}
 use mathlib.Core.Logic.{_≢_}
 use mathlib.Core.Bool.{cond}
@@ -61,6 +61,19 @@ pub data MarkHas (d : Design) (k : ℕ) (s : State) (e : ℕ) : Type 0 where
 -- step starts there
 abbrev pub FocusPoint : Design → State → Type 0
 FocusPoint d s = (k : ℕ) (r : Row) (e : ℕ) → RowIs (d .impl .rows) k r → InternalRow r → Enabled r s e → Marked d k s e → ⊥
+
+-- "no internal row, marked or not, is enabled in" the state (02, order 6)
+abbrev pub NoInternal : Process → State → Type 0
+NoInternal p s = (k : ℕ) (r : Row) (e : ℕ) → RowIs (p .rows) k r → InternalRow r → Enabled r s e → ⊥
+
+-- some internal row is: which, and for which sum value
+pub record SomeInternal (p : Process) (s : State) : Type 0 where
+  pub at : ℕ
+  pub row : Row
+  pub sum : ℕ
+  pub is-row : RowIs (p .rows) at row
+  pub internal : InternalRow row
+  pub enabled : Enabled row s sum
 
 -- the row of an action is enabled: "An action with no row in a process is never enabled there."
 pub record ActionEnabled (p : Process) (action : ℕ) (s : State) (e : ℕ) : Type 0 where

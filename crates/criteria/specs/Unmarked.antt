@@ -10,7 +10,7 @@ use Rattle.foundation.specs.Nth.{EachIs}
 use Rattle.foundation.specs.Trial.{Place, place}
 use Rattle.terms.specs.Meaning.{meantF, Has}
 use Rattle.criteria.specs.Design.{Design, Row, State, RowIs, InSize, InvariantState, Invariant, Have, Maps, HasMeasure, mapped, measureAt, initialState, stateNumber}
-use Rattle.criteria.specs.Step.{Enabled, InternalRow, ActionEnabled, Internal, Chain, nextState}
+use Rattle.criteria.specs.Step.{Enabled, InternalRow, NoInternal, ActionEnabled, Internal, Chain, nextState}
 use Rattle.criteria.specs.Criteria.{Each, Criterion1, Criterion2, Criterion3, Criterion4, Criterion6, Criterion8, Criterion9, RowHas}
 use Rattle.criteria.specs.Failure.{Failure, turn, startFailure, failureAt, missing}
 use Rattle.criteria.specs.Bisimilar.{Bisimilar, Stays}
@@ -21,7 +21,7 @@ Unmarked d = d .marks ≡ []
 
 -- "A focus point is a state with no internal row enabled."
 abbrev pub FocusPoint : Design → State → Type 0
-FocusPoint d s = (k : ℕ) (r : Row) (e : ℕ) → RowIs (d .impl .rows) k r → InternalRow r → Enabled r s e → ⊥
+FocusPoint d = NoInternal (d .impl)
 
 -- 5. "An enabled internal row leads to a smaller measure (criterion 1, with the measure given)."
 abbrev pub Criterion5 : Design → State → Row → ℕ → Type 0

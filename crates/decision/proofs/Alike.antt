@@ -12,7 +12,7 @@ use Rattle.terms.specs.Tree as tree
 use Rattle.foundation.proofs.First.{all-alike}
 use Rattle.criteria.specs.Design.{Design, Row, values, mapped}
 use Rattle.criteria.specs.Rows.{rowAt, markOf, firstRow, markedTest}
-use Rattle.decision.specs.Tests.{haveB, hasMappingB, hasAt, hasMarkAt, othersHaveB, apartB, holds10, focusB, holds2, holds3, holds4, holds5, holds6, holds7, holds8, holds9}
+use Rattle.decision.specs.Tests.{haveB, hasAt, hasMarkAt, othersHaveB, apartB, holds10, focusB, noInternalB, holds2, holds3, holds4, holds5, holds6, holds7, holds8, holds9}
 use Rattle.decision.specs.Examine.{nothing, once, ofImpl, ofSpec, columns, trialOf, firstFailing}
 
 module _ (v w : List ℕ) (agree : (i : ℕ) → getD v i 0 ≡ getD w i 0) where
@@ -76,6 +76,10 @@ module _ (v w : List ℕ) (agree : (i : ℕ) → getD v i 0 ≡ getD w i 0) wher
           where
             go : (k : ℕ) (r : Row) (e : ℕ) → markedTest d v k r e ≡ markedTest d w k r e
             go k r e = rw (formula-alike (r .condition) e, formula-alike (markOf d k) e)
+
+    pub no-internal-alike : noInternalB d v ≡ noInternalB d w
+    no-internal-alike =
+        all-alike _ _ (length (d .impl .rows)) 1 (λ k. all-alike _ _ (rowAt (d .impl .rows) k .span) 0 (λ e. rw (formula-alike (rowAt (d .impl .rows) k .condition) e)))
 
     second : holds2 d v ≡ holds2 d w
     second = rw mapped-alike

@@ -29,7 +29,12 @@ pub same-verdict : (d : Design) (ms : List (List Formula)) → Admitted d → Al
     → verdictOf (withMarks d ms) ≡ verdictOf d
 same-verdict d ms a all all′ =
     one-verdict d′ (verdictOf d′) (verdictOf d) (demand2 d′ (admitted-any d ms a))
-    (record { accepts = Iff·trans (demand2 d a .accepts) meets; reports = λ x. Iff·trans (demand2 d a .reports x) (lowest x) })
+    (record {
+      accepts = Iff·trans (demand2 d a .accepts) meets;
+      as-is = Iff·trans (demand2 d a .as-is) (λ x. (meets .0 (x .0), x .1), λ x. (meets .1 (x .0), x .1));
+      after-internal = Iff·trans (demand2 d a .after-internal) (λ x. (meets .0 (x .0), x .1), λ x. (meets .1 (x .0), x .1));
+      reports = λ x. Iff·trans (demand2 d a .reports x) (lowest x);
+    })
   where
     d′ : Design
     d′ = withMarks d ms

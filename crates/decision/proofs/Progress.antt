@@ -16,7 +16,7 @@ use Rattle.criteria.specs.Verdict.{accepted, failed}
 use Rattle.decision.specs.Tests.{holds1}
 use Rattle.decision.specs.Examine.{examine}
 use Rattle.decision.proofs.Examine.{fails-there}
-use Rattle.decision.specs.Verdict.{overStates, checked, byOutcome, verdictOf}
+use Rattle.decision.specs.Verdict.{overStates, checked, acceptanceOf, byOutcome, verdictOf}
 
 -- criterion 1 was tried and holds, and the first n states pass
 pub record Progress (d : Design) (n : ℕ) : Type 0 where
@@ -36,17 +36,17 @@ module _ (d : Design) where
   unfolding checked
   ends-at-start h = rw h
 
-  by-walk : holds1 d ≡ true → verdictOf d ≡ byOutcome (overStates d)
+  by-walk : holds1 d ≡ true → verdictOf d ≡ byOutcome (acceptanceOf d) (overStates d)
   unfolding checked
   by-walk h = rw h
 
   -- the last state is done
-  pub ends-well : Progress d (states d) → verdictOf d ≡ accepted
-  ends-well p = by-walk (p .start) ∙ ap (λ w. byOutcome (w .outcome)) (all-walk (examine d) (states d) 0 (p .passed))
+  pub ends-well : Progress d (states d) → verdictOf d ≡ accepted (acceptanceOf d)
+  ends-well p = by-walk (p .start) ∙ ap (λ w. byOutcome (acceptanceOf d) (w .outcome)) (all-walk (examine d) (states d) 0 (p .passed))
 
   -- a state fails
   pub ends-badly : (n k : ℕ) (x : Failure) → Progress d n → n + k ≤ states d → walk (examine d) k n .outcome ≡ fail x → verdictOf d ≡ failed x
-  ends-badly n k x p l h = by-walk (p .start) ∙ ap byOutcome (fail-more (examine d) n k (states d) x (p .passed) h l)
+  ends-badly n k x p l h = by-walk (p .start) ∙ ap (byOutcome (acceptanceOf d)) (fail-more (examine d) n k (states d) x (p .passed) h l)
 
   -- ---- where a check ends
 
@@ -69,7 +69,7 @@ module _ (d : Design) where
         let t = fails-there d a (f .at) (omega arith) x (f .fails) in
         (subst (λ s. n ≤ s) (sym (t .0)) (not-before (f .at) (f .fails)), t .1)
       where
-        outcome-of : (o : Outcome Failure) → byOutcome o ≡ failed x → o ≡ fail x
+        outcome-of : (o : Outcome Failure) → byOutcome (acceptanceOf d) o ≡ failed x → o ≡ fail x
         outcome-of pass e = let z : _≡_ {A = ℕ} 0 1 = cc in absurd (omega arith)
         outcome-of (fail y) e = cc
 

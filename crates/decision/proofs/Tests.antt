@@ -15,11 +15,11 @@ use Rattle.foundation.proofs.Reflects.{says-yes, is-so, by-value, by-eqb, by-lt
 use Rattle.foundation.specs.Nth.{EachIs}
 use Rattle.foundation.proofs.First.{by-all}
 use Rattle.foundation.proofs.Nth.{by-each, nth-positive}
-use Rattle.terms.specs.Tree.{Value, Formula, evalF, hasV, hasF}
+use Rattle.terms.specs.Tree.{Value, evalF, hasV, hasF}
 use Rattle.terms.specs.Meaning.{meantV, meantF, Has}
 use Rattle.terms.proofs.Meaning.{holds-says, says-holds, has-says-v, says-has-v, has-says-f, says-has-f}
-use Rattle.criteria.specs.Design.{Design, Process, Row, State, RowIs, OneRowEach, Admitted, InvariantState, Invariant, Have, Maps, HasMeasure, sizes, initialState, mapped, measureAt}
-use Rattle.criteria.specs.Step.{Enabled, Marked, MarkHas, FocusPoint, ActionEnabled, InternalRow, nextState, dataNumber}
+use Rattle.criteria.specs.Design.{Design, Process, Row, State, RowIs, OneRowEach, Admitted, InvariantState, Invariant, Have, Maps, sizes, initialState, mapped, measureAt}
+use Rattle.criteria.specs.Step.{Enabled, MarkHas, FocusPoint, ActionEnabled, InternalRow, nextState, dataNumber}
 use Rattle.criteria.specs.Criteria.{Criterion1, Criterion2, Criterion3, Criterion4, Criterion5, Criterion6, Criterion7, Criterion8, Criterion9, Criterion10, RowHas, OthersHave, MeasureApart, Partner}
 use Rattle.criteria.specs.Rows.{rowAt, markOf, firstMarked}
 use Rattle.criteria.proofs.Rows.{is-row-at, is-row-below, row-at-is, marked-holds, holds-marked, mark-has, has-marked, pass-focus, fail-marked, and-true, true-and}
@@ -164,7 +164,7 @@ module _ (d : Design) (a : Admitted d) (s : State) (have : OthersHave d s) (k : 
 -- ---- criterion 10
 
 -- the test says yes at each row, by its number, for each sum value in its span
-by-rows : (rows : List Row) (t : ℕ → Row → ℕ → Bool) → Reflects ((k : ℕ) (r : Row) → RowIs rows k r → (e : ℕ) → e < r .span → t k r e ≡ true) (allRows rows t)
+pub by-rows : (rows : List Row) (t : ℕ → Row → ℕ → Bool) → Reflects ((k : ℕ) (r : Row) → RowIs rows k r → (e : ℕ) → e < r .span → t k r e ≡ true) (allRows rows t)
 by-rows rows t = by-iff there back (by-all RowSays (λ k. allIn (λ e. t k (rowAt rows k) e) (rowAt rows k .span) 0) row-says (length rows) 1)
   where
     RowSays : ℕ → Type 0

@@ -1,6 +1,6 @@
 -- The ten criteria as tests that compute, row by row and sum value by sum value. Those of 2 to 9 are for a state where criterion 10 holds:
--- of values there they ask only in the state that a step leads to. What they decide is said in criteria/specs/Criteria; that they decide
--- it, in proofs/Tests.
+-- of values there they ask only in the state that a step leads to; so is that whether any internal row is enabled. What they decide is said
+-- in criteria/specs/Criteria, and of that one in Step; that they decide it, in proofs/Tests and NoInternal.
 use mathlib.Core.Bool.{Bool, not, _&&_, cond}
 use mathlib.Core.List.{List, [], _∷_}
 use Prim.Native.Nat.{ℕ, suc}
@@ -52,6 +52,13 @@ allRows rows t = allIn (λ k. allIn (λ e. t k (rowAt rows k) e) (rowAt rows k .
 
 abbrev pub focusB : Design → State → Bool
 focusB d s = passes (firstMarked d s)
+
+-- the row is not internal, or not enabled, marked or not; and so is each of the implementation's
+abbrev pub notInternal : Row → State → ℕ → Bool
+notInternal r s e = not (internalB r && enabledB r s e)
+
+abbrev pub noInternalB : Design → State → Bool
+noInternalB d s = allRows (d .impl .rows) (λ _ r e. notInternal r s e)
 
 -- the number of the first row of an action, counted from k; 0 if there is none
 unfoldable pub rowFrom : List Row → ℕ → ℕ → ℕ

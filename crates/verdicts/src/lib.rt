@@ -1,5 +1,5 @@
-// The words of a verdict, for definitions and for code: a place of failure at a state, a failure, what a walk comes to, and the report's
-// numbers.
+// The words of a verdict, for definitions and for code: a place of failure at a state, a failure, what a walk comes to, how a design is
+// accepted, and the report's numbers.
 
 // Criterion, row and sum value.
 pub struct Place {
@@ -28,9 +28,15 @@ pub struct Walked {
     pub count: usize,
 }
 
+// How a design is accepted: equal as it is, or after a first internal step.
+pub enum Acceptance {
+    AsIs,
+    AfterInternal,
+}
+
 // The report's five numbers; those that are not used are 0.
 pub struct Report {
-    // 0 accepted, 1 failed, 2 turned down
+    // 0 accepted as it is, 1 failed, 2 turned down, 3 accepted after a first internal step
     pub verdict: u16,
     // the criterion that failed, or the number by which a text is turned down
     pub number: u16,
