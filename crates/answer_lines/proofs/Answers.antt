@@ -4,6 +4,8 @@ use mathlib.Core.Path.{_≡_, ap, _∙_}
 use mathlib.Core.List.{List, [], _∷_, _++_}
 use lib.ListN.{take}
 use Rattle.verdicts.specs.declared.Report.{Report}
+use Rattle.verdicts.specs.declared.Acceptance.{Acceptance}
+use Rattle.verdicts.specs.declared.Acceptance.the-variants.{AsIs, AfterInternal}
 use Rattle.answers.specs.declared.Done.{Done}
 use Rattle.answers.specs.declared.Done.the-variants as done
 use Rattle.answers.specs.declared.Advance.{Advance}
@@ -31,8 +33,8 @@ module _ (answer : Advance) (x : List ℕ) (k : ℕ) where
   pub open-line : answer ≡ advance.Open k → x ≡ numbered openWord k → x ≡ advanceLine answer
   open-line ea h = rw ea h
 
-  pub accepted-line : answer ≡ advance.Accepted k → x ≡ numbered acceptedWord k → x ≡ advanceLine answer
-  accepted-line ea h = rw ea h
+  pub accepted-line : (how : Acceptance) → answer ≡ advance.Accepted how k → x ≡ numbered (acceptedWord how) k → x ≡ advanceLine answer
+  accepted-line how ea h = rw ea h
 
   pub failed-line : answer ≡ advance.Failed k → x ≡ numbered failedWord k → x ≡ advanceLine answer
   failed-line ea h = rw ea h
@@ -40,10 +42,18 @@ module _ (answer : Advance) (x : List ℕ) (k : ℕ) where
   pub not-advanced-line : answer ≡ advance.TurnedDown k → x ≡ numbered turnedDownWords k → x ≡ advanceLine answer
   not-advanced-line ea h = rw ea h
 
+-- "accepted " or "accepted3 ", and the count
+module _ (how : Acceptance) (x : List ℕ) (k : ℕ) where
+  pub as-is-line : how ≡ AsIs → x ≡ numbered (acceptedWord AsIs) k → x ≡ numbered (acceptedWord how) k
+  as-is-line e h = rw e h
+
+  pub after-line : how ≡ AfterInternal → x ≡ numbered (acceptedWord AfterInternal) k → x ≡ numbered (acceptedWord how) k
+  after-line e h = rw e h
+
 module _ (answer : Verdict) (x : List ℕ) where
   module _ (r : Report) (er : r ≡ verdictNumbers answer) (h : x ≡ reportLine r) where
-    pub accepted-told : answer ≡ verdict.Accepted → x ≡ verdictLine answer
-    accepted-told ea = h ∙ ap reportLine er ∙ rw ea
+    pub accepted-told : (how : Acceptance) → answer ≡ verdict.Accepted how → x ≡ verdictLine answer
+    accepted-told how ea = h ∙ ap reportLine er ∙ rw ea
 
     pub failed-told : (f : Failure) → answer ≡ verdict.Failed f → x ≡ verdictLine answer
     failed-told f ea = h ∙ ap reportLine er ∙ rw ea

@@ -1,12 +1,14 @@
--- The lines of answers: "The answers are `load 0`, `open N`, `accepted N`, `failed N`, `verdict` and the report's five numbers, `measure` or
--- `loop S` and the numbers of all places, `drop 0`, and `turned down N`." A number is decimal, without zeros in front; each line ends with byte 10.
--- A measure's line is put in pieces; that they are the line is proved in proofs/Pieces.
+-- The lines of answers: "The answers are `load 0`, `open N`, `accepted N` or `accepted3 N`, `failed N`, `verdict` and the report's five
+-- numbers, `measure` or `loop S` and the numbers of all places, `drop 0`, and `turned down N`." A number is decimal, without zeros in
+-- front; each line ends with byte 10. A measure's line is put in pieces; that they are the line is proved in proofs/Pieces.
 use Prim.Native.Nat.{ℕ, _<_}
 use mathlib.Core.Path.{_≡_}
 use mathlib.Core.Bool.{Bool, true, false}
 use mathlib.Core.List.{List, [], _∷_, _++_}
 use lib.ListN.{length, drop}
 use Rattle.verdicts.specs.declared.Report.{Report}
+use Rattle.verdicts.specs.declared.Acceptance.{Acceptance}
+use Rattle.verdicts.specs.declared.Acceptance.the-variants.{AsIs, AfterInternal}
 use Rattle.answers.specs.declared.Done.{Done}
 use Rattle.answers.specs.declared.Done.the-variants as done
 use Rattle.answers.specs.declared.Advance.{Advance}
@@ -29,12 +31,13 @@ loadWord = 108 ∷ 111 ∷ 97 ∷ 100 ∷ []
 abbrev pub dropWord : List ℕ
 dropWord = 100 ∷ 114 ∷ 111 ∷ 112 ∷ []
 
--- "open ", "accepted ", "failed ", "turned down "
+-- "open ", "accepted ", "accepted3 ", "failed ", "turned down "
 abbrev pub openWord : List ℕ
 openWord = 111 ∷ 112 ∷ 101 ∷ 110 ∷ 32 ∷ []
 
-abbrev pub acceptedWord : List ℕ
-acceptedWord = 97 ∷ 99 ∷ 99 ∷ 101 ∷ 112 ∷ 116 ∷ 101 ∷ 100 ∷ 32 ∷ []
+abbrev pub acceptedWord : Acceptance → List ℕ
+acceptedWord AsIs = 97 ∷ 99 ∷ 99 ∷ 101 ∷ 112 ∷ 116 ∷ 101 ∷ 100 ∷ 32 ∷ []
+acceptedWord AfterInternal = 97 ∷ 99 ∷ 99 ∷ 101 ∷ 112 ∷ 116 ∷ 101 ∷ 100 ∷ 51 ∷ 32 ∷ []
 
 abbrev pub failedWord : List ℕ
 failedWord = 102 ∷ 97 ∷ 105 ∷ 108 ∷ 101 ∷ 100 ∷ 32 ∷ []
@@ -64,7 +67,7 @@ doneLine word (done.TurnedDown k) = numbered turnedDownWords k
 
 abbrev pub advanceLine : Advance → List ℕ
 advanceLine (advance.Open k) = numbered openWord k
-advanceLine (advance.Accepted k) = numbered acceptedWord k
+advanceLine (advance.Accepted how k) = numbered (acceptedWord how) k
 advanceLine (advance.Failed k) = numbered failedWord k
 advanceLine (advance.TurnedDown k) = numbered turnedDownWords k
 
@@ -76,7 +79,7 @@ abbrev pub reportLine : Report → List ℕ
 reportLine r = verdictWord ++ (next (r .verdict) ++ (next (r .number) ++ (next (r .state) ++ (next (r .row) ++ (next (r .sum) ++ (10 ∷ []))))))
 
 abbrev pub verdictLine : Verdict → List ℕ
-verdictLine verdict.Accepted = reportLine (verdictNumbers verdict.Accepted)
+verdictLine (verdict.Accepted how) = reportLine (verdictNumbers (verdict.Accepted how))
 verdictLine (verdict.Failed f) = reportLine (verdictNumbers (verdict.Failed f))
 verdictLine (verdict.TurnedDown k) = numbered turnedDownWords k
 

@@ -1,11 +1,13 @@
-// A desk call's answer as a line: `load 0`, `open N`, `accepted N`, `failed N`, `verdict` and the report's five numbers, `measure` or `loop S`
-// and the numbers of all places, `drop 0`, and `turned down N`; and the lines with which a list of calls ends early. Each is put at the start
-// of what is lent, and its length is answered; the lines are in specs/Answers, one equation for every answer. The line of a measure may be
-// long, and is put in pieces: its head, then places, as many as there is room for, until there are no more, then byte 10.
+// A desk call's answer as a line: `load 0`, `open N`, `accepted N` or `accepted3 N`, `failed N`, `verdict` and the report's five numbers,
+// `measure` or `loop S` and the numbers of all places, `drop 0`, and `turned down N`; and the lines with which a list of calls ends early.
+// Each is put at the start of what is lent, and its length is answered; the lines are in specs/Answers, one equation for every answer. The
+// line of a measure may be long, and is put in pieces: its head, then places, as many as there is room for, until there are no more, then
+// byte 10.
 use answers::Advance;
 use answers::Done;
 use answers::Measured;
 use answers::Verdict;
+use verdicts::Acceptance;
 use verdicts::Report;
 ghost use Prim.Native.Nat.{_+_, _≤_};
 ghost use mathlib.Core.Path.{_≡_};
@@ -13,7 +15,7 @@ ghost use mathlib.Core.List.{[], _∷_, _++_};
 ghost use lib.ListN.{length, take};
 ghost use Rattle.io.specs.Counts.{Counts};
 ghost use Rattle.call_lines.specs.Number.{decimalOf};
-ghost use Rattle.answer_lines.specs.Answers.{loadWord, dropWord, loopWord, doneLine, advanceLine, reportLine, verdictLine, measureHead, placesFollow, IsPiece, stopLine};
+ghost use Rattle.answer_lines.specs.Answers.{loadWord, dropWord, loopWord, numbered, doneLine, acceptedWord, advanceLine, reportLine, verdictLine, measureHead, placesFollow, IsPiece, stopLine};
 
 // Room for every line, and for a piece of a measure's with hundreds of places.
 pub const ROOM: usize = 4096;
@@ -64,7 +66,7 @@ pub fn put_advance(line: &mut [u8; ROOM], answer: Advance) -> usize
 {
     match answer {
         Advance::Open(count) => put_numbered(line, b"open ", count as u64),
-        Advance::Accepted(count) => put_numbered(line, b"accepted ", count as u64),
+        Advance::Accepted(how, count) => put_accepted(line, how, count),
         Advance::Failed(count) => put_numbered(line, b"failed ", count as u64),
         Advance::TurnedDown(number) => put_numbered(line, b"turned down ", number as u64),
     }
@@ -76,7 +78,7 @@ pub fn put_verdict(line: &mut [u8; ROOM], answer: Verdict) -> usize
     ensures { λ r. ⌜ take r (now (line .exit)) ≡ verdictLine answer ⌝ }
 {
     match answer {
-        Verdict::Accepted => put_report(line, answers::verdict_numbers(answer)),
+        Verdict::Accepted(_) => put_report(line, answers::verdict_numbers(answer)),
         Verdict::Failed(_) => put_report(line, answers::verdict_numbers(answer)),
         Verdict::TurnedDown(number) => put_numbered(line, b"turned down ", number as u64),
     }
@@ -164,6 +166,16 @@ fn put_done(line: &mut [u8; ROOM], word: &[u8], answer: Done) -> usize
             put(line, a, b" 0\n")
         }
         Done::TurnedDown(number) => put_numbered(line, b"turned down ", number as u64),
+    }
+}
+
+fn put_accepted(line: &mut [u8; ROOM], how: Acceptance, count: usize) -> usize
+    ensures { λ r. ⌜ Counts r (now (line .exit)) ⌝ }
+    ensures { λ r. ⌜ take r (now (line .exit)) ≡ numbered (acceptedWord how) count ⌝ }
+{
+    match how {
+        Acceptance::AsIs => put_numbered(line, b"accepted ", count as u64),
+        Acceptance::AfterInternal => put_numbered(line, b"accepted3 ", count as u64),
     }
 }
 

@@ -2,16 +2,17 @@
 use Prim.Native.Nat.{ℕ}
 use mathlib.Core.Path.{_≡_}
 use mathlib.Core.Logic.{_≢_}
-use mathlib.Core.Bool.{Bool, true, false}
 use borrow.Author.Tests.{ne-eqb}
+use Rattle.verdicts.specs.declared.Acceptance.{Acceptance}
 use Rattle.verdicts.specs.declared.Failure.{Failure}
-use Rattle.verdicts.specs.declared.Outcome.{Outcome}
-use Rattle.verdicts.specs.declared.Outcome.the-variants.{Pass, Fail}
+use Rattle.verdicts.specs.declared.Report.{Report}
+use Rattle.verdicts.specs.Report.{report, acceptedNumber}
 use Rattle.answers.specs.declared.Phase.{Phase}
 use Rattle.answers.specs.declared.Phase.the-variants as phase
 use Rattle.answers.specs.declared.Advance.the-variants as advance
+use Rattle.answers.specs.declared.Verdict.{Verdict}
 use Rattle.answers.specs.declared.Verdict.the-variants as verdict
-use Rattle.answers.specs.Answers.{advanceNumber, toldBy, answerAfter, phaseAfter}
+use Rattle.answers.specs.Answers.{verdictNumbers, advanceNumber, toldBy, advancedTo}
 
 module _ (p : Phase) where
   pub by-none : (n : ℕ) → p ≡ phase.Open → n ≡ 0 → 8 ≡ advanceNumber p n
@@ -20,19 +21,29 @@ module _ (p : Phase) where
   pub by-some : (n : ℕ) → p ≡ phase.Open → n ≢ 0 → 0 ≡ advanceNumber p n
   by-some n h e = rw (h, ne-eqb n 0 e)
 
-  pub told-failed : (f : Failure) → p ≡ phase.Failed f → verdict.Failed f ≡ toldBy p
-  told-failed f h = rw h
+  pub advanced-open : (count : ℕ) → p ≡ phase.Open → advance.Open count ≡ advancedTo p count
+  advanced-open count h = rw h
 
-module _ (o : Outcome) (ended : Bool) where
-  pub phase-failed : (f : Failure) → o ≡ Fail f → phase.Failed f ≡ phaseAfter o ended
-  phase-failed f h = rw h
+  module _ (how : Acceptance) (h : p ≡ phase.Accepted how) where
+    pub told-accepted : verdict.Accepted how ≡ toldBy p
+    told-accepted = rw h
 
-  module _ (count : ℕ) where
-    pub answer-failed : (f : Failure) → o ≡ Fail f → advance.Failed count ≡ answerAfter o ended count
-    answer-failed f h = rw h
+    pub advanced-accepted : (count : ℕ) → advance.Accepted how count ≡ advancedTo p count
+    advanced-accepted count = rw h
 
-    pub answer-accepted : o ≡ Pass → ended ≡ true → advance.Accepted count ≡ answerAfter o ended count
-    answer-accepted h e = rw (h, e)
+  module _ (f : Failure) (h : p ≡ phase.Failed f) where
+    pub told-failed : verdict.Failed f ≡ toldBy p
+    told-failed = rw h
 
-    pub answer-open : o ≡ Pass → ended ≡ false → advance.Open count ≡ answerAfter o ended count
-    answer-open h e = rw (h, e)
+    pub advanced-failed : (count : ℕ) → advance.Failed count ≡ advancedTo p count
+    advanced-failed count = rw h
+
+module _ (v : Verdict) (r : Report) where
+  pub numbers-accepted : (how : Acceptance) (n : ℕ) → v ≡ verdict.Accepted how → n ≡ acceptedNumber how → r ≡ report n 0 0 0 0 → r ≡ verdictNumbers v
+  numbers-accepted how n h en er = rw (h, er, en)
+
+  pub numbers-failed : (f : Failure) → v ≡ verdict.Failed f → r ≡ report 1 (f .criterion) (f .state) (f .row) (f .sum) → r ≡ verdictNumbers v
+  numbers-failed f h er = rw (h, er)
+
+  pub numbers-refused : (k : ℕ) → v ≡ verdict.TurnedDown k → r ≡ report k 0 0 0 0 → r ≡ verdictNumbers v
+  numbers-refused k h er = rw (h, er)

@@ -1,17 +1,17 @@
-// What a desk call answers, by the phase of its desk and by what a walk over states came to; the crate desk has the arrays. The paper's
-// numbers for each answer are in specs/Answers (01, "The desk", "Turned down by the input" 8, "Turned down by the state").
+// What a desk call answers, by the phase of its desk, or the phase that it leaves it in; the crate desk has the arrays. The paper's numbers
+// for each answer are in specs/Answers (01, "The desk", "Turned down by the input" 8, "Turned down by the state"; 02, order 6).
+use verdicts::Acceptance;
 use verdicts::Failure;
-use verdicts::Outcome;
 use verdicts::Report;
 ghost use mathlib.Core.Path.{_≡_};
-ghost use Rattle.verdicts.specs.Report.{report};
-ghost use Rattle.answers.specs.Answers.{verdictNumbers, loadNumberBy, advanceNumber, emptyNumber, toldBy, answerAfter, phaseAfter};
+ghost use Rattle.verdicts.specs.Report.{report, acceptedNumber};
+ghost use Rattle.answers.specs.Answers.{verdictNumbers, loadNumberBy, advanceNumber, emptyNumber, toldBy, advancedTo};
 
 // What a desk is: empty, open or decided.
 pub enum Phase {
     Empty,
     Open,
-    Accepted,
+    Accepted(Acceptance),
     Failed(Failure),
 }
 
@@ -24,14 +24,14 @@ pub enum Done {
 // The answer of an advance, with how many states it examined; or the number by which it is turned down.
 pub enum Advance {
     Open(usize),
-    Accepted(usize),
+    Accepted(Acceptance, usize),
     Failed(usize),
     TurnedDown(u16),
 }
 
 // The answer of a verdict; or the number by which it is turned down.
 pub enum Verdict {
-    Accepted,
+    Accepted(Acceptance),
     Failed(Failure),
     TurnedDown(u16),
 }
@@ -50,7 +50,7 @@ pub fn load_number(phase: Phase) -> u16
     match phase {
         Phase::Empty => 0,
         Phase::Open => 12,
-        Phase::Accepted => 12,
+        Phase::Accepted(_) => 12,
         Phase::Failed(_) => 12,
     }
 }
@@ -62,7 +62,7 @@ pub fn advance_number(phase: Phase, n: u64) -> u16
     match phase {
         Phase::Empty => 11,
         Phase::Open => { if n == 0 { 8 } else { 0 } }
-        Phase::Accepted => 14,
+        Phase::Accepted(_) => 14,
         Phase::Failed(_) => 14,
     }
 }
@@ -74,7 +74,7 @@ pub fn empty_number(phase: Phase) -> u16
     match phase {
         Phase::Empty => 11,
         Phase::Open => 0,
-        Phase::Accepted => 0,
+        Phase::Accepted(_) => 0,
         Phase::Failed(_) => 0,
     }
 }
@@ -86,34 +86,21 @@ pub fn verdict_of(phase: Phase) -> Verdict
     match phase {
         Phase::Empty => Verdict::TurnedDown(11),
         Phase::Open => Verdict::TurnedDown(13),
-        Phase::Accepted => Verdict::Accepted,
+        Phase::Accepted(how) => Verdict::Accepted(how),
         Phase::Failed(failure) => Verdict::Failed(failure),
     }
 }
 
-// The answer of an advance, after a walk over count states; `ended` if none is left.
-pub fn answer_after(outcome: Outcome, ended: bool, count: usize) -> Advance
-    ensures { λ r. ⌜ r ≡ answerAfter outcome ended count ⌝ }
+// The answer of an advance that is done: it examined count states, and leaves the desk in this phase. None leaves an empty desk, where an
+// advance is turned down.
+pub fn advance_of(phase: Phase, count: usize) -> Advance
+    ensures { λ r. ⌜ r ≡ advancedTo phase count ⌝ }
 {
-    match outcome {
-        Outcome::Fail(_) => Advance::Failed(count),
-        Outcome::Pass => {
-            if ended {
-                Advance::Accepted(count)
-            } else {
-                Advance::Open(count)
-            }
-        }
-    }
-}
-
-// The phase that it leaves the desk in.
-pub fn phase_after(outcome: Outcome, ended: bool) -> Phase
-    ensures { λ r. ⌜ r ≡ phaseAfter outcome ended ⌝ }
-{
-    match outcome {
-        Outcome::Fail(failure) => Phase::Failed(failure),
-        Outcome::Pass => { if ended { Phase::Accepted } else { Phase::Open } }
+    match phase {
+        Phase::Empty => Advance::TurnedDown(11),
+        Phase::Open => Advance::Open(count),
+        Phase::Accepted(how) => Advance::Accepted(how, count),
+        Phase::Failed(_) => Advance::Failed(count),
     }
 }
 
@@ -122,9 +109,19 @@ pub fn verdict_numbers(verdict: Verdict) -> Report
     ensures { λ r. ⌜ r ≡ verdictNumbers verdict ⌝ }
 {
     match verdict {
-        Verdict::Accepted => report_of(0, 0, 0, 0, 0),
+        Verdict::Accepted(how) => report_of(accepted_number(how), 0, 0, 0, 0),
         Verdict::Failed(f) => report_of(1, f.criterion, f.state, f.row, f.sum),
         Verdict::TurnedDown(number) => report_of(number, 0, 0, 0, 0),
+    }
+}
+
+// The report's verdict where a design is accepted.
+fn accepted_number(how: Acceptance) -> u16
+    ensures { λ r. ⌜ r ≡ acceptedNumber how ⌝ }
+{
+    match how {
+        Acceptance::AsIs => 0,
+        Acceptance::AfterInternal => 3,
     }
 }
 

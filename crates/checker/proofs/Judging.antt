@@ -13,25 +13,28 @@ use Rattle.reader.specs.Text.{fieldsByLine}
 use Rattle.verdicts.specs.declared.Report.{Report}
 use Rattle.verdicts.specs.declared.Outcome.{Outcome}
 use Rattle.verdicts.specs.declared.Outcome.the-variants.{Fail}
+use Rattle.verdicts.specs.declared.Acceptance.{Acceptance}
 use Rattle.writer.specs.Put.{put}
 use Rattle.writer.specs.Report as bytes
 use Rattle.writer.proofs.Bytes.{report-first}
 use Rattle.criteria.specs.Design.{Design, states}
 use Rattle.criteria.specs.Failure.{Failure, startFailure}
 use Rattle.decision.specs.Tests.{holds1}
-use Rattle.decision.specs.Verdict.{overStates, checked, byOutcome}
+use Rattle.decision.specs.Verdict.{overStates, checked, acceptanceOf, byOutcome}
 use Rattle.design.specs.Lines.{countsOf, designText}
 use Rattle.design.specs.Loaded.{fieldsHeld, startsHeld}
 use Rattle.loader.specs.Load.{faultOf, heldBy, loadedOf}
 use Rattle.loader.specs.declared.Loaded.{Loaded}
 use Rattle.loader.proofs.Passed.{fault-kept}
+use Rattle.start.specs.Start.{acceptanceIn}
 use Rattle.walk.specs.Told.{said}
 use Rattle.walk.specs.Walk.{checkedIn}
+use Rattle.phases.specs.Phases.{phaseAfter}
 use Rattle.answers.specs.declared.Phase.{Phase}
 use Rattle.answers.specs.declared.Verdict.{Verdict}
-use Rattle.answers.specs.Answers.{verdictNumbers, toldBy, phaseAfter}
+use Rattle.answers.specs.Answers.{verdictNumbers, toldBy}
 use Rattle.checker.specs.OneCall.{refusedReport, designReport, judgedOf, answerOf, bufferAfter}
-use Rattle.checker.proofs.Opened.{start-held, total-held, initial-held, walk-held}
+use Rattle.checker.proofs.Opened.{start-held, accepted-held, total-held, initial-held, walk-held}
 
 -- ---- the check
 
@@ -56,17 +59,18 @@ module _ (text : List ℕ) (l : Loaded) (el : l ≡ loadedOf text) where
   unfolding judgedOf
   judge-refused h r er = er ∙ rw (fault-is, ne-eqb (faultOf text) 0 (λ z. h (fault-is ∙ z)))
 
-  pub judge-loaded : l .fault ≡ 0 → (o : Outcome) → o ≡ checkedIn (l .fields) (l .starts) (l .counts) → (p : Phase) → p ≡ phaseAfter o true
-      → (v : Verdict) → v ≡ toldBy p → (r : Report) → r ≡ verdictNumbers v → r ≡ judgedOf text
+  pub judge-loaded : l .fault ≡ 0 → (o : Outcome) → o ≡ checkedIn (l .fields) (l .starts) (l .counts)
+      → (p : Phase) → p ≡ phaseAfter o true (acceptanceIn (l .fields) (l .starts) (l .counts)) → (v : Verdict) → v ≡ toldBy p
+      → (r : Report) → r ≡ verdictNumbers v → r ≡ judgedOf text
   unfolding judgedOf loadedOf
   judge-loaded z o eo p ep v ev r er =
       let ok : faultOf text ≡ 0 = sym fault-is ∙ z in
       let held : l ≡ heldBy (fieldsByLine text) = el ∙ rw ok in
-      er ∙ rw (ev, ep, eo, held, ok, checked-held text ok) (same-report (checked (designText text)))
+      er ∙ rw (ev, ep, eo, held, ok, checked-held text ok, accepted-held text ok) (same-report (acceptanceOf (designText text)) (checked (designText text)))
     where
-      same-report : (w : first.Outcome Failure) → verdictNumbers (toldBy (phaseAfter (said w) true)) ≡ designReport (byOutcome w)
-      same-report pass = refl
-      same-report (fail x) = refl
+      same-report : (how : Acceptance) (w : first.Outcome Failure) → verdictNumbers (toldBy (phaseAfter (said w) true how)) ≡ designReport (byOutcome how w)
+      same-report how pass = refl
+      same-report how (fail x) = refl
 
 -- ---- the buffer
 

@@ -1,5 +1,5 @@
--- What the arrays that hold a text's lines come to, in the words of the text's design: the start, the number of states, the number of the
--- initial state, and a walk. From here on nothing speaks of arrays.
+-- What the arrays that hold a text's lines come to, in the words of the text's design: the start, how it is accepted, the number of states,
+-- the number of the initial state, and a walk. From here on nothing speaks of arrays.
 use Prim.Native.Nat.{ℕ, _+_, _≤_, min}
 use mathlib.Core.Path.{_≡_, ap, _∙_}
 use mathlib.Core.Bool.{true}
@@ -11,6 +11,7 @@ use Rattle.reader.specs.Text.{fieldsByLine}
 use Rattle.criteria.specs.Design.{Design, sizes, states, stateNumber, initialState}
 use Rattle.criteria.proofs.Parameters.{initial-in-size}
 use Rattle.decision.specs.Tests.{holds1}
+use Rattle.decision.specs.Verdict.{acceptanceOf}
 use Rattle.decision.specs.Examine.{examine}
 use Rattle.design.specs.Lines.{countsOf, designText}
 use Rattle.design.specs.Loaded.{fieldsHeld, startsHeld, designIn}
@@ -18,9 +19,10 @@ use Rattle.design.specs.declared.Counts.{Counts}
 use Rattle.layout.specs.Sizes.{countsFit, stateCountIn, initialNumberIn}
 use Rattle.loader.specs.Load.{faultOf}
 use Rattle.loader.proofs.Passed.{admitted, design-in, counts-allowed}
-use Rattle.start.specs.Start.{startIn}
+use Rattle.start.specs.Start.{startIn, acceptanceIn}
 use Rattle.walk.specs.Walk.{planOf, walkedBy}
 use Rattle.start.proofs.Starting.{start-tried}
+use Rattle.start.proofs.FirstStep.{acceptance-held}
 use Rattle.walk.proofs.Acceptance.{states-walked}
 use Rattle.walk.specs.Told.{saidWalked}
 
@@ -29,6 +31,9 @@ use Rattle.walk.specs.Told.{saidWalked}
 module _ (f s : List ℕ) (c : Counts) (fit : countsFit c ≡ true) (d : Design) (e : designIn f s c ≡ d) where
   start-of : startIn f s c ≡ holds1 d
   start-of = start-tried f s c fit ∙ ap holds1 e
+
+  acceptance-of : acceptanceIn f s c ≡ acceptanceOf d
+  acceptance-of = acceptance-held f s c fit ∙ ap acceptanceOf e
 
   total-of : states d ≤ 65536 → stateCountIn f s c ≡ states d
   unfolding stateCountIn
@@ -70,6 +75,9 @@ module _ (text : List ℕ) (ok : faultOf text ≡ 0) where
 
   pub start-held : startIn f s c ≡ holds1 d
   start-held = start-of f s c (counts-allowed text ok) d (design-in text ok)
+
+  pub accepted-held : acceptanceIn f s c ≡ acceptanceOf d
+  accepted-held = acceptance-of f s c (counts-allowed text ok) d (design-in text ok)
 
   pub total-held : stateCountIn f s c ≡ states d
   total-held = total-of f s c (counts-allowed text ok) d (design-in text ok) few

@@ -5,8 +5,8 @@ use verdicts::Report;
 ghost use mathlib.Core.Path.{_≡_};
 ghost use Rattle.checker.specs.OneCall.{refusedReport, judgedOf, answerOf, bufferAfter};
 
-// Checks a text and writes the report: 0 accepted, 1 failed, 2 turned down; 9 for a report buffer under 31 bytes, which is not
-// written.
+// Checks a text and writes the report: 0 accepted as it is, 1 failed, 2 turned down, 3 accepted after a first internal step; 9 for a report
+// buffer under 31 bytes, which is not written.
 #[no_mangle]
 pub extern "C" fn check_design(text: &[u8], report: &mut [u8]) -> u32
     ensures { λ r. ⌜ r ≡ answerOf (now (text .entry)) (now (report .entry)) ⌝ }
@@ -30,7 +30,7 @@ pub fn judge(text: &[u8]) -> Report
         return turned_down(fault);
     }
     let outcome = walk::check(&loaded.fields, &loaded.starts, loaded.counts);
-    let phase = answers::phase_after(outcome, true);
+    let phase = phases::after(&loaded.fields, &loaded.starts, loaded.counts, outcome, true);
     let verdict = answers::verdict_of(phase);
     answers::verdict_numbers(verdict)
 }

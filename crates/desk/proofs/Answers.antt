@@ -12,8 +12,9 @@ use mir.Val.{Fits}
 use Rattle.layout.specs.Sizes.{stateCountIn}
 use Rattle.loader.specs.declared.Loaded.{Loaded}
 use Rattle.loader.specs.Load.{loadedOf}
-use Rattle.start.specs.Start.{startIn, startFailureIn}
+use Rattle.start.specs.Start.{startIn, startFailureIn, acceptanceIn}
 use Rattle.walk.specs.Walk.{planOf, walkedBy}
+use Rattle.phases.specs.Phases.{phaseAfter}
 use Rattle.verdicts.specs.declared.Failure.{Failure}
 use Rattle.verdicts.specs.declared.Walked.{Walked}
 use Rattle.desk.specs.Answers.{loadNumber, advanceCount}
@@ -25,7 +26,7 @@ use Rattle.answers.specs.declared.Done.the-variants as done
 use Rattle.answers.specs.declared.Advance.{Advance}
 use Rattle.answers.specs.declared.Advance.the-variants as advance
 use Rattle.answers.specs.declared.Verdict.{Verdict}
-use Rattle.answers.specs.Answers.{loadNumberBy, advanceNumber, emptyNumber, toldBy, answerAfter, phaseAfter}
+use Rattle.answers.specs.Answers.{loadNumberBy, advanceNumber, emptyNumber, toldBy, advancedTo}
 use Rattle.desk.specs.declared.Desk.{Desk}
 use Rattle.desk.specs.declared.AfterLoad.{AfterLoad}
 use Rattle.desk.specs.declared.AfterAdvance.{AfterAdvance}
@@ -37,13 +38,13 @@ module _ (d : Desk) where
   load-by : (p : Phase) (text : List ℕ) → loadNumberBy p ≡ 0 → loadEmpty d (loadedOf text) ≡ loadBy p d text
   load-by phase.Empty text h = refl
   load-by phase.Open text h = absurd (omega (arith, h))
-  load-by phase.Accepted text h = absurd (omega (arith, h))
+  load-by (phase.Accepted how) text h = absurd (omega (arith, h))
   load-by (phase.Failed f) text h = absurd (omega (arith, h))
 
   not-loaded-by : (p : Phase) (text : List ℕ) → loadNumberBy p ≢ 0 → notLoaded (loadNumberBy p) d ≡ loadBy p d text
   not-loaded-by phase.Empty text h = absurd (h refl)
   not-loaded-by phase.Open text h = refl
-  not-loaded-by phase.Accepted text h = refl
+  not-loaded-by (phase.Accepted how) text h = refl
   not-loaded-by (phase.Failed f) text h = refl
 
   advance-by : (p : Phase) (n : ℕ) → advanceNumber p n ≡ 0 → examineOpen d n ≡ advanceBy p d n
@@ -54,7 +55,7 @@ module _ (d : Desk) where
       go : (b : Bool) → _≡_ {A = ℕ} (cond b 8 0) 0 → examineOpen d n ≡ cond b (notAdvanced 8 d) (examineOpen d n)
       go true e = absurd (omega (arith, e))
       go false e = refl
-  advance-by phase.Accepted n h = absurd (omega (arith, h))
+  advance-by (phase.Accepted how) n h = absurd (omega (arith, h))
   advance-by (phase.Failed f) n h = absurd (omega (arith, h))
 
   not-advanced-by : (p : Phase) (n : ℕ) → advanceNumber p n ≢ 0 → notAdvanced (advanceNumber p n) d ≡ advanceBy p d n
@@ -65,19 +66,19 @@ module _ (d : Desk) where
       go : (b : Bool) → _≢_ {A = ℕ} (cond b 8 0) 0 → notAdvanced (cond b 8 0) d ≡ cond b (notAdvanced 8 d) (examineOpen d n)
       go true e = refl
       go false e = absurd (e refl)
-  not-advanced-by phase.Accepted n h = refl
+  not-advanced-by (phase.Accepted how) n h = refl
   not-advanced-by (phase.Failed f) n h = refl
 
   drop-by : (p : Phase) → emptyNumber p ≡ 0 → record { answer = done.Done; desk = emptyDesk } ≡ dropBy p d
   drop-by phase.Empty h = absurd (omega (arith, h))
   drop-by phase.Open h = refl
-  drop-by phase.Accepted h = refl
+  drop-by (phase.Accepted how) h = refl
   drop-by (phase.Failed f) h = refl
 
   not-dropped-by : (p : Phase) → emptyNumber p ≢ 0 → record { answer = done.TurnedDown (emptyNumber p); desk = d } ≡ dropBy p d
   not-dropped-by phase.Empty h = refl
   not-dropped-by phase.Open h = absurd (h refl)
-  not-dropped-by phase.Accepted h = absurd (h refl)
+  not-dropped-by (phase.Accepted how) h = absurd (h refl)
   not-dropped-by (phase.Failed f) h = absurd (h refl)
 
   module _ (text : List ℕ) (k : ℕ) (e : k ≡ loadNumberBy (d .phase)) where
@@ -171,8 +172,8 @@ module _ (d : Desk) (n total k : ℕ) (et : total ≡ stateCountIn (d .fields) (
       let most : w .count ≤ k = rw tw (count-within (d .fields) (d .starts) (d .counts) (d .plan) k from) in
       record { fits = omega arith }
 
-  pub examined : (w : Walked) → w ≡ walkedBy (d .fields) (d .starts) (d .counts) (d .plan) k (d .next) → (b : Bool) → b ≡ leb total (d .next + w .count)
-      → (a : Advance) → a ≡ answerAfter (w .outcome) b (w .count) → (p : Phase) → p ≡ phaseAfter (w .outcome) b → (e : Desk) → e ≡ placed d (d .next + w .count) p
-      → record { answer = a; desk = e } ≡ examineNext d n
+  pub examined : (w : Walked) → w ≡ walkedBy (d .fields) (d .starts) (d .counts) (d .plan) k (d .next)
+      → (p : Phase) → p ≡ phaseAfter (w .outcome) (leb total (d .next + w .count)) (acceptanceIn (d .fields) (d .starts) (d .counts))
+      → (a : Advance) → a ≡ advancedTo p (w .count) → (e : Desk) → e ≡ placed d (d .next + w .count) p → record { answer = a; desk = e } ≡ examineNext d n
   unfolding examineNext walkedOn
-  examined w tw b eb a ea p ep e ee = rw (ee, ea, ep, eb, ← et, ← ek, ← tw)
+  examined w tw p ep a ea e ee = rw (ee, ea, ep, ← et, ← ek, ← tw)

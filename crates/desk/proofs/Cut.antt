@@ -12,7 +12,7 @@ use Rattle.desk.specs.Desk.{loadEmpty, loadBy, loadOf}
 load-by : (p : Phase) (d : Desk) (text : List ℕ) → loadBy p d (take 28673 text) ≡ loadBy p d text
 load-by phase.Empty d text = ap (loadEmpty d) (loaded-cut text)
 load-by phase.Open d text = refl
-load-by phase.Accepted d text = refl
+load-by (phase.Accepted how) d text = refl
 load-by (phase.Failed f) d text = refl
 
 pub load-cut : (d : Desk) (text : List ℕ) → loadOf d (take 28673 text) ≡ loadOf d text

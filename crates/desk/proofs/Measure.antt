@@ -35,7 +35,7 @@ module _ (d : Desk) (p : Phase) (k : ℕ) (ep : p ≡ d .phase) (ek : k ≡ empt
       go : (q : Phase) → q ≡ d .phase → k ≡ emptyNumber q → MeasureOf d slice slice (measured.TurnedDown k)
       go phase.Empty e n = subst (λ i. MeasureOf d slice slice (measured.TurnedDown i)) (sym n) (refused-empty (sym e) refl)
       go phase.Open e n = absurd (some n)
-      go phase.Accepted e n = absurd (some n)
+      go (phase.Accepted how) e n = absurd (some n)
       go (phase.Failed f) e n = absurd (some n)
 
   pub measure-on : (before after : List ℕ) (r : Measured) → k ≡ 0 → MeasureIn (d .fields) (d .starts) (d .counts) before after r → MeasureOf d before after r
@@ -69,7 +69,7 @@ answer-there d before = go (d .phase) refl
     go : (p : Phase) → d .phase ≡ p → MeasureFor d before
     go phase.Empty e = record { after = before; answer = measured.TurnedDown 11; is = refused-empty e refl }
     go phase.Open e = made (not-empty d phase.Open e refl)
-    go phase.Accepted e = made (not-empty d phase.Accepted e refl)
+    go (phase.Accepted how) e = made (not-empty d (phase.Accepted how) e refl)
     go (phase.Failed f) e = made (not-empty d (phase.Failed f) e refl)
 
 -- ---- and one only

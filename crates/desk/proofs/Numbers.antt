@@ -8,11 +8,13 @@ use lib.Dec.{eqb, leb}
 use Rattle.layout.specs.Sizes.{stateCountIn}
 use Rattle.loader.specs.Load.{faultOf, loadedOf}
 use Rattle.loader.proofs.Passed.{fault-kept}
-use Rattle.start.specs.Start.{startIn}
+use Rattle.start.specs.Start.{startIn, acceptanceIn}
 use Rattle.walk.specs.Walk.{walkedBy}
+use Rattle.phases.specs.Phases.{phaseAfter}
 use Rattle.verdicts.specs.declared.Outcome.{Outcome}
 use Rattle.verdicts.specs.declared.Outcome.the-variants.{Pass, Fail}
 use Rattle.verdicts.specs.declared.Walked.{Walked}
+use Rattle.verdicts.specs.declared.Acceptance.{Acceptance}
 use Rattle.answers.specs.declared.Phase.{Phase}
 use Rattle.answers.specs.declared.Phase.the-variants as phase
 use Rattle.desk.specs.declared.Desk.{Desk}
@@ -20,9 +22,9 @@ use Rattle.desk.specs.declared.AfterLoad.{AfterLoad}
 use Rattle.desk.specs.declared.AfterAdvance.{AfterAdvance}
 use Rattle.desk.specs.declared.AfterVerdict.{AfterVerdict}
 use Rattle.desk.specs.declared.AfterDrop.{AfterDrop}
-use Rattle.answers.specs.Answers.{doneNumber, refusalNumber, countSaid, verdictNumbers, advanceNumber, verdictNumbersBy, emptyNumber, answerAfter}
+use Rattle.answers.specs.Answers.{doneNumber, refusalNumber, countSaid, verdictNumbers, advanceNumber, verdictNumbersBy, emptyNumber, advancedTo}
 use Rattle.desk.specs.Answers.{loadNumber, countOpen, countBy, advanceCount}
-use Rattle.desk.specs.Desk.{loadEmpty, loadBy, loadOf, afterWalk, walkedOn, failStart, ahead, examineNext, examineOpen, advanceOpen, advanceBy, advanceOf, tellBy, tellOf, dropBy, dropOf}
+use Rattle.desk.specs.Desk.{loadEmpty, loadBy, loadOf, walkedOn, failStart, ahead, examineNext, examineOpen, advanceOpen, advanceBy, advanceOf, tellBy, tellOf, dropBy, dropOf}
 
 -- ---- load
 
@@ -37,7 +39,7 @@ empty-number d text = go (eqb (loadedOf text .fault) 0) refl
 load-by : (p : Phase) (d : Desk) (text : List ℕ) → doneNumber (loadBy p d text .answer) ≡ loadNumber p text
 load-by phase.Empty d text = empty-number d text
 load-by phase.Open d text = refl
-load-by phase.Accepted d text = refl
+load-by (phase.Accepted how) d text = refl
 load-by (phase.Failed f) d text = refl
 
 pub load-number : (d : Desk) (text : List ℕ) (r : AfterLoad) → r ≡ loadOf d text → doneNumber (r .answer) ≡ loadNumber (d .phase) text
@@ -46,20 +48,17 @@ load-number d text r e = ap (λ (x : AfterLoad). doneNumber (x .answer)) e ∙ l
 
 -- ---- advance
 
-walked-number : (o : Outcome) (d : Desk) (count at total : ℕ) → refusalNumber (afterWalk o d count at total .answer) ≡ 0
-walked-number o d count at total = go o (leb total at)
-  where
-    go : (o : Outcome) (b : Bool) → refusalNumber (answerAfter o b count) ≡ 0
-    go (Fail f) b = refl
-    go Pass true = refl
-    go Pass false = refl
+walked-number : (o : Outcome) (b : Bool) (how : Acceptance) (count : ℕ) → refusalNumber (advancedTo (phaseAfter o b how) count) ≡ 0
+walked-number (Fail f) b how count = refl
+walked-number Pass true how count = refl
+walked-number Pass false how count = refl
 
 next-number : (d : Desk) (n : ℕ) → refusalNumber (examineNext d n .answer) ≡ 0
 unfolding examineNext walkedOn
 next-number d n =
     let total : ℕ = stateCountIn (d .fields) (d .starts) (d .counts) in
     let w : Walked = walkedBy (d .fields) (d .starts) (d .counts) (d .plan) (ahead n (d .next) total) (d .next) in
-    walked-number (w .outcome) d (w .count) (d .next + w .count) total
+    walked-number (w .outcome) (leb total (d .next + w .count)) (acceptanceIn (d .fields) (d .starts) (d .counts)) (w .count)
 
 start-number : (d : Desk) → refusalNumber (failStart d .answer) ≡ 0
 unfolding failStart
@@ -81,7 +80,7 @@ open-number d n = go (eqb n 0) refl
 advance-by : (p : Phase) (d : Desk) (n : ℕ) → refusalNumber (advanceBy p d n .answer) ≡ advanceNumber p n
 advance-by phase.Empty d n = refl
 advance-by phase.Open d n = open-number d n
-advance-by phase.Accepted d n = refl
+advance-by (phase.Accepted how) d n = refl
 advance-by (phase.Failed f) d n = refl
 
 pub advance-number : (d : Desk) (n : ℕ) (r : AfterAdvance) → r ≡ advanceOf d n → refusalNumber (r .answer) ≡ advanceNumber (d .phase) n
@@ -90,13 +89,10 @@ advance-number d n r e = ap (λ (x : AfterAdvance). refusalNumber (x .answer)) e
 
 -- ---- how many states an advance examines
 
-walked-count : (o : Outcome) (d : Desk) (count at total : ℕ) → countSaid (afterWalk o d count at total .answer) ≡ count
-walked-count o d count at total = go o (leb total at)
-  where
-    go : (o : Outcome) (b : Bool) → countSaid (answerAfter o b count) ≡ count
-    go (Fail f) b = refl
-    go Pass true = refl
-    go Pass false = refl
+walked-count : (o : Outcome) (b : Bool) (how : Acceptance) (count : ℕ) → countSaid (advancedTo (phaseAfter o b how) count) ≡ count
+walked-count (Fail f) b how count = refl
+walked-count Pass true how count = refl
+walked-count Pass false how count = refl
 
 next-count : (d : Desk) (n : ℕ)
     → countSaid (examineNext d n .answer)
@@ -105,7 +101,7 @@ unfolding examineNext walkedOn ahead
 next-count d n =
     let total : ℕ = stateCountIn (d .fields) (d .starts) (d .counts) in
     let w : Walked = walkedBy (d .fields) (d .starts) (d .counts) (d .plan) (min n (total - d .next)) (d .next) in
-    walked-count (w .outcome) d (w .count) (d .next + w .count) total
+    walked-count (w .outcome) (leb total (d .next + w .count)) (acceptanceIn (d .fields) (d .starts) (d .counts)) (w .count)
 
 start-count : (d : Desk) → countSaid (failStart d .answer) ≡ 0
 unfolding failStart
@@ -128,7 +124,7 @@ open-count d n = go (eqb n 0) refl
 count-by : (p : Phase) (d : Desk) (n : ℕ) → countSaid (advanceBy p d n .answer) ≡ countBy p d n
 count-by phase.Empty d n = refl
 count-by phase.Open d n = open-count d n
-count-by phase.Accepted d n = refl
+count-by (phase.Accepted how) d n = refl
 count-by (phase.Failed f) d n = refl
 
 pub advance-count : (d : Desk) (n : ℕ) (r : AfterAdvance) → r ≡ advanceOf d n → countSaid (r .answer) ≡ advanceCount d n
@@ -140,7 +136,7 @@ advance-count d n r e = ap (λ (x : AfterAdvance). countSaid (x .answer)) e ∙ 
 told-by : (p : Phase) (d : Desk) → verdictNumbers (tellBy p d .answer) ≡ verdictNumbersBy p
 told-by phase.Empty d = refl
 told-by phase.Open d = refl
-told-by phase.Accepted d = refl
+told-by (phase.Accepted how) d = refl
 told-by (phase.Failed f) d = refl
 
 pub verdict-numbers : (d : Desk) (r : AfterVerdict) → r ≡ tellOf d → verdictNumbers (r .answer) ≡ verdictNumbersBy (d .phase)
@@ -152,7 +148,7 @@ verdict-numbers d r e = ap (λ (x : AfterVerdict). verdictNumbers (x .answer)) e
 drop-by : (p : Phase) (d : Desk) → doneNumber (dropBy p d .answer) ≡ emptyNumber p
 drop-by phase.Empty d = refl
 drop-by phase.Open d = refl
-drop-by phase.Accepted d = refl
+drop-by (phase.Accepted how) d = refl
 drop-by (phase.Failed f) d = refl
 
 pub drop-number : (d : Desk) (r : AfterDrop) → r ≡ dropOf d → doneNumber (r .answer) ≡ emptyNumber (d .phase)

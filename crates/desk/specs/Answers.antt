@@ -18,7 +18,7 @@ use Rattle.desk.specs.declared.Desk.{Desk}
 abbrev pub loadNumber : Phase → List ℕ → ℕ
 loadNumber phase.Empty text = faultOf text
 loadNumber phase.Open text = 12
-loadNumber phase.Accepted text = 12
+loadNumber (phase.Accepted how) text = 12
 loadNumber (phase.Failed f) text = 12
 
 -- ---- how many states an advance examines
@@ -37,7 +37,7 @@ countOpen d n =
 abbrev pub countBy : Phase → Desk → ℕ → ℕ
 countBy phase.Empty d n = 0
 countBy phase.Open d n = cond (eqb n 0) 0 (countOpen d n)
-countBy phase.Accepted d n = 0
+countBy (phase.Accepted how) d n = 0
 countBy (phase.Failed f) d n = 0
 
 unfoldable pub advanceCount : Desk → ℕ → ℕ

@@ -1,5 +1,5 @@
--- The desk (01, "The desk", "Turned down by the input" 8, "Turned down by the state"): what each call answers and the desk it leaves,
--- for every desk and every argument. A desk here is any record of that type; which desks there are in a list of calls is in the
+-- The desk (01, "The desk", "Turned down by the input" 8, "Turned down by the state"; 02, order 6): what each call answers and the desk it
+-- leaves, for every desk and every argument. A desk here is any record of that type; which desks there are in a list of calls is in the
 -- crate claims. What loading a text comes to is in loader/specs/Load, what a walk over states in walk/specs.
 use Prim.Native.Nat.{ℕ, _+_, _-_, min}
 use mathlib.Core.Path.{_≡_}
@@ -14,16 +14,15 @@ use Rattle.design.specs.Loaded.{fieldsHeld, startsHeld}
 use Rattle.layout.specs.Sizes.{stateCountIn}
 use Rattle.loader.specs.declared.Loaded.{Loaded}
 use Rattle.loader.specs.Load.{loadedOf}
-use Rattle.start.specs.Start.{startIn, startFailureIn}
+use Rattle.start.specs.Start.{startIn, startFailureIn, acceptanceIn}
 use Rattle.walk.specs.Walk.{planOf, walkedBy}
+use Rattle.phases.specs.Phases.{phaseAfter}
 use Rattle.verdicts.specs.declared.Walked.{Walked}
-use Rattle.verdicts.specs.declared.Outcome.{Outcome}
 use Rattle.answers.specs.declared.Phase.{Phase}
 use Rattle.answers.specs.declared.Phase.the-variants as phase
-use Rattle.answers.specs.declared.Done.{Done}
 use Rattle.answers.specs.declared.Done.the-variants as done
 use Rattle.answers.specs.declared.Advance.the-variants as advance
-use Rattle.answers.specs.Answers.{toldBy, answerAfter, phaseAfter}
+use Rattle.answers.specs.Answers.{toldBy, advancedTo}
 use Rattle.desk.specs.declared.Desk.{Desk}
 use Rattle.desk.specs.declared.AfterLoad.{AfterLoad}
 use Rattle.desk.specs.declared.AfterAdvance.{AfterAdvance}
@@ -67,7 +66,7 @@ loadEmpty d l = cond (eqb (l .fault) 0) (record { answer = done.Done; desk = ope
 abbrev pub loadBy : Phase → Desk → List ℕ → AfterLoad
 loadBy phase.Empty d text = loadEmpty d (loadedOf text)
 loadBy phase.Open d text = notLoaded 12 d
-loadBy phase.Accepted d text = notLoaded 12 d
+loadBy (phase.Accepted how) d text = notLoaded 12 d
 loadBy (phase.Failed f) d text = notLoaded 12 d
 
 unfoldable pub loadOf : Desk → List ℕ → AfterLoad
@@ -88,14 +87,14 @@ failStart d =
     let failure = startFailureIn (d .fields) (d .starts) (d .counts) in
     record { answer = advance.Failed 0; desk = placed d 0 (phase.Failed failure) }
 
--- "The check is decided when a criterion fails or the last state is done."
-abbrev pub afterWalk : Outcome → Desk → ℕ → ℕ → ℕ → AfterAdvance
-afterWalk o d count at total =
-    let ended = leb total at in
-    record { answer = answerAfter o ended count; desk = placed d at (phaseAfter o ended) }
+-- an advance over count states leaves the desk at this state, in this phase
+abbrev pub leftAt : Desk → ℕ → ℕ → Phase → AfterAdvance
+leftAt d count at p = record { answer = advancedTo p count; desk = placed d at p }
 
 unfoldable pub walkedOn : Desk → Walked → ℕ → AfterAdvance
-walkedOn d w total = afterWalk (w .outcome) d (w .count) (d .next + w .count) total
+walkedOn d w total =
+    let at = d .next + w .count in
+    leftAt d (w .count) at (phaseAfter (w .outcome) (leb total at) (acceptanceIn (d .fields) (d .starts) (d .counts)))
 
 unfoldable pub examineNext : Desk → ℕ → AfterAdvance
 examineNext d n =
@@ -118,7 +117,7 @@ advanceOpen d n = cond (eqb n 0) (notAdvanced 8 d) (examineOpen d n)
 abbrev pub advanceBy : Phase → Desk → ℕ → AfterAdvance
 advanceBy phase.Empty d n = notAdvanced 11 d
 advanceBy phase.Open d n = advanceOpen d n
-advanceBy phase.Accepted d n = notAdvanced 14 d
+advanceBy (phase.Accepted how) d n = notAdvanced 14 d
 advanceBy (phase.Failed f) d n = notAdvanced 14 d
 
 unfoldable pub advanceOf : Desk → ℕ → AfterAdvance
@@ -137,7 +136,7 @@ tellOf d = tellBy (d .phase) d
 abbrev pub dropBy : Phase → Desk → AfterDrop
 dropBy phase.Empty d = record { answer = done.TurnedDown 11; desk = d }
 dropBy phase.Open d = record { answer = done.Done; desk = emptyDesk }
-dropBy phase.Accepted d = record { answer = done.Done; desk = emptyDesk }
+dropBy (phase.Accepted how) d = record { answer = done.Done; desk = emptyDesk }
 dropBy (phase.Failed f) d = record { answer = done.Done; desk = emptyDesk }
 
 unfoldable pub dropOf : Desk → AfterDrop

@@ -266,9 +266,10 @@ impl Desk {
         let count = walked.count;
         let at = next + count;
         let ended = total <= at;
+        let phase = phases::after(&self.fields, &self.starts, self.counts, outcome, ended);
         AfterAdvance {
-            answer: answers::answer_after(outcome, ended, count),
-            desk: self.placed(at, answers::phase_after(outcome, ended)),
+            answer: answers::advance_of(phase, count),
+            desk: self.placed(at, phase),
         }
     }
 

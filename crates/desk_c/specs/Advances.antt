@@ -8,7 +8,7 @@ use Rattle.desk.specs.Desk.{advanceOf}
 
 abbrev pub isOpen : Advance → Bool
 isOpen (advance.Open count) = true
-isOpen (advance.Accepted count) = false
+isOpen (advance.Accepted how count) = false
 isOpen (advance.Failed count) = false
 isOpen (advance.TurnedDown number) = false
 

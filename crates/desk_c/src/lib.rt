@@ -50,7 +50,7 @@ fn stays_open(answer: Advance) -> bool
 {
     match answer {
         Advance::Open(_) => true,
-        Advance::Accepted(_) => false,
+        Advance::Accepted(_, _) => false,
         Advance::Failed(_) => false,
         Advance::TurnedDown(_) => false,
     }

@@ -1,11 +1,11 @@
 // Makes a list of desk calls, one a line of standard input, on one desk, and writes a line with the answer of each.
 //
 // A call is `load N`, followed by N bytes of text and a byte 10; `advance N`; `verdict`; `measure N`, in N places that hold 65535 before;
-// `drop`. N is decimal, 1 to 20 digits, up to the largest u64. The answers are `load 0`, `open N`, `accepted N`, `failed N`, `verdict` and the
-// report's five numbers, `measure` or `loop S` and the numbers of all places, `drop 0`, and `turned down N`. A line that is no call, a text
-// that is not there in full, and a measure in more than 131,072 places end the program with a line that has the number of the call's line; the
-// lines of the texts are not counted. Where standard input can't be read or an answer can't be written the program ends with a line on
-// standard error, and makes no more calls.
+// `drop`. N is decimal, 1 to 20 digits, up to the largest u64. The answers are `load 0`, `open N`, `accepted N` or, after a first internal
+// step, `accepted3 N`, `failed N`, `verdict` and the report's five numbers, `measure` or `loop S` and the numbers of all places, `drop 0`,
+// and `turned down N`. A line that is no call, a text that is not there in full, and a measure in more than 131,072 places end the program
+// with a line that has the number of the call's line; the lines of the texts are not counted. Where standard input can't be read or an
+// answer can't be written the program ends with a line on standard error, and makes no more calls.
 //
 // A line and a text are read by call_input; what a line says is in call_lines, what a call answers in calls and its line in answer_lines.
 use answer_lines::Stop;

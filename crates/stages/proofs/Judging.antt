@@ -36,14 +36,14 @@ loaded-fault d text z = rw (ne-eqb (faultOf text) 0 z) (rw (ne-eqb (faultOf text
 
 -- ---- the verdict of a decided desk
 
-tell-at : (desk : Desk) {p : Phase} → desk .phase ≡ p → tellOf desk .answer ≡ tellBy p desk .answer
+pub tell-at : (desk : Desk) {p : Phase} → desk .phase ≡ p → tellOf desk .answer ≡ tellBy p desk .answer
 unfolding tellOf
 tell-at desk e = ap (λ p. tellBy p desk .answer) e
 
 pub decided-answer : (text : List ℕ) (desk : Desk) → Stage text desk → desk .phase ≢ phase.Open → tellOf desk .answer ≡ saidVerdict (verdictOf (designText text))
 decided-answer text desk (fresh h e z) o = absurd (o e)
 decided-answer text desk (going h e l u p) o = absurd (o e)
-decided-answer text desk (accepts h e v) o = rw (tell-at desk e, v)
+decided-answer text desk (accepts how h e v) o = rw (tell-at desk e, v)
 decided-answer text desk (fails x h e v) o = rw (tell-at desk e, v)
 
 pub decided-report : (text : List ℕ) (desk : Desk) → Stage text desk → desk .phase ≢ phase.Open
@@ -51,5 +51,5 @@ pub decided-report : (text : List ℕ) (desk : Desk) → Stage text desk → des
 decided-report text desk s o = rw (decided-answer text desk s o) (same-report (verdictOf (designText text)))
   where
     same-report : (v : criteria.Verdict) → verdictNumbers (saidVerdict v) ≡ designReport v
-    same-report accepted = refl
+    same-report (accepted how) = refl
     same-report (failed x) = refl

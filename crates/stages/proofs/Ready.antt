@@ -5,16 +5,17 @@ use mathlib.Core.List.{List}
 use Rattle.foundation.specs.Walk.{walk}
 use Rattle.criteria.specs.Design.{Design, states, stateNumber, initialState}
 use Rattle.decision.specs.Tests.{holds1}
+use Rattle.decision.specs.Verdict.{acceptanceOf}
 use Rattle.decision.specs.Examine.{examine}
 use Rattle.design.specs.Lines.{designText}
 use Rattle.layout.specs.Sizes.{stateCountIn, initialNumberIn}
 use Rattle.loader.specs.Load.{faultOf}
-use Rattle.start.specs.Start.{startIn}
+use Rattle.start.specs.Start.{startIn, acceptanceIn}
 use Rattle.walk.specs.Walk.{planOf, walkedBy}
 use Rattle.walk.specs.Told.{saidWalked}
 use Rattle.desk.specs.Desk.{HoldsText}
 use Rattle.desk.specs.declared.Desk.{Desk}
-use Rattle.checker.proofs.Opened.{start-held, total-held, initial-held, walk-held}
+use Rattle.checker.proofs.Opened.{start-held, accepted-held, total-held, initial-held, walk-held}
 
 -- the text has no fault, the desk holds its lines, and its plan is that of its arrays
 pub record Ready (text : List ℕ) (desk : Desk) : Type 0 where
@@ -31,6 +32,9 @@ module _ (text : List ℕ) (desk : Desk) (r : Ready text desk) where
 
   pub start-is : startIn (desk .fields) (desk .starts) (desk .counts) ≡ holds1 d
   start-is = rw (h .fields-are, h .starts-are, h .counts-are) (start-held text (r .free))
+
+  pub acceptance-is : acceptanceIn (desk .fields) (desk .starts) (desk .counts) ≡ acceptanceOf d
+  acceptance-is = rw (h .fields-are, h .starts-are, h .counts-are) (accepted-held text (r .free))
 
   pub total-is : stateCountIn (desk .fields) (desk .starts) (desk .counts) ≡ states d
   total-is = rw (h .fields-are, h .starts-are, h .counts-are) (total-held text (r .free))

@@ -16,27 +16,28 @@ use Rattle.foundation.proofs.Radix.{number-below}
 use Rattle.criteria.specs.Design.{Design, sizes, states, initialState}
 use Rattle.criteria.proofs.Parameters.{initial-in-size}
 use Rattle.criteria.specs.Failure.{Failure, startFailure}
-use Rattle.criteria.specs.Verdict.{Verdict, accepted, failed}
+use Rattle.criteria.specs.Verdict.{Acceptance, Verdict, accepted, failed}
 use Rattle.decision.specs.Tests.{holds1}
 use Rattle.decision.specs.Examine.{examine}
-use Rattle.decision.specs.Verdict.{verdictOf}
+use Rattle.decision.specs.Verdict.{acceptanceOf, verdictOf}
 use Rattle.decision.proofs.Progress.{Progress, begins, goes-on, ends-at-start, ends-well, ends-badly, fails-at, fails-later}
 use Rattle.design.specs.Lines.{designText}
 use Rattle.layout.specs.Sizes.{initialNumberIn}
 use Rattle.loader.proofs.Passed.{admitted}
 use Rattle.walk.specs.Told.{said}
+use Rattle.phases.specs.Phases.{phaseAfter}
 use Rattle.verdicts.specs.declared.Outcome.the-variants.{Pass}
 use Rattle.answers.specs.declared.Phase.{Phase}
 use Rattle.answers.specs.declared.Phase.the-variants as phase
 use Rattle.answers.specs.declared.Advance.the-variants as advance
 use Rattle.desk.specs.declared.Desk.{Desk}
 use Rattle.desk.specs.declared.AfterAdvance.{AfterAdvance}
-use Rattle.answers.specs.Answers.{countSaid, Decided, answerAfter, phaseAfter}
+use Rattle.answers.specs.Answers.{countSaid, Decided}
 use Rattle.answers.specs.Answers as answers
 use Rattle.stages.specs.Count.{stopOf, decidedBy, dueOf, Due}
 use Rattle.stages.proofs.Examined.{examined}
-use Rattle.desk.specs.Desk.{placed, ahead, failStart, afterWalk, walkedOn, examineNext, examineOpen, advanceOpen, advanceBy, advanceOf}
-use Rattle.stages.proofs.Ready.{Ready, start-is, total-is, initial-is, walk-is}
+use Rattle.desk.specs.Desk.{placed, ahead, failStart, leftAt, walkedOn, examineNext, examineOpen, advanceOpen, advanceBy, advanceOf}
+use Rattle.stages.proofs.Ready.{Ready, start-is, acceptance-is, total-is, initial-is, walk-is}
 
 pub data Stage (text : List ℕ) (desk : Desk) : Type 0 where
   -- loaded, nothing tried
@@ -45,7 +46,7 @@ pub data Stage (text : List ℕ) (desk : Desk) : Type 0 where
   going : Ready text desk → desk .phase ≡ phase.Open → 0 < desk .next → desk .next < states (designText text)
       → Progress (designText text) (desk .next) → Stage text desk
   -- decided, and rightly
-  accepts : Ready text desk → desk .phase ≡ phase.Accepted → verdictOf (designText text) ≡ accepted → Stage text desk
+  accepts : (how : Acceptance) → Ready text desk → desk .phase ≡ phase.Accepted how → verdictOf (designText text) ≡ accepted how → Stage text desk
   fails : (x : Failure) → Ready text desk → desk .phase ≡ phase.Failed x → verdictOf (designText text) ≡ failed x → Stage text desk
 
 -- the same arrays
@@ -55,20 +56,26 @@ moved n p h =
     record { free = h .free; held = record { fields-are = t .fields-are; starts-are = t .starts-are; counts-are = t .counts-are }; plan-is = h .plan-is }
 
 -- answers and phases are told apart
-failed-answer : {j k : ℕ} → advance.Failed j ≡ advance.Accepted k → ⊥
+failed-answer : {j k : ℕ} {how : Acceptance} → advance.Failed j ≡ advance.Accepted how k → ⊥
 failed-answer q = let z : _≡_ {A = ℕ} 0 1 = cc in omega arith
 
-open-answer : {j k : ℕ} → advance.Open j ≡ advance.Accepted k → ⊥
+open-answer : {j k : ℕ} {how : Acceptance} → advance.Open j ≡ advance.Accepted how k → ⊥
 open-answer q = let z : _≡_ {A = ℕ} 0 1 = cc in omega arith
 
 failed-phase : {f : Failure} → phase.Failed f ≡ phase.Open → ⊥
 failed-phase q = let z : _≡_ {A = ℕ} 0 1 = cc in omega arith
 
-accepted-phase : phase.Accepted ≡ phase.Open → ⊥
+accepted-phase : {how : Acceptance} → phase.Accepted how ≡ phase.Open → ⊥
 accepted-phase q = let z : _≡_ {A = ℕ} 0 1 = cc in omega arith
 
-not-accepted : {f : Failure} → phase.Failed f ≡ phase.Accepted → ⊥
+not-accepted : {f : Failure} {how : Acceptance} → phase.Failed f ≡ phase.Accepted how → ⊥
 not-accepted q = let z : _≡_ {A = ℕ} 0 1 = cc in omega arith
+
+same-answer : {a b : Acceptance} {j k : ℕ} → advance.Accepted a j ≡ advance.Accepted b k → a ≡ b
+same-answer q = cc
+
+same-phase : {a b : Acceptance} → phase.Accepted a ≡ phase.Accepted b → a ≡ b
+same-phase q = cc
 
 -- ---- how many are examined
 
@@ -124,9 +131,9 @@ stop-failed d x o = rw (ne-eqb (x .criterion) 1 o)
 pub record AdvanceDue (text : List ℕ) (desk : Desk) (n : ℕ) (r : AfterAdvance) : Type 0 where
   pub stage : Stage text (r .desk)
   -- "accepted" is answered only for an accepted design
-  pub accepted-is : (k : ℕ) → r .answer ≡ advance.Accepted k → verdictOf (designText text) ≡ accepted
+  pub accepted-is : (how : Acceptance) (k : ℕ) → r .answer ≡ advance.Accepted how k → verdictOf (designText text) ≡ accepted how
   -- and where the desk says so, this call answered it
-  pub says-accepted : r .desk .phase ≡ phase.Accepted → (k : ℕ) × (r .answer ≡ advance.Accepted k)
+  pub says-accepted : (how : Acceptance) → r .desk .phase ≡ phase.Accepted how → (k : ℕ) × (r .answer ≡ advance.Accepted how k)
   -- a walk over all that remain decides
   pub ends : states (designText text) ≤ desk .next + n → r .desk .phase ≢ phase.Open
   -- one that doesn't examines n
@@ -155,8 +162,8 @@ module _ (text : List ℕ) (desk : Desk) (h : Ready text desk) where
       let f : Phase = phase.Failed (record { criterion = 1; state = initialNumberIn (desk .fields) (desk .starts) (desk .counts); row = 0; sum = 0 }) in
       record {
         stage = fails (startFailure d) (moved 0 f h) (rw (initial-is text desk h)) (ends-at-start d e);
-        accepted-is = λ k q. absurd (failed-answer q);
-        says-accepted = λ q. absurd (not-accepted q);
+        accepted-is = λ how k q. absurd (failed-answer q);
+        says-accepted = λ how q. absurd (not-accepted q);
         ends = λ _ q. failed-phase q;
         opens = λ q. absurd (failed-phase q);
         counts = rw (unstarted d m e, unstarted d (m + n) e);
@@ -188,7 +195,7 @@ module _ (text : List ℕ) (desk : Desk) (h : Ready text desk) where
     goes-due all l q = rw all (due-open d (verdictOf d) m n (before (verdictOf d) refl))
       where
         before : (v : Verdict) → verdictOf d ≡ v → m + n < stopOf d v
-        before accepted e = l
+        before (accepted how) e = l
         before (failed x) e =
             let t = fails-later d (admitted text (h .free)) (m + ahead-of n) x q (omega arith) e in
             let later = t .0 in
@@ -196,12 +203,13 @@ module _ (text : List ℕ) (desk : Desk) (h : Ready text desk) where
             omega arith
 
     walked-by : (o : Outcome Failure) → walk (examine d) (ahead-of n) m .outcome ≡ o
-        → AdvanceDue text desk n (afterWalk (said o) desk (walk (examine d) (ahead-of n) m .count) (m + walk (examine d) (ahead-of n) m .count) (states d))
+        → AdvanceDue text desk n (leftAt desk (walk (examine d) (ahead-of n) m .count) (m + walk (examine d) (ahead-of n) m .count)
+        (phaseAfter (said o) (leb (states d) (m + walk (examine d) (ahead-of n) m .count)) (acceptanceOf d)))
     walked-by (fail x) e =
         record {
           stage = fails x (moved _ _ h) refl (ends-badly d m (ahead-of n) x p (omega arith) e);
-          accepted-is = λ j q. absurd (failed-answer q);
-          says-accepted = λ q. absurd (not-accepted q);
+          accepted-is = λ how j q. absurd (failed-answer q);
+          says-accepted = λ how q. absurd (not-accepted q);
           ends = λ _ q. failed-phase q;
           opens = λ q. absurd (failed-phase q);
           counts = sums;
@@ -214,27 +222,27 @@ module _ (text : List ℕ) (desk : Desk) (h : Ready text desk) where
         rw count (passed (leb (states d) (m + ahead-of n)) refl (goes-on d m (ahead-of n) p e) (rw count at sum))
       where
         passed : (done : Bool) → leb (states d) (m + ahead-of n) ≡ done → Progress d (m + ahead-of n) → examined d m + ahead-of n ≡ examined d (m + n)
-            → AdvanceDue text desk n (record { answer = answerAfter Pass done (ahead-of n); desk = placed desk (m + ahead-of n) (phaseAfter Pass done) })
+            → AdvanceDue text desk n (leftAt desk (ahead-of n) (m + ahead-of n) (phaseAfter Pass done (acceptanceOf d)))
         passed true l q sum =
             let g = leb-true (states d) (m + ahead-of n) l in
             let all : m + ahead-of n ≡ states d = omega arith in
-            let ended : verdictOf d ≡ accepted = ends-well d (rw all at q) in
+            let ended : verdictOf d ≡ accepted (acceptanceOf d) = ends-well d (rw all at q) in
             record {
-              stage = accepts (moved _ _ h) refl ended;
-              accepted-is = λ j _. ended;
-              says-accepted = λ _. (ahead-of n, refl);
+              stage = accepts (acceptanceOf d) (moved _ _ h) refl ended;
+              accepted-is = λ how j r. ended ∙ ap accepted (same-answer r);
+              says-accepted = λ how r. (ahead-of n, ap (λ a. advance.Accepted a (ahead-of n)) (same-phase r));
               ends = λ _ r. accepted-phase r;
               opens = λ r. absurd (accepted-phase r);
               counts = sum;
               rests = λ _ j. over d (m + n) j (omega arith);
-              due = rw ended (due-decided d accepted m n (ahead-of n) phase.Accepted (omega arith) (omega arith) answers.accepted);
+              due = rw ended (due-decided d (accepted (acceptanceOf d)) m n (ahead-of n) (phase.Accepted (acceptanceOf d)) (omega arith) (omega arith) (answers.accepted (acceptanceOf d)));
             }
         passed false l q sum =
             let g = leb-false (states d) (m + ahead-of n) l in
             record {
               stage = going (moved _ _ h) refl (omega arith) g q;
-              accepted-is = λ j r. absurd (open-answer r);
-              says-accepted = λ r. absurd (accepted-phase (sym r));
+              accepted-is = λ how j r. absurd (open-answer r);
+              says-accepted = λ how r. absurd (accepted-phase (sym r));
               ends = λ b r. absurd (omega arith);
               opens = λ _. omega arith;
               counts = sum;
@@ -245,7 +253,7 @@ module _ (text : List ℕ) (desk : Desk) (h : Ready text desk) where
     examines : AdvanceDue text desk n (examineNext desk n)
     unfolding examineNext walkedOn ahead
     examines =
-        rw (total-is text desk h, walk-is text desk h (ahead-of n) m (omega arith)) (walked-by (walk (examine d) (ahead-of n) m .outcome) refl)
+        rw (total-is text desk h, acceptance-is text desk h, walk-is text desk h (ahead-of n) m (omega arith)) (walked-by (walk (examine d) (ahead-of n) m .outcome) refl)
 
 -- ---- an advance by one state or more, on a desk that is open
 

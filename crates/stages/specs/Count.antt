@@ -1,4 +1,4 @@
--- How many states a check examines, and what an advance answers (01, "The desk"), from the verdict on the design.
+-- How many states a check examines, and what an advance answers (01, "The desk"; 02, order 6), from the verdict on the design.
 use Prim.Native.Nat.{ℕ, suc, _+_, _-_, _≤_, _<_}
 use mathlib.Core.Path.{_≡_}
 use mathlib.Core.Bool.{cond}
@@ -13,15 +13,16 @@ use Rattle.answers.specs.declared.Advance.the-variants as advance
 
 -- "The check is decided when a criterion fails or the last state is done": how many are examined till then
 abbrev pub stopOf : Design → Verdict → ℕ
-stopOf d accepted = states d
+stopOf d (accepted how) = states d
 stopOf d (failed x) = cond (eqb (x .criterion) 1) 0 (suc (x .state))
 
 -- what the call that decides answers
 abbrev pub decidedBy : Verdict → ℕ → Advance
-decidedBy accepted k = advance.Accepted k
+decidedBy (accepted how) k = advance.Accepted how k
 decidedBy (failed x) k = advance.Failed k
 
--- "Advance returns open, accepted or failed, and how many states it examined": by n states, at least one, after m
+-- "Advance returns open, accepted or failed, and how many states it examined", accepted one way or the other: by n states, at least one,
+-- after m
 unfoldable pub dueOf : Design → Verdict → ℕ → ℕ → Advance
 dueOf d v m n = let stop = stopOf d v in cond (ltb (m + n) stop) (advance.Open n) (decidedBy v (stop - m))
 

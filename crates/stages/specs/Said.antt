@@ -4,5 +4,5 @@ use Rattle.answers.specs.declared.Verdict.{Verdict}
 use Rattle.answers.specs.declared.Verdict.the-variants as verdict
 
 abbrev pub saidVerdict : criteria.Verdict → Verdict
-saidVerdict criteria.accepted = verdict.Accepted
+saidVerdict (criteria.accepted how) = verdict.Accepted how
 saidVerdict (criteria.failed x) = verdict.Failed x

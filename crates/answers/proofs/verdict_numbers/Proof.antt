@@ -1,5 +1,6 @@
 -- `verdict_numbers` goes by the case of the verdict.
 use borrow.Author.Needs.{needs}
+use Rattle.answers.proofs.Laws as laws
 use Rattle.answers.proofs.verdict_numbers.Statement.{statement}
 use Rattle.answers.proofs.verdict_numbers.Tie as tie
 
@@ -9,10 +10,11 @@ verdict-numbers-spec =
     (tie.spec
     (λ c. search needs)
     (λ c κs. search needs)
-    (λ c. search needs)
     (λ c κs. search needs)
     (λ c. search needs)
     (λ c κs. search needs)
-    (λ c. rw (c .before .enum-told .given .1, c .report-of .ensures))
-    (λ c. rw (c .before .before .verdict .given .1, c .report-of2 .ensures))
-    (λ c. rw (c .before .before .verdict2 .given .1, c .report-of3 .ensures)))
+    (λ c. search needs)
+    (λ c κs. search needs)
+    (λ c. search laws.numbers-accepted)
+    (λ c. search laws.numbers-failed)
+    (λ c. search laws.numbers-refused))

@@ -1,4 +1,4 @@
--- `told` goes by the phase.
+-- `verdict_of` goes by the phase.
 use borrow.Author.Needs.{needs}
 use Rattle.answers.proofs.Laws as laws
 use Rattle.answers.proofs.verdict_of.Statement.{statement}
@@ -14,5 +14,5 @@ verdict-of-spec =
     (λ c. search needs)
     (λ c. search needs)
     (λ c. search needs)
-    (λ c. search needs)
+    (λ c. search laws.told-accepted)
     (λ c. search laws.told-failed))

@@ -1,4 +1,4 @@
--- `Desk::examine_next` walks over what is ahead.
+-- `Desk::examine_next` walks over what is ahead: the facts of its six calls, from the first on.
 use borrow.Author.Needs.{needs}
 use Rattle.desk.proofs.Answers as answers
 use Rattle.desk.proofs.Desk.examine_next.Statement.{statement}
@@ -15,4 +15,9 @@ examine-next-spec =
     (λ c κs. search needs)
     (λ c κs. search needs)
     (λ c κs. search needs)
-    (λ c. search answers.examined))
+    (λ c.
+    let phase = c .before .before in
+    let walk = phase .before .before .before .before .before in
+    let ahead = walk .before .before .before .before .before .before in
+    answers.examined _ _ _ _ (ahead .before .state-count .ensures) (ahead .ahead .ensures) _ (walk .walk .ensures) _ (phase .after .ensures) _
+    (c .before .advance-of .ensures) _ (c .placed .ensures)))
