@@ -1,16 +1,17 @@
 -- A design text that meets every criterion is accepted both ways: by every check and every list of calls that goes to the end, and there
 -- are such.
 use Prim.Native.Nat.{ℕ, _+_, _≤_}
-use mathlib.Core.Path.{_≡_, refl, sym, ap, _∙_}
+use mathlib.Core.Path.{_≡_, refl, sym, ap, _∙_, subst}
 use mathlib.Core.List.{List, [], _∷_}
 use native.Mathlib.Omega.{arith}
 use lib.ListN.{length}
 use Rattle.foundation.specs.Walk.{total}
 use Rattle.criteria.specs.Design.{states}
 use Rattle.criteria.specs.Criteria.{Meets}
-use Rattle.criteria.specs.Verdict.{accepted}
+use Rattle.verdicts.specs.Report.{acceptedNumber}
+use Rattle.criteria.specs.Verdict.{Acceptance, accepted}
 use Rattle.decision.specs.Verdict.{verdictOf}
-use Rattle.decision.proofs.Demand2.{demand2}
+use Rattle.decision.proofs.Demand2.{demand2, same-way}
 use Rattle.design.specs.Lines.{designText}
 use Rattle.design.specs.Faults.{DesignText}
 use Rattle.loader.specs.Load.{faultOf}
@@ -23,7 +24,7 @@ use Rattle.desk.specs.declared.AfterLoad.{AfterLoad}
 use Rattle.checker.specs.OneCall.{designReport}
 use Rattle.stages.proofs.Stages.{Stage, fresh, going, accepts, fails}
 use Rattle.stages.proofs.Judging.{loaded-free}
-use Rattle.claims.specs.Calls.{Called, load, advance, AcceptedIn, Walked, LoadThen}
+use Rattle.claims.specs.Calls.{Called, load, advance, AcceptedAs, Walked, LoadThen}
 use Rattle.claims.specs.Calls as calls
 use Rattle.claims.specs.Contracts.{News, Loads, Checks, Calls, new, then-load, then-advance}
 use Rattle.claims.specs.Demand3.{AcceptedBy, Among}
@@ -79,28 +80,32 @@ module _ (text : List ℕ) (t : DesignText text) where
   -- ---- of a design that meets the criteria
 
   module _ (m : Meets (designText text)) where
-    passes : verdictOf (designText text) ≡ accepted
-    passes = demand2 (designText text) (admitted text free) .accepts .1 m
+    how : Acceptance
+    how = demand2 (designText text) (admitted text free) .accepts .1 m .0
 
-    every-check : {report after : List ℕ} {r : ℕ} → Checks text report r after → 31 ≤ length report → r ≡ 0
+    passes : verdictOf (designText text) ≡ accepted how
+    unfolding how
+    passes = demand2 (designText text) (admitted text free) .accepts .1 m .1
+
+    every-check : {report after : List ℕ} {r : ℕ} → Checks text report r after → 31 ≤ length report → r ≡ acceptedNumber how
     every-check {report} c l = answered c ∙ long-answer text report l ∙ ap (λ r. r .verdict) (judged-free text free) ∙ ap (λ v. designReport v .verdict) passes
 
-    a-check : (report : List ℕ) → 31 ≤ length report → (after : List ℕ) × Checks text report 0 after
+    a-check : (report : List ℕ) → 31 ≤ length report → (after : List ℕ) × Checks text report (acceptedNumber how) after
     a-check report l =
         let a = answered-all .check text report in
         let c = a .2 in
         (a .1, rw (every-check c l) at c)
 
-    every-list : {cs : List Called} {d : Desk} {n k : ℕ} → Calls cs d → Walked cs text n k → states (designText text) ≤ n → AcceptedIn cs text
+    every-list : {cs : List Called} {d : Desk} {n k : ℕ} → Calls cs d → Walked cs text n k → states (designText text) ≤ n → AcceptedAs how cs text
     every-list {cs} {d} c w l = let r = reached c w in by-stage r (r .stage) (decided r l)
       where
-        by-stage : {n k : ℕ} → Reached cs text d n k → Stage text d → (d .phase ≡ phase.Open → ⊥) → AcceptedIn cs text
+        by-stage : {n k : ℕ} → Reached cs text d n k → Stage text d → (d .phase ≡ phase.Open → ⊥) → AcceptedAs how cs text
         by-stage r (fresh h e z) o = absurd (o e)
         by-stage r (going h e a b p) o = absurd (o e)
-        by-stage r (accepts h e v) o = r .accepted-in e
+        by-stage r (accepts a h e v) o = subst (λ w. AcceptedAs w cs text) (same-way (sym v ∙ passes)) (r .accepted-in a e)
         by-stage r (fails x h e v) o = let q = sym passes ∙ v in let z : _≡_ {A = ℕ} 0 1 = cc in absurd (omega arith)
 
-    a-list : (ns : List ℕ) → states (designText text) ≤ total ns → AcceptedBy text ns
+    a-list : (ns : List ℕ) → states (designText text) ≤ total ns → AcceptedBy how text ns
     a-list ns l =
         let c = there ns in
         let w = walks (c .is) in
@@ -108,4 +113,4 @@ module _ (text : List ℕ) (t : DesignText text) where
         record { calls = c .calls-made; desk = c .desk; made = c .made; is = c .is; accepted = every-list (c .made) (w .walked) (omega arith) }
 
     pub among : Among text
-    among = record { check = a-check; every-check = every-check; list = a-list; every-list = every-list }
+    among = record { how = how; check = a-check; every-check = every-check; list = a-list; every-list = every-list }

@@ -13,7 +13,7 @@ use Rattle.criteria.specs.Failure.{Failure}
 use Rattle.criteria.specs.Verdict.{Verdict, accepted, failed}
 use Rattle.decision.specs.Tests.{holds1}
 use Rattle.decision.specs.Examine.{examine}
-use Rattle.decision.specs.Verdict.{verdictOf}
+use Rattle.decision.specs.Verdict.{acceptanceOf, verdictOf}
 use Rattle.decision.proofs.Progress.{Progress, begins, goes-on, ends-at-start, ends-well, ends-badly, fails-at, fails-later}
 use Rattle.stages.specs.Count.{stopOf}
 use Rattle.stages.proofs.Examined.{examined}
@@ -29,14 +29,14 @@ module _ (d : Design) (a : Admitted d) (m : ℕ) where
 
   -- the states so far pass
   all-passed : (v : Verdict) → verdictOf d ≡ v → Progress d j → j ≡ min m (stopOf d v)
-  all-passed accepted e p = refl
+  all-passed (accepted how) e p = refl
   all-passed (failed x) e p = by-size (leb (states d) m) refl
     where
       by-size : (b : Bool) → leb (states d) m ≡ b → j ≡ min m (stopOf d (failed x))
       by-size true l =
           let g = leb-true (states d) m l in
           let whole : j ≡ states d = omega arith in
-          let well : accepted ≡ failed x = sym (ends-well d (rw whole at p)) ∙ e in
+          let well : accepted (acceptanceOf d) ≡ failed x = sym (ends-well d (rw whole at p)) ∙ e in
           let z : _≡_ {A = ℕ} 0 1 = cc in
           absurd (omega arith)
       by-size false l =

@@ -6,6 +6,7 @@ use native.Mathlib.Omega.{arith}
 use lib.ListN.{length}
 use Rattle.reader.specs.Text.{fieldsByLine}
 use Rattle.criteria.specs.Bisimilar.{Demand3}
+use Rattle.criteria.specs.Verdict.{Acceptance}
 use Rattle.criteria.specs.Unmarked.{Unmarked}
 use Rattle.criteria.proofs.Demand3.{demand3}
 use Rattle.criteria.proofs.Unmarked.{unmarked-all, meets-same, lowest-same, demand3-plain}
@@ -19,16 +20,17 @@ use Rattle.claims.proofs.OneCall.{check-accepts}
 use Rattle.claims.proofs.Kept.{Accepts, accepted-verdict}
 use Rattle.claims.proofs.Among.{among}
 
-verdicts : {text : List ℕ} → Accepted text → Accepts text
-verdicts (by-desk c a) = accepted-verdict c a
-verdicts (by-one-call c) = check-accepts c
+verdicts : {text : List ℕ} → Accepted text → (how : Acceptance) × Accepts how text
+verdicts (by-desk c (how, a)) = (how, accepted-verdict c a)
+verdicts (by-one-call how c) = (how, check-accepts how c refl)
 
 keeps : (text : List ℕ) → Accepted text → DesignText text × Demand3 (designText text)
 keeps text a =
-    let v = verdicts a in
+    let w = verdicts a in
+    let v = w .1 in
     let d = designText text in
     let adm = admitted text (v .free) in
-    (is-design-text text (v .free), demand3 d adm (demand2 d adm .accepts .0 (v .verdict-is)))
+    (is-design-text text (v .free), demand3 d adm (demand2 d adm .accepts .0 (w .0, v .verdict-is)))
 
 -- a text without a kind 8 line has a design without marks
 unmarked : (text : List ℕ) → countOf 8 (fieldsByLine text) ≡ 0 → Unmarked (designText text)

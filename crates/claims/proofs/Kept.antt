@@ -9,12 +9,11 @@ use mathlib.Core.List.{List, _∷_, nil≢cons}
 use native.Mathlib.Omega.{arith}
 use borrow.Author.Tests.{eqb-true, eqb-false, eq-eqb}
 use lib.Dec.{eqb}
-use Rattle.criteria.specs.Verdict.{accepted}
+use Rattle.criteria.specs.Verdict.{Acceptance, accepted}
 use Rattle.decision.specs.Verdict.{verdictOf}
 use Rattle.loader.specs.Load.{faultOf, loadedOf}
 use Rattle.answers.specs.declared.Phase.{Phase}
 use Rattle.answers.specs.declared.Phase.the-variants as phase
-use Rattle.answers.specs.declared.Done.{Done}
 use Rattle.answers.specs.declared.Done.the-variants as done
 use Rattle.answers.specs.declared.Advance.the-variants as progress
 use Rattle.answers.specs.declared.Measured.{Measured}
@@ -24,7 +23,7 @@ use Rattle.desk.specs.Desk.{loadEmpty, loadBy, loadOf, notAdvanced, advanceOpen
 use Rattle.design.specs.Lines.{designText}
 use Rattle.stages.proofs.Stages.{Stage, fresh, going, accepts, fails, AdvanceDue, advance-fresh, advance-going}
 use Rattle.stages.proofs.Judging.{opened-stage, loaded-free, loaded-fault}
-use Rattle.claims.specs.Calls.{Called, load, advance, verdict, measure, drop, NoLoad, refused, advanced, told, measured, dropped, LastLoad, here, before, AcceptedIn}
+use Rattle.claims.specs.Calls.{Called, load, advance, verdict, measure, drop, NoLoad, refused, advanced, told, measured, dropped, LastLoad, here, before, AcceptedAs}
 use Rattle.claims.specs.Calls as calls
 use Rattle.claims.specs.Contracts.{Calls, new, then-load, then-advance, then-verdict, then-measure, then-drop}
 use Rattle.claims.proofs.Lists.{loaded-as, made-by, earlier, apart, same-advance}
@@ -72,7 +71,7 @@ load-kept : {cs : List Called} {d : Desk} (text : List ℕ) → Kept cs d → Ke
 load-kept {cs} {d} text (empty e) = rw (load-at d text e) (load-empty cs d text e _ refl)
 load-kept {d = d} text (holds l (fresh h e z)) = rw (load-at d text e) (keeps (refused (λ z. omega arith)) l (fresh h e z))
 load-kept {d = d} text (holds l (going h e a b p)) = rw (load-at d text e) (keeps (refused (λ z. omega arith)) l (going h e a b p))
-load-kept {d = d} text (holds l (accepts h e v)) = rw (load-at d text e) (keeps (refused (λ z. omega arith)) l (accepts h e v))
+load-kept {d = d} text (holds l (accepts how h e v)) = rw (load-at d text e) (keeps (refused (λ z. omega arith)) l (accepts how h e v))
 load-kept {d = d} text (holds l (fails x h e v)) = rw (load-at d text e) (keeps (refused (λ z. omega arith)) l (fails x h e v))
 
 -- ---- advance
@@ -85,16 +84,16 @@ pub by-none : (d : Desk) (n : ℕ) → n ≡ 0 → advanceOpen d n ≡ notAdvanc
 unfolding advanceOpen
 by-none d n z = rw (eq-eqb n 0 z)
 
-refused-none : {k j : ℕ} → progress.TurnedDown k ≡ progress.Accepted j → ⊥
+refused-none : {k j : ℕ} {how : Acceptance} → progress.TurnedDown k ≡ progress.Accepted how j → ⊥
 refused-none e = let z : _≡_ {A = ℕ} 0 1 = cc in omega arith
 
 -- what an advance leaves, and that accepted is answered only for an accepted design
 pub record Advanced (text : List ℕ) (r : AfterAdvance) : Type 0 where
   pub stage : Stage text (r .desk)
-  pub accepted-is : (k : ℕ) → r .answer ≡ progress.Accepted k → verdictOf (designText text) ≡ accepted
+  pub accepted-is : (how : Acceptance) (k : ℕ) → r .answer ≡ progress.Accepted how k → verdictOf (designText text) ≡ accepted how
 
 stays : (text : List ℕ) (d : Desk) (k : ℕ) → Stage text d → Advanced text (notAdvanced k d)
-stays text d k s = record { stage = s; accepted-is = λ j e. absurd (refused-none e) }
+stays text d k s = record { stage = s; accepted-is = λ how j e. absurd (refused-none e) }
 
 goes : {text : List ℕ} {d : Desk} {n : ℕ} {r : AfterAdvance} → AdvanceDue text d n r → Advanced text r
 goes a = record { stage = a .stage; accepted-is = a .accepted-is }
@@ -107,7 +106,7 @@ open-by text d n false z e s go = goes (go (eqb-false n 0 z))
 pub advance-stage : (text : List ℕ) (d : Desk) (n : ℕ) → Stage text d → Advanced text (advanceOf d n)
 advance-stage text d n (fresh h e z) = open-by text d n _ refl e (fresh h e z) (λ some. advance-fresh text d n some h e z)
 advance-stage text d n (going h e a b p) = open-by text d n _ refl e (going h e a b p) (λ some. advance-going text d n some h e a b p)
-advance-stage text d n (accepts h e v) = rw (advance-at d n e) (stays text d 14 (accepts h e v))
+advance-stage text d n (accepts how h e v) = rw (advance-at d n e) (stays text d 14 (accepts how h e v))
 advance-stage text d n (fails x h e v) = rw (advance-at d n e) (stays text d 14 (fails x h e v))
 
 advance-kept : {cs : List Called} {d : Desk} (n : ℕ) → Kept cs d → Kept (advance n (advanceOf d n .answer) ∷ cs) (advanceOf d n .desk)
@@ -119,7 +118,7 @@ advance-kept {d = d} n (holds {text = text} l s) = keeps advanced l (advance-sta
 pub tell-desk : (d : Desk) (p : Phase) → tellBy p d .desk ≡ d
 tell-desk d phase.Empty = refl
 tell-desk d phase.Open = refl
-tell-desk d phase.Accepted = refl
+tell-desk d (phase.Accepted how) = refl
 tell-desk d (phase.Failed f) = refl
 
 verdict-kept : {cs : List Called} {d : Desk} → Kept cs d → Kept (verdict (tellOf d .answer) ∷ cs) (tellOf d .desk)
@@ -134,7 +133,7 @@ measure-kept (holds l s) = keeps measured l s
 drop-empty : (d : Desk) (p : Phase) → d .phase ≡ p → dropBy p d .desk .phase ≡ phase.Empty
 drop-empty d phase.Empty e = e
 drop-empty d phase.Open e = refl
-drop-empty d phase.Accepted e = refl
+drop-empty d (phase.Accepted how) e = refl
 drop-empty d (phase.Failed f) e = refl
 
 drop-kept : {cs : List Called} (d : Desk) → Kept (drop (dropOf d .answer) ∷ cs) (dropOf d .desk)
@@ -153,29 +152,30 @@ kept (then-drop {d = d} c e) = rw (e .0) (drop-kept d)
 
 -- ---- a text accepted in a list
 
--- the text was loaded without fault, and the verdict on its design is acceptance
-pub record Accepts (text : List ℕ) : Type 0 where
+-- the text was loaded without fault, and the verdict on its design is acceptance, in this way
+pub record Accepts (how : Acceptance) (text : List ℕ) : Type 0 where
   pub free : faultOf text ≡ 0
-  pub verdict-is : verdictOf (designText text) ≡ accepted
+  pub verdict-is : verdictOf (designText text) ≡ accepted how
 
 free-of : {text : List ℕ} {d : Desk} → Stage text d → faultOf text ≡ 0
 free-of (fresh h e z) = h .free
 free-of (going h e a b p) = h .free
-free-of (accepts h e v) = h .free
+free-of (accepts how h e v) = h .free
 free-of (fails x h e v) = h .free
 
-accepted-at : {cs : List Called} {d : Desk} {text : List ℕ} (n k : ℕ) → Kept cs d → LastLoad cs text → advanceOf d n .answer ≡ progress.Accepted k → Accepts text
+accepted-at : {cs : List Called} {d : Desk} {text : List ℕ} {how : Acceptance} (n k : ℕ) → Kept cs d → LastLoad cs text → advanceOf d n .answer ≡ progress.Accepted how k
+    → Accepts how text
 accepted-at {d = d} n k (empty e) l a = absurd (refused-none (sym (ap (λ r. r .answer) (advance-at d n e)) ∙ a))
-accepted-at {d = d} n k (holds {text = t} m s) l a =
-    rw (last-one l m) (record { free = free-of s; verdict-is = advance-stage t d n s .accepted-is k a })
+accepted-at {d = d} {how = how} n k (holds {text = t} m s) l a =
+    rw (last-one l m) (record { free = free-of s; verdict-is = advance-stage t d n s .accepted-is how k a })
 
-accepted-in : {cs ds : List Called} {d : Desk} {text : List ℕ} → Calls cs d → AcceptedIn ds text → cs ≡ ds → Accepts text
+accepted-in : {cs ds : List Called} {d : Desk} {text : List ℕ} {how : Acceptance} → Calls cs d → AcceptedAs how ds text → cs ≡ ds → Accepts how text
 accepted-in (new e) (calls.here l) q = absurd (nil≢cons q)
 accepted-in (new e) (calls.before a) q = absurd (nil≢cons q)
 accepted-in (then-load c e) (calls.here l) q = absurd (apart q refl)
 accepted-in (then-load c e) (calls.before a) q = accepted-in c a (earlier q)
-accepted-in (then-advance {r = r} n c e) (calls.here {n = m} {k = k} l) q =
-    let answer : r .answer ≡ progress.Accepted k = same-advance q .1 in
+accepted-in {how = how} (then-advance {r = r} n c e) (calls.here {n = m} {k = k} l) q =
+    let answer : r .answer ≡ progress.Accepted how k = same-advance q .1 in
     accepted-at n k (kept c) (rw (earlier q) l) (sym (ap (λ x. x .answer) (e .0)) ∙ answer)
 accepted-in (then-advance n c e) (calls.before a) q = accepted-in c a (earlier q)
 accepted-in (then-verdict c e) (calls.here l) q = absurd (apart q refl)
@@ -185,5 +185,5 @@ accepted-in (then-measure c e) (calls.before a) q = accepted-in c a (earlier q)
 accepted-in (then-drop c e) (calls.here l) q = absurd (apart q refl)
 accepted-in (then-drop c e) (calls.before a) q = accepted-in c a (earlier q)
 
-pub accepted-verdict : {cs : List Called} {d : Desk} {text : List ℕ} → Calls cs d → AcceptedIn cs text → Accepts text
+pub accepted-verdict : {cs : List Called} {d : Desk} {text : List ℕ} {how : Acceptance} → Calls cs d → AcceptedAs how cs text → Accepts how text
 accepted-verdict c a = accepted-in c a refl

@@ -8,6 +8,7 @@ pub mod Counted
 pub mod Demand1
 pub mod Demand2
 pub mod Demand3
+pub mod Rooted
 pub mod Divided
 pub mod Pump
 pub mod PumpByFive

@@ -2,7 +2,7 @@
 use Prim.Native.Nat.{ℕ, _≤_, _<_}
 use mathlib.Core.Path.{_≡_, refl, sym, ap, _∙_, subst}
 use mathlib.Core.Logic.{_≢_, _⊎_, inl, inr}
-use mathlib.Core.Bool.{Bool, true, false, cond, true≢false}
+use mathlib.Core.Bool.{Bool, true, false, cond}
 use mathlib.Core.List.{List}
 use native.Mathlib.Omega.{arith}
 use native.Mathlib.Decide.{decLe}
@@ -195,13 +195,13 @@ module _ (text : List ℕ) (free : faultOf text ≡ 0) where
 ready : {text : List ℕ} {desk : Desk} → Stage text desk → Ready text desk
 ready (fresh h e z) = h
 ready (going h e a b p) = h
-ready (accepts h e v) = h
+ready (accepts how h e v) = h
 ready (fails x h e v) = h
 
 not-empty : {text : List ℕ} {desk : Desk} → Stage text desk → desk .phase ≡ phase.Empty → ⊥
 not-empty (fresh h e z) q = let y = sym e ∙ q in let z : _≡_ {A = ℕ} 0 1 = cc in omega arith
 not-empty (going h e a b p) q = let y = sym e ∙ q in let z : _≡_ {A = ℕ} 0 1 = cc in omega arith
-not-empty (accepts h e v) q = let y = sym e ∙ q in let z : _≡_ {A = ℕ} 0 1 = cc in omega arith
+not-empty (accepts how h e v) q = let y = sym e ∙ q in let z : _≡_ {A = ℕ} 0 1 = cc in omega arith
 not-empty (fails x h e v) q = let y = sym e ∙ q in let z : _≡_ {A = ℕ} 0 1 = cc in omega arith
 
 desk-made : {text before after : List ℕ} {desk : Desk} {r : Measured} → Stage text desk → MeasureOf desk before after r → MadeOf (designText text) before after r

@@ -9,7 +9,9 @@ use borrow.Author.Tests.{eq-eqb, ne-eqb, eqb-true, eqb-false, lt-ltb, le-ltb, lt
 use lib.Dec.{eqb, ltb}
 use lib.ListN.{length, drop}
 use Rattle.writer.specs.Report as bytes
-use Rattle.criteria.specs.Verdict.{Verdict, accepted, failed}
+use Rattle.verdicts.specs.declared.Acceptance.the-variants.{AsIs, AfterInternal}
+use Rattle.verdicts.specs.Report.{acceptedNumber}
+use Rattle.criteria.specs.Verdict.{Acceptance, Verdict, accepted, failed}
 use Rattle.decision.specs.Verdict.{verdictOf}
 use Rattle.design.specs.Lines.{designText}
 use Rattle.loader.specs.Load.{faultOf}
@@ -44,29 +46,40 @@ module _ (text : List ℕ) where
   unfolding judgedOf
   judged-fault e = rw (ne-eqb (faultOf text) 0 e)
 
-  -- 0 is answered only for an accepted design
-  judged-by : (free : Bool) → eqb (faultOf text) 0 ≡ free → judgedOf text .verdict ≡ 0 → Accepts text
-  judged-by true e z = let ok = eqb-true (faultOf text) 0 e in record { free = ok; verdict-is = by-verdict (verdictOf (designText text)) (ap (λ r. r .verdict) (sym (judged-free ok)) ∙ z) }
+  -- 0 and 3 are answered only for a design that is accepted so
+  no-refusal : (how : Acceptance) → 2 ≡ acceptedNumber how → ⊥
+  no-refusal AsIs q = omega arith
+  no-refusal AfterInternal q = omega arith
+
+  no-short : (how : Acceptance) → 9 ≡ acceptedNumber how → ⊥
+  no-short AsIs q = omega arith
+  no-short AfterInternal q = omega arith
+
+  judged-by : (how : Acceptance) (free : Bool) → eqb (faultOf text) 0 ≡ free → judgedOf text .verdict ≡ acceptedNumber how → Accepts how text
+  judged-by how true e z = let ok = eqb-true (faultOf text) 0 e in record { free = ok; verdict-is = by-verdict how (verdictOf (designText text)) (ap (λ r. r .verdict) (sym (judged-free ok)) ∙ z) }
     where
-      by-verdict : (v : Verdict) → designReport v .verdict ≡ 0 → v ≡ accepted
-      by-verdict accepted _ = refl
-      by-verdict (failed x) q = absurd (omega arith)
-  judged-by false e z =
-      let q : _≡_ {A = ℕ} 2 0 = ap (λ r. r .verdict) (sym (judged-fault (eqb-false (faultOf text) 0 e))) ∙ z in
-      absurd (omega arith)
+      by-verdict : (how : Acceptance) (v : Verdict) → designReport v .verdict ≡ acceptedNumber how → v ≡ accepted how
+      by-verdict AsIs (accepted AsIs) _ = refl
+      by-verdict AsIs (accepted AfterInternal) q = absurd (omega arith)
+      by-verdict AsIs (failed x) q = absurd (omega arith)
+      by-verdict AfterInternal (accepted AsIs) q = absurd (omega arith)
+      by-verdict AfterInternal (accepted AfterInternal) _ = refl
+      by-verdict AfterInternal (failed x) q = absurd (omega arith)
+  judged-by how false e z = absurd (no-refusal how (ap (λ r. r .verdict) (sym (judged-fault (eqb-false (faultOf text) 0 e))) ∙ z))
 
-  answer-by : (report : List ℕ) (short : Bool) → ltb (length report) 31 ≡ short → answerOf text report ≡ 0 → Accepts text
-  answer-by report true e z = let q : _≡_ {A = ℕ} 9 0 = sym (short-answer text report (ltb-true (length report) 31 e)) ∙ z in absurd (omega arith)
-  answer-by report false e z = judged-by _ refl (sym (long-answer text report (ltb-false (length report) 31 e)) ∙ z)
+  answer-by : (how : Acceptance) (report : List ℕ) (short : Bool) → ltb (length report) 31 ≡ short → answerOf text report ≡ acceptedNumber how → Accepts how text
+  answer-by how report true e z = absurd (no-short how (sym (short-answer text report (ltb-true (length report) 31 e)) ∙ z))
+  answer-by how report false e z = judged-by how _ refl (sym (long-answer text report (ltb-false (length report) 31 e)) ∙ z)
 
-pub check-accepts : {text report after : List ℕ} → Checks text report 0 after → Accepts text
-check-accepts {text} {report} c = answer-by text report _ refl (sym (answered c))
+pub check-accepts : {text report after : List ℕ} {r : ℕ} (how : Acceptance) → Checks text report r after → r ≡ acceptedNumber how → Accepts how text
+check-accepts {text} {report} how c e = answer-by text how report _ refl (sym (answered c) ∙ e)
 
 -- a design text is accepted or failed
-pub check-ends : {text report after : List ℕ} {r : ℕ} → faultOf text ≡ 0 → Checks text report r after → 31 ≤ length report → (r ≡ 0) ⊎ (r ≡ 1)
+pub check-ends : {text report after : List ℕ} {r : ℕ} → faultOf text ≡ 0 → Checks text report r after → 31 ≤ length report
+    → ((how : Acceptance) × (r ≡ acceptedNumber how)) ⊎ (r ≡ 1)
 check-ends {text} {report} free c l =
     by-verdict (verdictOf (designText text)) (answered c ∙ long-answer text report l ∙ ap (λ j. j .verdict) (judged-free text free))
   where
-    by-verdict : {r : ℕ} (v : Verdict) → r ≡ designReport v .verdict → (r ≡ 0) ⊎ (r ≡ 1)
-    by-verdict accepted e = inl e
+    by-verdict : {r : ℕ} (v : Verdict) → r ≡ designReport v .verdict → ((how : Acceptance) × (r ≡ acceptedNumber how)) ⊎ (r ≡ 1)
+    by-verdict (accepted how) e = inl (how, e)
     by-verdict (failed x) e = inr e

@@ -33,24 +33,24 @@ use Rattle.claims.proofs.OneCall.{long-answer, long-buffer, judged-faul
 -- ---- calls turned down
 
 not-empty : {p : Phase} → Decided p → p ≡ phase.Empty → ⊥
-not-empty answers.accepted e = let z : _≡_ {A = ℕ} 0 1 = cc in omega arith
+not-empty (answers.accepted how) e = let z : _≡_ {A = ℕ} 0 1 = cc in omega arith
 not-empty (answers.failed f) e = let z : _≡_ {A = ℕ} 0 1 = cc in omega arith
 
 not-open : {p : Phase} → Decided p → p ≡ phase.Open → ⊥
-not-open answers.accepted e = let z : _≡_ {A = ℕ} 0 1 = cc in omega arith
+not-open (answers.accepted how) e = let z : _≡_ {A = ℕ} 0 1 = cc in omega arith
 not-open (answers.failed f) e = let z : _≡_ {A = ℕ} 0 1 = cc in omega arith
 
 module _ (d : Desk) where
   by-phase-load : (text : List ℕ) (p : Phase) → d .phase ≡ p → p ≢ phase.Empty → loadOf d text ≡ notLoaded 12 d
   by-phase-load text phase.Empty e o = absurd (o refl)
   by-phase-load text phase.Open e o = load-at d text e
-  by-phase-load text phase.Accepted e o = load-at d text e
+  by-phase-load text (phase.Accepted how) e o = load-at d text e
   by-phase-load text (phase.Failed f) e o = load-at d text e
 
   by-phase-advance : (n : ℕ) (p : Phase) → d .phase ≡ p → Decided p → advanceOf d n ≡ notAdvanced 14 d
   by-phase-advance n phase.Empty e o = absurd (not-empty o refl)
   by-phase-advance n phase.Open e o = absurd (not-open o refl)
-  by-phase-advance n phase.Accepted e o = advance-at d n e
+  by-phase-advance n (phase.Accepted how) e o = advance-at d n e
   by-phase-advance n (phase.Failed f) e o = advance-at d n e
 
   tell-at : {p : Phase} → d .phase ≡ p → tellOf d ≡ tellBy p d
@@ -119,5 +119,5 @@ turned-by d text z =
 pub dropped-by : (d : Desk) (p : Phase) → d .phase ≡ p → p ≢ phase.Empty → dropOf d ≡ record { answer = done.Done; desk = emptyDesk }
 dropped-by d phase.Empty e o = absurd (o refl)
 dropped-by d phase.Open e o = drop-at d e
-dropped-by d phase.Accepted e o = drop-at d e
+dropped-by d (phase.Accepted how) e o = drop-at d e
 dropped-by d (phase.Failed f) e o = drop-at d e

@@ -1,6 +1,7 @@
 -- The pump table of 01 and its nine variants as texts: each is a design text, and the desk and the one-call check come to what 01 says
--- (`pump-reports`), from the criteria (the crate pump has the designs); the same of the tables with marks (`retry-reports`); and 01's own
--- lines (`given-lines`) and those of examples/retry.txt (`retry-lines`). The two that are advanced by 5 are in PumpByFive.
+-- (`pump-reports`), from the criteria (the crate pump has the designs); the same of the tables with marks (`retry-reports`) and of those
+-- that may begin with an internal step (`first-step-reports`); and 01's own lines (`given-lines`) and those of examples/retry.txt
+-- (`retry-lines`). The two that are advanced by 5 are in PumpByFive.
 use Prim.Native.Nat.{suc}
 use mathlib.Core.Path.{_≡_, refl, sym, ap, _∙_, subst}
 use mathlib.Core.List.{List, [], _∷_, _++_}
@@ -24,7 +25,9 @@ use Rattle.decision.proofs.Demand2.{demand2, one-verdict}
 use Rattle.pump.specs.Table.{given, Case, cases, Right}
 use Rattle.pump.specs.Retry.{marked, sumIs, retry, marked-cases}
 use Rattle.pump.proofs.Reports.{ten-reports}
+use Rattle.pump.specs.FirstStep.{first-cases}
 use Rattle.pump.proofs.Retry.{marked-reports}
+use Rattle.pump.proofs.FirstStep as first-step
 use Rattle.design.specs.Line.{valuesIn, formulasIn, formulasUsed}
 use Rattle.design.specs.Lines.{ofKind, designOf, designText}
 use Rattle.kinds.specs.Kinds.{entryIn, lastIn}
@@ -46,9 +49,9 @@ abbrev Loaded : List Case → Type 0
 Loaded [] = Unit {0}
 Loaded (c ∷ cs) = ((faultOf (textFor c) ≡ 0) × (designOf (fieldsByLine (textFor c)) ≡ c .table)) × Loaded cs
 
-loaded : Loaded cases × Loaded marked-cases
-unfolding cases marked-cases internalRows formulasIn formulasUsed columnOf columnsOf digitOf shownAfter sameBytes fieldOf written fieldsFrom fieldsOf linesOf lastOf countAll textOf isLine anyLine fault2 fault3 linesFault columnsFault printV printF evalV valueMark formulaMark valuesIn ofKind designOf entryIn lastIn ofRank climbs eachLineIs layoutFits boundsFit termsFit lineFits actionsFit tableFault faultOf readV okV depthV allIn
-loaded = (((refl, refl), ((refl, refl), ((refl, refl), ((refl, refl), ((refl, refl), ((refl, refl), ((refl, refl), ((refl, refl), ((refl, refl), ((refl, refl), tt)))))))))), ((refl, refl), ((refl, refl), ((refl, refl), ((refl, refl), ((refl, refl), ((refl, refl), ((refl, refl), ((refl, refl), ((refl, refl), ((refl, refl), ((refl, refl), ((refl, refl), tt)))))))))))))
+loaded : Loaded cases × (Loaded marked-cases × Loaded first-cases)
+unfolding cases marked-cases first-cases internalRows formulasIn formulasUsed columnOf columnsOf digitOf shownAfter sameBytes fieldOf written fieldsFrom fieldsOf linesOf lastOf countAll textOf isLine anyLine fault2 fault3 linesFault columnsFault printV printF evalV valueMark formulaMark valuesIn ofKind designOf entryIn lastIn ofRank climbs eachLineIs layoutFits boundsFit termsFit lineFits actionsFit tableFault faultOf readV okV depthV allIn
+loaded = (((refl, refl), ((refl, refl), ((refl, refl), ((refl, refl), ((refl, refl), ((refl, refl), ((refl, refl), ((refl, refl), ((refl, refl), ((refl, refl), tt)))))))))), (((refl, refl), ((refl, refl), ((refl, refl), ((refl, refl), ((refl, refl), ((refl, refl), ((refl, refl), ((refl, refl), ((refl, refl), ((refl, refl), ((refl, refl), ((refl, refl), tt)))))))))))), ((refl, refl), ((refl, refl), ((refl, refl), ((refl, refl), ((refl, refl), tt)))))))
 
 -- ---- what is reported
 
@@ -87,7 +90,10 @@ pub pump-reports : EachIs cases Reports
 pump-reports = each-reports cases (loaded .0) ten-reports
 
 pub retry-reports : EachIs marked-cases Reports
-retry-reports = each-reports marked-cases (loaded .1) marked-reports
+retry-reports = each-reports marked-cases (loaded .1 .0) marked-reports
+
+pub first-step-reports : EachIs first-cases Reports
+first-step-reports = each-reports first-cases (loaded .1 .1) first-step.first-reports
 
 -- "exactly `     1     8     9     3     0` and byte 10"
 pub wrong-data-bytes : bytes.reportBytes (record { verdict = 1; number = 8; state = 9; row = 3; sum = 0 })

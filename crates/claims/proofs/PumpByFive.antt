@@ -10,7 +10,8 @@ use Rattle.foundation.specs.Walk.{walk}
 use Rattle.terms.specs.Tree.{evalV, hasV}
 use Rattle.decision.specs.Tests.{rowFrom}
 use Rattle.decision.specs.Examine.{examine}
-use Rattle.decision.specs.Verdict.{checked, verdictOf}
+use Rattle.verdicts.specs.declared.Acceptance.the-variants.{AsIs}
+use Rattle.decision.specs.Verdict.{checked, acceptanceOf, verdictOf}
 use Rattle.pump.specs.Table.{given, wrong-data, Case, case, cases}
 use Rattle.answers.specs.declared.Phase.the-variants as phase
 use Rattle.answers.specs.declared.Done.{Done}
@@ -34,20 +35,20 @@ with-wrong-data = case wrong-data 1 8 9 3 0
 
 -- ---- computed: what is due, and when the check is decided
 
-given-due : (dueOf given (verdictOf given) 0 5 ≡ progress.Open 5) × (dueOf given (verdictOf given) 5 5 ≡ progress.Open 5) × (dueOf given (verdictOf given) 10 5 ≡ progress.Accepted 2)
-unfolding dueOf checked examine walk firstIn allIn valuesOf rowFrom evalV hasV
+given-due : (dueOf given (verdictOf given) 0 5 ≡ progress.Open 5) × (dueOf given (verdictOf given) 5 5 ≡ progress.Open 5) × (dueOf given (verdictOf given) 10 5 ≡ progress.Accepted AsIs 2)
+unfolding dueOf checked acceptanceOf examine walk firstIn allIn valuesOf rowFrom evalV hasV
 given-due = (refl, refl, refl)
 
 wrong-due : (dueOf wrong-data (verdictOf wrong-data) 0 5 ≡ progress.Open 5) × (dueOf wrong-data (verdictOf wrong-data) 5 5 ≡ progress.Failed 5)
-unfolding dueOf checked examine walk firstIn allIn valuesOf rowFrom evalV hasV
+unfolding dueOf checked acceptanceOf examine walk firstIn allIn valuesOf rowFrom evalV hasV
 wrong-due = (refl, refl)
 
 given-stop : stopOf given (verdictOf given) ≡ 12
-unfolding checked examine walk firstIn allIn valuesOf rowFrom evalV hasV
+unfolding checked acceptanceOf examine walk firstIn allIn valuesOf rowFrom evalV hasV
 given-stop = refl
 
 wrong-stop : stopOf wrong-data (verdictOf wrong-data) ≡ 10
-unfolding checked examine walk firstIn allIn valuesOf rowFrom evalV hasV
+unfolding checked acceptanceOf examine walk firstIn allIn valuesOf rowFrom evalV hasV
 wrong-stop = refl
 
 given-reports : Reports as-given
@@ -78,7 +79,7 @@ module _ (c : Case) (r : Reports c) where
 -- "advancing by 5 gives open 5, open 5, accepted 2"
 pub given-by-5 : {l : Done} {x y z : Advance} {desk : Desk}
     → Calls (advance 5 z ∷ advance 5 y ∷ advance 5 x ∷ load (textFor as-given) l ∷ []) desk
-    → (l ≡ done.Done) × (x ≡ progress.Open 5) × (y ≡ progress.Open 5) × (z ≡ progress.Accepted 2)
+    → (l ≡ done.Done) × (x ≡ progress.Open 5) × (y ≡ progress.Open 5) × (z ≡ progress.Accepted AsIs 2)
 given-by-5 {l} {x} {y} {z} c =
     let third = last-advance c refl in
     let second = last-advance (third .made) refl in

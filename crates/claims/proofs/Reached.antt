@@ -16,7 +16,6 @@ use Rattle.reader.specs.Text.{fieldsByLine}
 use Rattle.loader.specs.Load.{faultOf, heldBy, loadedOf}
 use Rattle.answers.specs.declared.Phase.{Phase}
 use Rattle.answers.specs.declared.Phase.the-variants as phase
-use Rattle.answers.specs.declared.Done.{Done}
 use Rattle.answers.specs.declared.Done.the-variants as done
 use Rattle.answers.specs.declared.Advance.{Advance}
 use Rattle.answers.specs.declared.Advance.the-variants as progress
@@ -29,6 +28,7 @@ use Rattle.answers.specs.declared.Verdict.{Verdict}
 use Rattle.answers.specs.Answers.{countSaid, Decided, verdictNumbers}
 use Rattle.answers.specs.Answers as answers
 use Rattle.criteria.specs.Verdict as criteria
+use Rattle.criteria.specs.Verdict.{Acceptance}
 use Rattle.stages.specs.Said.{saidVerdict}
 use Rattle.checker.specs.OneCall.{designReport}
 use Rattle.stages.proofs.Examined.{examined}
@@ -37,7 +37,7 @@ use Rattle.design.specs.Lines.{designText}
 use Rattle.stages.specs.Count.{Due}
 use Rattle.stages.proofs.Stages.{Stage, fresh, going, accepts, fails, AdvanceDue, advance-fresh, advance-going, some-states}
 use Rattle.stages.proofs.Judging.{opened-stage, loaded-free, loaded-fault, decided-answer, decided-report}
-use Rattle.claims.specs.Calls.{Called, load, advance, verdict, measure, NoLoad, LastLoad, here, before, AcceptedIn, Walked}
+use Rattle.claims.specs.Calls.{Called, load, advance, verdict, measure, NoLoad, LastLoad, here, before, AcceptedAs, Walked}
 use Rattle.claims.specs.Calls as calls
 use Rattle.claims.specs.Outcomes.{Named, acceptance, failure}
 use Rattle.claims.specs.Contracts.{Tells, Makes, Calls, new, then-load, then-advance, then-verdict, then-measure, then-drop}
@@ -51,14 +51,14 @@ pub record Reached (cs : List Called) (text : List ℕ) (d : Desk) (m k : ℕ) :
   pub at : d .phase ≡ phase.Open → m ≡ d .next
   pub counts : k ≡ examined (designText text) m
   pub rests : d .phase ≢ phase.Open → (j : ℕ) → examined (designText text) (m + j) ≡ examined (designText text) m
-  pub accepted-in : d .phase ≡ phase.Accepted → AcceptedIn cs text
+  pub accepted-in : (how : Acceptance) → d .phase ≡ phase.Accepted how → AcceptedAs how cs text
 
 -- ---- the phases of a stage
 
 opens-not : {p : Phase} {f : _} → p ≡ phase.Failed f → p ≡ phase.Open → ⊥
 opens-not a b = let z : _≡_ {A = ℕ} 0 1 = cc in omega arith
 
-accepts-not : {p : Phase} → p ≡ phase.Accepted → p ≡ phase.Open → ⊥
+pub accepts-not : {p : Phase} {how : Acceptance} → p ≡ phase.Accepted how → p ≡ phase.Open → ⊥
 accepts-not a b = let z : _≡_ {A = ℕ} 0 1 = cc in omega arith
 
 -- ---- a load that is done
@@ -81,7 +81,7 @@ load-done {d = d} text (holds l (fresh h e z)) a =
     absurd (refused-not (ap (λ r. r .answer) (sym (load-at d text e)) ∙ a))
 load-done {d = d} text (holds l (going h e u v p)) a =
     absurd (refused-not (ap (λ r. r .answer) (sym (load-at d text e)) ∙ a))
-load-done {d = d} text (holds l (accepts h e v)) a =
+load-done {d = d} text (holds l (accepts how h e v)) a =
     absurd (refused-not (ap (λ r. r .answer) (sym (load-at d text e)) ∙ a))
 load-done {d = d} text (holds l (fails x h e v)) a =
     absurd (refused-not (ap (λ r. r .answer) (sym (load-at d text e)) ∙ a))
@@ -102,7 +102,7 @@ loaded-reached cs text d ok e =
       at = λ _. refl;
       counts = sym (none-yet (designText text));
       rests = λ o. absurd (o refl);
-      accepted-in = λ o. absurd (accepts-not o refl);
+      accepted-in = λ how o. absurd (accepts-not o refl);
     })
 
 -- ---- a call that leaves the desk
@@ -112,7 +112,7 @@ unmoved : {cs : List Called} {text : List ℕ} {d : Desk} {m k : ℕ} (c : Calle
 unmoved {text = text} {d = d} {m = m} {k = k} c n quiet r (inl z) =
     let e : m + n ≡ m = omega arith in
     let f : k + 0 ≡ k = omega arith in
-    rw (e, f) (record { last = before quiet (r .last); stage = r .stage; at = r .at; counts = r .counts; rests = r .rests; accepted-in = λ o. calls.before (r .accepted-in o) })
+    rw (e, f) (record { last = before quiet (r .last); stage = r .stage; at = r .at; counts = r .counts; rests = r .rests; accepted-in = λ how o. calls.before (r .accepted-in how o) })
 unmoved {text = text} {d = d} {m = m} {k = k} c n quiet r (inr o) =
     let f : k + 0 ≡ k = omega arith in
     record {
@@ -121,12 +121,12 @@ unmoved {text = text} {d = d} {m = m} {k = k} c n quiet r (inr o) =
       at = λ p. absurd (o p);
       counts = f ∙ r .counts ∙ sym (r .rests o n);
       rests = λ p j. let e : m + n + j ≡ m + (n + j) = omega arith in rw e (r .rests o (n + j) ∙ sym (r .rests o n));
-      accepted-in = λ p. calls.before (r .accepted-in p);
+      accepted-in = λ how p. calls.before (r .accepted-in how p);
     }
 
 same : {cs : List Called} {text : List ℕ} {d : Desk} {m k : ℕ} (c : Called) → NoLoad c → Reached cs text d m k → Reached (c ∷ cs) text d m k
 same c quiet r =
-    record { last = before quiet (r .last); stage = r .stage; at = r .at; counts = r .counts; rests = r .rests; accepted-in = λ o. calls.before (r .accepted-in o) }
+    record { last = before quiet (r .last); stage = r .stage; at = r .at; counts = r .counts; rests = r .rests; accepted-in = λ how o. calls.before (r .accepted-in how o) }
 
 tells : {cs : List Called} {text : List ℕ} (d : Desk) {m k : ℕ} → Reached cs text d m k → Reached (verdict (tellOf d .answer) ∷ cs) text (tellOf d .desk) m k
 unfolding tellOf
@@ -144,7 +144,7 @@ moves {cs} {text} {d} {m} {k} {n} {r} q e a =
       at = λ o. let s = a .opens o in omega arith;
       counts = rw (q .counts, there) (a .counts);
       rests = λ o j. rw there (a .rests o j);
-      accepted-in = λ o. let s = a .says-accepted o in rw (s .1) (calls.here (q .last));
+      accepted-in = λ how o. let s = a .says-accepted how o in rw (s .1) (calls.here (q .last));
     }
 
 module _ {cs : List Called} {text : List ℕ} {d : Desk} {m k : ℕ} (n : ℕ) (q : Reached cs text d m k) where
@@ -158,7 +158,7 @@ module _ {cs : List Called} {text : List ℕ} {d : Desk} {m k : ℕ} (n : ℕ) (
   advance-reached : Stage text d → Reached (advance n (advanceOf d n .answer) ∷ cs) text (advanceOf d n .desk) (m + n) (k + countSaid (advanceOf d n .answer))
   advance-reached (fresh h e z) = advance-open _ refl e (λ some. advance-fresh text d n some h e z)
   advance-reached (going h e a b p) = advance-open _ refl e (λ some. advance-going text d n some h e a b p)
-  advance-reached (accepts h e v) =
+  advance-reached (accepts how h e v) =
       rw (advance-at d n e) (unmoved (advance n (progress.TurnedDown 14)) n calls.advanced q (inr (accepts-not e)))
   advance-reached (fails x h e v) =
       rw (advance-at d n e) (unmoved (advance n (progress.TurnedDown 14)) n calls.advanced q (inr (opens-not e)))
@@ -170,7 +170,7 @@ module _ {cs : List Called} {text : List ℕ} {d : Desk} {m k : ℕ} (n : ℕ) (
   load-stays : (other : List ℕ) → Stage text d → loadOf d other .desk ≡ d
   load-stays other (fresh h e z) = ap (λ r. r .desk) (load-at d other e)
   load-stays other (going h e a b p) = ap (λ r. r .desk) (load-at d other e)
-  load-stays other (accepts h e v) = ap (λ r. r .desk) (load-at d other e)
+  load-stays other (accepts how h e v) = ap (λ r. r .desk) (load-at d other e)
   load-stays other (fails x h e v) = ap (λ r. r .desk) (load-at d other e)
 
   -- what is due
@@ -182,7 +182,7 @@ module _ {cs : List Called} {text : List ℕ} {d : Desk} {m k : ℕ} (n : ℕ) (
   due-at (going h e a b p) o some q =
       let there = reached-at o in
       rw (q, there) (advance-going text d n some h e a b p .due)
-  due-at (accepts h e v) o some q = absurd (accepts-not e o)
+  due-at (accepts how h e v) o some q = absurd (accepts-not e o)
   due-at (fails x h e v) o some q = absurd (opens-not e o)
 
 -- ---- a call, by what its contract says of it
@@ -255,7 +255,7 @@ decided {text = text} {d = d} {m = m} r l o = by-stage (r .stage)
     by-stage : Stage text d → ⊥
     by-stage (fresh h e z) = let a = r .at e in let s = some-states text d h in omega arith
     by-stage (going h e a b p) = let a = r .at e in omega arith
-    by-stage (accepts h e v) = accepts-not e o
+    by-stage (accepts how h e v) = accepts-not e o
     by-stage (fails x h e v) = opens-not e o
 
 pub ends-decided : {cs : List Called} {text : List ℕ} {d : Desk} {m k : ℕ} → Reached cs text d m k → states (designText text) ≤ m → Decided (d .phase)
@@ -264,13 +264,13 @@ ends-decided {text = text} {d = d} r l = by-stage (r .stage) (decided r l)
     by-stage : Stage text d → d .phase ≢ phase.Open → Decided (d .phase)
     by-stage (fresh h e z) o = absurd (o e)
     by-stage (going h e a b p) o = absurd (o e)
-    by-stage (accepts h e v) o = rw e answers.accepted
+    by-stage (accepts how h e v) o = rw e (answers.accepted how)
     by-stage (fails x h e v) o = rw e (answers.failed _)
 
 -- ---- the verdict of a decided desk
 
 decided-not-open : {p : Phase} → Decided p → p ≢ phase.Open
-decided-not-open answers.accepted e = accepts-not refl e
+decided-not-open (answers.accepted how) e = accepts-not refl e
 decided-not-open (answers.failed f) e = opens-not refl e
 
 pub tells-verdict : {cs : List Called} {text : List ℕ} {d : Desk} {m k : ℕ} {r : AfterVerdict} → Reached cs text d m k → Decided (d .phase) → Tells d r
@@ -280,7 +280,7 @@ tells-verdict {text = text} {d = d} q o p =
     (same ∙ decided-answer text d (q .stage) (decided-not-open o), ap verdictNumbers same ∙ decided-report text d (q .stage) (decided-not-open o))
 
 named : (v : criteria.Verdict) {a : Verdict} → a ≡ saidVerdict v → Named a
-named criteria.accepted e = rw e acceptance
+named (criteria.accepted how) e = rw e (acceptance how)
 named (criteria.failed x) e = rw e (failure _)
 
 pub walked-named : {text : List ℕ} {cs : List Called} {d : Desk} {m k : ℕ} {r : AfterVerdict} → Calls cs d → Walked cs text m k

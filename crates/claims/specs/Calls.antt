@@ -1,10 +1,11 @@
--- Lists of desk calls (01, "What demand 3 speaks of"): "any operations that take the desk and give it back (load, advance, verdict,
--- drop), with any arguments and in any order, those turned down included"; since 02's order 4 also measure. A list is given by its calls
--- with their answers, the latest first. How a desk is handed from call to call is in specs/Contracts, by the contracts of the methods
--- themselves.
+-- Lists of desk calls (01, "What demand 3 speaks of"): "any operations that take the desk and give it back (load, advance, verdict, drop),
+-- with any arguments and in any order, those turned down included"; since 02's order 4 also measure; accepted is, since order 6, said one
+-- way or the other. A list is given by its calls with their answers, the latest first. How a desk is handed from call to call is in
+-- specs/Contracts, by the contracts of the methods themselves.
 use Prim.Native.Nat.{ℕ, _+_}
 use mathlib.Core.Logic.{_≢_}
 use mathlib.Core.List.{List, [], _∷_}
+use Rattle.verdicts.specs.declared.Acceptance.{Acceptance}
 use Rattle.answers.specs.declared.Done.{Done}
 use Rattle.answers.specs.declared.Done.the-variants as done
 use Rattle.answers.specs.declared.Advance.{Advance}
@@ -35,10 +36,14 @@ pub data LastLoad : List Called → List ℕ → Type 0 where
   before : {call : Called} {calls : List Called} {text : List ℕ} → NoLoad call → LastLoad calls text → LastLoad (call ∷ calls) text
 
 -- "A text is accepted in the list where an advance answers accepted and the text, as it stood when it was loaded, is that of the
--- last load before it that returned 0."
-pub data AcceptedIn : List Called → List ℕ → Type 0 where
-  here : {n k : ℕ} {calls : List Called} {text : List ℕ} → LastLoad calls text → AcceptedIn (advance n (progress.Accepted k) ∷ calls) text
-  before : {call : Called} {calls : List Called} {text : List ℕ} → AcceptedIn calls text → AcceptedIn (call ∷ calls) text
+-- last load before it that returned 0.": in this way
+pub data AcceptedAs (how : Acceptance) : List Called → List ℕ → Type 0 where
+  here : {n k : ℕ} {calls : List Called} {text : List ℕ} → LastLoad calls text → AcceptedAs how (advance n (progress.Accepted how k) ∷ calls) text
+  before : {call : Called} {calls : List Called} {text : List ℕ} → AcceptedAs how calls text → AcceptedAs how (call ∷ calls) text
+
+-- in one way or the other
+abbrev pub AcceptedIn : List Called → List ℕ → Type 0
+AcceptedIn calls text = (how : Acceptance) × AcceptedAs how calls text
 
 -- "load and then advances": by m states in all, and the answers counted k. Verdicts, measures and refused loads may stand between them.
 pub data Walked : List Called → List ℕ → ℕ → ℕ → Type 0 where

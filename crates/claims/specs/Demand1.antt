@@ -8,6 +8,8 @@ use mathlib.Core.Path.{_≡_}
 use mathlib.Core.Logic.{_≢_, _⊎_}
 use mathlib.Core.List.{List}
 use lib.ListN.{length}
+use Rattle.verdicts.specs.declared.Acceptance.{Acceptance}
+use Rattle.verdicts.specs.Report.{acceptedNumber}
 use Rattle.criteria.specs.Design.{states}
 use Rattle.design.specs.Lines.{designText}
 use Rattle.design.specs.Faults.{DesignText}
@@ -35,7 +37,8 @@ pub record Claim1 : Type 0 where
   -- verdict; and in one call with a long enough buffer
   pub walked : {text : List ℕ} {calls : List Called} {desk : Desk} {m k : ℕ} {r : AfterVerdict} → DesignText text → Calls calls desk
       → Walked calls text m k → states (designText text) ≤ m → Tells desk r → Named (r .answer)
-  pub checked : {text report after : List ℕ} {r : ℕ} → DesignText text → Checks text report r after → 31 ≤ length report → (r ≡ 0) ⊎ (r ≡ 1)
+  pub checked : {text report after : List ℕ} {r : ℕ} → DesignText text → Checks text report r after → 31 ≤ length report
+      → ((how : Acceptance) × (r ≡ acceptedNumber how)) ⊎ (r ≡ 1)
   -- "Every other text"
   pub other-text : (desk : Desk) (text : List ℕ) → (DesignText text → ⊥) → TurnsDown desk text
   -- ".. call": and a drop that is done leaves a new desk

@@ -1,7 +1,7 @@
--- Demand 2 (00), with ten criteria (02, order 5): "A check accepts exactly if all nine criteria .. hold ... Otherwise it reports a failed
--- start, or else the lowest failing state, there the lowest criterion, then row, then sum value, however the walk was divided among calls."
--- What verdict a design has to get is `Demand2` in criteria/specs/Verdict; here, that every check of a design text comes to that one, by
--- the functions' contracts (specs/Contracts). It holds: `claim2` in proofs/Demand2.
+-- Demand 2 (00), with ten criteria and two ways of acceptance (02, orders 5 and 6): "A check accepts exactly if all nine criteria .. hold
+-- ... Otherwise it reports a failed start, or else the lowest failing state, there the lowest criterion, then row, then sum value, however
+-- the walk was divided among calls." What verdict a design has to get is `Demand2` in criteria/specs/Verdict; here, that every check of a
+-- design text comes to that one, by the functions' contracts (specs/Contracts). It holds: `claim2` in proofs/Demand2.
 use Prim.Native.Nat.{ℕ, _≤_, min}
 use mathlib.Core.Path.{_≡_}
 use mathlib.Core.Logic.{_≢_}

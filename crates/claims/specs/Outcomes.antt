@@ -7,6 +7,8 @@ use mathlib.Core.List.{List, _++_}
 use lib.ListN.{length, drop}
 use Rattle.writer.specs.Report as bytes
 use Rattle.verdicts.specs.declared.Failure.{Failure}
+use Rattle.verdicts.specs.declared.Acceptance.{Acceptance}
+use Rattle.verdicts.specs.Report.{acceptedNumber}
 use Rattle.design.specs.Faults.{LowestFault}
 use Rattle.answers.specs.declared.Phase.the-variants as phase
 use Rattle.answers.specs.declared.Done.the-variants as done
@@ -35,7 +37,7 @@ pub record Opens (text : List ℕ) (r : AfterLoad) : Type 0 where
 
 -- "acceptance or a named failure"
 pub data Named : Verdict → Type 0 where
-  acceptance : Named verdict.Accepted
+  acceptance : (how : Acceptance) → Named (verdict.Accepted how)
   failure : (f : Failure) → Named (verdict.Failed f)
 
 -- a text turned down by its lowest fault: an empty desk stays, of a long enough buffer the report is written
@@ -65,7 +67,8 @@ pub record Refusals (desk : Desk) : Type 0 where
   -- "before the input's": 8. "Advance by 0 states." is given on an open desk
   pub advance-none : {r : AfterAdvance} → Advances desk 0 r → desk .phase ≡ phase.Open → r ≡ notAdvanced 8 desk
 
--- "every design text that the one-call check accepts, or that is accepted anywhere in any list of desk calls from a new desk"
+-- "every design text that the one-call check accepts, or that is accepted anywhere in any list of desk calls from a new desk"; 02, order 6:
+-- "demand 3 means both" ways, verdict 0 and verdict 3
 pub data Accepted (text : List ℕ) : Type 0 where
   by-desk : {calls : List Called} {desk : Desk} → Calls calls desk → AcceptedIn calls text → Accepted text
-  by-one-call : {report after : List ℕ} → Checks text report 0 after → Accepted text
+  by-one-call : {report after : List ℕ} (how : Acceptance) → Checks text report (acceptedNumber how) after → Accepted text

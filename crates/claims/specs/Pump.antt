@@ -1,5 +1,6 @@
--- The cases of the crate pump as texts: the pump table of 01, its nine variants and the tables with marks; and what it means that the
--- functions report what the case says. It is so of each: `pump-reports` and `retry-reports` in proofs/Pump.
+-- The cases of the crate pump as texts: the pump table of 01, its nine variants, the tables with marks and those that may begin with an
+-- internal step; and what it means that the functions report what the case says. It is so of each: `pump-reports`, `retry-reports` and
+-- `first-step-reports` in proofs/Pump.
 use Prim.Native.Nat.{ℕ, _≤_}
 use mathlib.Core.Path.{_≡_}
 use mathlib.Core.List.{List, _++_}

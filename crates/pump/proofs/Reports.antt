@@ -17,7 +17,8 @@ use Rattle.criteria.proofs.Demand3.{demand3}
 use Rattle.decision.specs.Admitted.{admittedB}
 use Rattle.decision.specs.Tests.{rowFrom}
 use Rattle.decision.specs.Examine.{examine}
-use Rattle.decision.specs.Verdict.{checked, verdictOf}
+use Rattle.verdicts.specs.declared.Acceptance.the-variants.{AsIs}
+use Rattle.decision.specs.Verdict.{checked, acceptanceOf, verdictOf}
 use Rattle.decision.proofs.Admitted.{by-admitted}
 use Rattle.decision.proofs.Demand2.{demand2}
 use Rattle.pump.specs.Table.{given, Case, cases, Right}
@@ -28,7 +29,7 @@ Computed [] = Unit {0}
 Computed (c ∷ cs) = ((admittedB (c .table) ≡ true) × (reportOf (verdictOf (c .table)) ≡ c .says)) × Computed cs
 
 computed : Computed cases
-unfolding cases checked examine walk firstIn allIn valuesOf numberOf rowFrom evalV hasV
+unfolding cases checked acceptanceOf examine walk firstIn allIn valuesOf numberOf rowFrom evalV hasV
 computed = ((refl, refl), ((refl, refl), ((refl, refl), ((refl, refl), ((refl, refl), ((refl, refl), ((refl, refl), ((refl, refl), ((refl, refl), ((refl, refl), tt))))))))))
 
 right-by : (c : Case) → admittedB (c .table) ≡ true → reportOf (verdictOf (c .table)) ≡ c .says → Right c
@@ -45,15 +46,15 @@ ten-reports = each-right cases computed
 
 -- ---- the pump table meets the criteria, and so keeps demand 3
 
-given-accepted : (admittedB given ≡ true) × (verdictOf given ≡ accepted)
-unfolding checked examine walk firstIn allIn valuesOf rowFrom evalV hasV
+pub given-accepted : (admittedB given ≡ true) × (verdictOf given ≡ accepted AsIs)
+unfolding checked acceptanceOf examine walk firstIn allIn valuesOf rowFrom evalV hasV
 given-accepted = (refl, refl)
 
-given-admitted : Admitted given
+pub given-admitted : Admitted given
 given-admitted = says-yes (by-admitted given) (given-accepted .0)
 
 pub given-meets : Meets given
-given-meets = demand2 given given-admitted .accepts .0 (given-accepted .1)
+given-meets = demand2 given given-admitted .accepts .0 (AsIs, given-accepted .1)
 
 pub given-demand3 : Demand3 given
 given-demand3 = demand3 given given-admitted given-meets

@@ -80,12 +80,12 @@ marked-cases =
     ∷ case (marked (sumIs 1 ∷ []) (lossy 4 (try astray (par 1)) (is 2) (compare Less (par 0) (num 3)))) 1 3 4 2 0
     -- to price 0, which is mapped otherwise
     ∷ case (marked (sumIs 1 ∷ []) (lossy 3 (try again (choice (sumIs 1) (par 1) (num 0))) (is 2) (const true))) 1 4 5 2 0
-    -- the relay: the first formula is that of row 1, the second that of row 3
-    ∷ case (marked (sumIs 1 ∷ sumIs 2 ∷ []) relay) 0 0 0 0 0
+    -- the relay: the first formula is that of row 1, the second that of row 3. It begins with an internal step (02, order 6)
+    ∷ case (marked (sumIs 1 ∷ sumIs 2 ∷ []) relay) 3 0 0 0 0
     -- swapped: row 1 has no sum value 2, and phase 0 is a focus point
     ∷ case (marked (sumIs 2 ∷ sumIs 1 ∷ []) relay) 1 7 0 1 0
     -- the second as the first: row 3 is marked where it stays in phase 1
     ∷ case (marked (sumIs 1 ∷ sumIs 1 ∷ []) relay) 1 5 1 3 1
     -- the phase is below the sum value: so it is where the step starts, not where it leads
-    ∷ case (marked (compare Less (par 0) sumValue ∷ compare Less (par 0) sumValue ∷ []) relay) 0 0 0 0 0
+    ∷ case (marked (compare Less (par 0) sumValue ∷ compare Less (par 0) sumValue ∷ []) relay) 3 0 0 0 0
     ∷ []
