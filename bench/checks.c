@@ -33,13 +33,13 @@ struct job {
 static int ours(const struct job *j)
 {
     uint8_t report[CHECK_REPORT_BYTES];
-    return check_design(j->text.bytes, j->text.len, report, sizeof report) == CHECK_ACCEPTED;
+    return CHECK_IS_ACCEPTED(check_design(j->text.bytes, j->text.len, report, sizeof report));
 }
 
 static int reference(const struct job *j)
 {
     uint8_t report[CHECK_REPORT_BYTES];
-    return reference_check(j->text.bytes, j->text.len, report, sizeof report) == CHECK_ACCEPTED;
+    return CHECK_IS_ACCEPTED(reference_check(j->text.bytes, j->text.len, report, sizeof report));
 }
 
 static int plain(const struct job *j) { return plain_walk(&j->table, 0, j->table.states, 0); }
@@ -83,7 +83,7 @@ static int reference_advances(const struct job *j)
     reference_load(desk, j->text.bytes, j->text.len);
     while ((stands = reference_advance(desk, 1, &number)) == REFERENCE_OPEN) made++;
     reference_free(desk);
-    return stands == REFERENCE_ACCEPTED && made == j->table.states;
+    return (stands == REFERENCE_ACCEPTED || stands == REFERENCE_ACCEPTED_AFTER_INTERNAL) && made == j->table.states;
 }
 
 static int plain_advances(const struct job *j)
@@ -127,7 +127,7 @@ static int same_measures(const struct job *j)
 static int our_walk(const struct job *j)
 {
     uint8_t report[CHECK_REPORT_BYTES];
-    return check_design(j->accepted.bytes, j->accepted.len, report, sizeof report) == CHECK_ACCEPTED;
+    return CHECK_IS_ACCEPTED(check_design(j->accepted.bytes, j->accepted.len, report, sizeof report));
 }
 
 /* ---- the clock ---- */

@@ -1,7 +1,13 @@
 /* buy FILE: whether the board in a table may be bought. It is the least that a C program does to call the checker; linkcheck/verdict.c is
- * the one to copy for a program that goes on after a fault. */
+ * the one to copy for a program that goes on after a fault. The exit status is the verdict. */
 #include <stdio.h>
 #include "checker.h"
+
+static const char *advice(uint32_t verdict)
+{
+    if (verdict == CHECK_ACCEPTED) return "buy";
+    return CHECK_IS_ACCEPTED(verdict) ? "buy, but not under a choice" : "do not buy";
+}
 
 int main(int words, char **word)
 {
@@ -19,7 +25,7 @@ int main(int words, char **word)
     }
     fclose(file);
     uint32_t verdict = check_design(text, length, report, sizeof report);
-    printf("%s: ", verdict == CHECK_ACCEPTED ? "buy" : "do not buy");
+    printf("%s: ", advice(verdict));
     fwrite(report, 1, sizeof report, stdout);
     if (fflush(stdout) != 0) {
         perror("buy");

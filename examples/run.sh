@@ -1,6 +1,6 @@
 #!/usr/bin/env bash
-# Checks every table of examples/ with ./check and with the C program buy, and compares with reports.tsv, byte for byte, and the exit status
-# of ./check with the verdict; gives each table marks by the C program marks; and makes a measure for it by the C program measure, which is
+# Checks every table of examples/ with ./check and with the C program buy, and compares with reports.tsv, byte for byte, and their exit
+# statuses with the verdict; gives each table marks by the C program marks; and makes a measure for it by the C program measure, which is
 # compared with measures.tsv, as is the message where it makes none. Ends with 1 if any differs.
 set -euo pipefail
 cd "$(dirname "$0")/.."
@@ -25,7 +25,17 @@ for file in examples/*.txt; do
         echo "examples: $name: ./check writes \"$(cat "$work/got")\" and ends with $status, the report is \"$(cat "$work/want")\""
         differ=1
     fi
-    { "$work/buy" "$file" || true; } | sed 's/.*: //' | cmp -s - "$work/want" || { echo "examples: $name: buy writes another report"; differ=1; }
+    case $status in
+    0) due="buy" ;;
+    3) due="buy, but not under a choice" ;;
+    *) due="do not buy" ;;
+    esac
+    bought=0
+    "$work/buy" "$file" > "$work/got" || bought=$?
+    if ! { printf '%s: ' "$due"; cat "$work/want"; } | cmp -s - "$work/got" || [ "$bought" != "$status" ]; then
+        echo "examples: $name: buy writes \"$(cat "$work/got")\" and ends with $bought"
+        differ=1
+    fi
     case $(tail -n 1 "$file") in
     "     8"*) due="the same report; marks other than 10 stay" ;;
     *) due="the same report; the same text again" ;;

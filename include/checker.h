@@ -13,13 +13,20 @@ extern "C" {
 
 /* The version, as in the file VERSION: the first number changes if a call that there was answers otherwise, the second if calls or kinds
  * of lines are added, the third if neither. */
-#define CHECKER_VERSION "2.0.0"
+#define CHECKER_VERSION "3.0.0"
 
 /* What check_design returns. */
 #define CHECK_ACCEPTED 0
 #define CHECK_FAILED 1
 #define CHECK_TURNED_DOWN 2
+#define CHECK_ACCEPTED_AFTER_INTERNAL 3
 #define CHECK_SHORT_BUFFER 9
+
+/* Whether check_design returned one of the two for an accepted text, 0 or 3. */
+static inline int CHECK_IS_ACCEPTED(uint32_t verdict)
+{
+    return verdict == CHECK_ACCEPTED || verdict == CHECK_ACCEPTED_AFTER_INTERNAL;
+}
 
 /* The length of a report. */
 #define CHECK_REPORT_BYTES 31
@@ -29,19 +36,28 @@ extern "C" {
  * so many. docs/DESIGN-TEXT.md says what a design text is, and what criteria, faults, states and rows are.
  *
  * Returns
- *   0  accepted: every criterion holds
+ *   0  accepted as it is: every criterion holds, and in the initial state the board has no internal step to make
  *   1  failed: a criterion does not hold
  *   2  turned down: the text is no design text
+ *   3  accepted after a first internal step: every criterion holds, but in the initial state the board may make an internal step, that is,
+ *      an internal row is enabled there for some sum value, marked or not, wherever it leads
  *   9  report_len is under 31: nothing is written, and the text is not looked at
  *
- * With 0, 1 and 2 the report is written: five numbers, each in six columns, right-justified with blanks before it, and a byte 10.
+ * With 0 and 3 the board's initial state and the specification's are branching bisimilar; with 0 they are rooted branching bisimilar too,
+ * with 3 they are not. That matters where the board is set under a choice with other behaviour: its internal step may decide the choice
+ * before anything is seen, and then the other behaviour is gone, which the specification would still have offered.
  *
- *   columns   0 accepted   1 failed                             2 turned down
- *    1 to  6  0            1                                    2
- *    7 to 12  0            the criterion, 1 to 10               the number of the lowest fault, 1 to 7
- *   13 to 18  0            the state                            0
- *   19 to 24  0            the row, counted from 1              0
- *   25 to 30  0            the sum value                        0
+ * Before version 3.0.0 both were 0: a test for 0 alone no longer means accepted. Where both will do, test with CHECK_IS_ACCEPTED, and where
+ * the board is put under a choice, for CHECK_ACCEPTED.
+ *
+ * With 0, 1, 2 and 3 the report is written: five numbers, each in six columns, right-justified with blanks before it, and a byte 10.
+ *
+ *   columns   0, 3 accepted   1 failed                          2 turned down
+ *    1 to  6  0 or 3          1                                 2
+ *    7 to 12  0               the criterion, 1 to 10            the number of the lowest fault, 1 to 7
+ *   13 to 18  0               the state                         0
+ *   19 to 24  0               the row, counted from 1           0
+ *   25 to 30  0               the sum value                     0
  *   31        byte 10
  *
  * For example "     1     8     9     3     0\n": criterion 8 fails in state 9, for row 3 and sum value 0. A state's number counts the values
@@ -53,7 +69,7 @@ extern "C" {
  * any address, NULL among them.
  *
  * The function has no state, allocates nothing, makes no system call and always returns; threads may call it at the same time, each with a
- * report area of its own. It uses less than 128 KiB of stack: 32,696 bytes at the deepest terms, measured on x86-64 by bench/run.sh.
+ * report area of its own. It uses less than 128 KiB of stack: 32,712 bytes at the deepest terms, measured on x86-64 by bench/run.sh.
  * How long it takes depends on the design, which has up to 65,536 states, 64 rows and 256 sum values for each row.
  */
 uint32_t check_design(const uint8_t *text, size_t text_len, uint8_t *report, size_t report_len);
@@ -133,7 +149,7 @@ size_t unmark_design(const uint8_t *text, size_t text_len, uint8_t *buffer, size
  * number must be aligned as their types are, and number must not be NULL. An area of length 0 may have any address, NULL among them.
  *
  * The function has no state, allocates nothing, makes no system call and always returns; threads may call it at the same time, each with a
- * slice and a number of its own. It uses less than 512 KiB of stack: 287,240 bytes, measured as above, most of them for two arrays with a
+ * slice and a number of its own. It uses less than 512 KiB of stack: 287,400 bytes, measured as above, most of them for two arrays with a
  * place for each state. That is more than some threads have. How long it takes depends on the design: it looks once at each state, row and
  * sum value, for criteria 10 and 3, and once at each state, internal row and sum value, for the runs, however long these are, and at most
  * once more for each state.

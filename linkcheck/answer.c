@@ -11,6 +11,19 @@
 
 /* ---- one file ---- */
 
+enum result result_of(const struct verdict *v) {
+    static const enum result results[] = {
+        [CHECK_ACCEPTED] = ACCEPTED, [CHECK_ACCEPTED_AFTER_INTERNAL] = AFTER_INTERNAL, [CHECK_FAILED] = FAILED, [CHECK_TURNED_DOWN] = TURNED_DOWN,
+    };
+    return results[v->outcome];
+}
+
+/* AFTER_INTERNAL is verdict 3, but status 3 says that something could not be read. */
+int exit_status(enum result gravest) {
+    static const int statuses[RESULTS] = {[ACCEPTED] = 0, [AFTER_INTERNAL] = 4, [FAILED] = 1, [TURNED_DOWN] = 2, [UNREAD] = STATUS_UNREAD};
+    return statuses[gravest];
+}
+
 static void put_verdict(struct output *out, const char *name, const struct verdict *v, enum format format) {
     switch (format) {
     case REPORT: put_bytes(out, v->report, sizeof v->report - 1); break;
@@ -23,17 +36,17 @@ static void put_verdict(struct output *out, const char *name, const struct verdi
 }
 
 /* The answer with these words, which have all been added, or there was no memory for them. */
-static struct answer answer_of(unsigned status, struct output words) {
+static struct answer answer_of(enum result result, struct output words) {
     const size_t length = words.length;
     put_bytes(&words, "", 1);
     if (words.error) no_memory();
-    return (struct answer){status, words.bytes, length};
+    return (struct answer){result, words.bytes, length};
 }
 
 struct answer unread(const char *why) {
     struct output words = {.file = KEPT};
     put(&words, why);
-    return answer_of(STATUS_UNREAD, words);
+    return answer_of(UNREAD, words);
 }
 
 struct answer answer_to(const struct path *path, enum format format) {
@@ -45,14 +58,14 @@ struct answer answer_to(const struct path *path, enum format format) {
     if (error) return unread(strerror(error));
     verdict_of(&verdict, path->text ? path->text : &own);
     put_verdict(&words, path->name, &verdict, format);
-    return answer_of(verdict.outcome, words);
+    return answer_of(result_of(&verdict), words);
 }
 
 /* ---- from one process to another ---- */
 
 /* What comes before the words of an answer. */
 struct header {
-    uint64_t mark, number, status, length; /* the number is that of the file in the list */
+    uint64_t mark, number, result, length; /* the number is that of the file in the list */
 };
 
 enum { HEADER_MARK = 0x6B6E696C };
@@ -76,15 +89,15 @@ static bool is_one_line(const struct answer *a) {
 }
 
 bool send_answer(int to, size_t number, const struct answer *a) {
-    const struct header h = {HEADER_MARK, number, a->status, a->length};
+    const struct header h = {HEADER_MARK, number, a->result, a->length};
     return write_all(to, &h, sizeof h) == 0 && write_all(to, a->words, a->length) == 0;
 }
 
 bool take_answer(int from, size_t number, const char *name, struct answer *a) {
     struct header h;
     if (!receive(from, &h, sizeof h)) return false;
-    if (h.mark != HEADER_MARK || h.number != number || h.status > STATUS_UNREAD || h.length >= too_long(name)) return false;
-    *a = (struct answer){(unsigned)h.status, calloc(h.length + 1, 1), h.length};
+    if (h.mark != HEADER_MARK || h.number != number || h.result >= RESULTS || h.length >= too_long(name)) return false;
+    *a = (struct answer){(enum result)h.result, calloc(h.length + 1, 1), h.length};
     if (!a->words) no_memory();
     if (receive(from, a->words, a->length) && is_one_line(a)) return true;
     free(a->words);

@@ -8,10 +8,17 @@
 
 enum format { WORDS, REPORT, JSON };
 
-/* The line of a file, without byte 10; or why it could not be read, if that is its status. */
+/* What comes of a file, the gravest last. */
+enum result { ACCEPTED, AFTER_INTERNAL, FAILED, TURNED_DOWN, UNREAD, RESULTS };
+
+/* That of a table by its verdict, and the exit status if nothing graver came of any file. */
+enum result result_of(const struct verdict *v);
+int exit_status(enum result gravest);
+
+/* The line of a file, without byte 10; or why it could not be read, if that is its result. */
 struct answer {
-    unsigned status; /* the exit status if it were alone */
-    char *words;     /* on the heap, with a byte 0 at the end */
+    enum result result;
+    char *words; /* on the heap, with a byte 0 at the end */
     size_t length;
 };
 

@@ -211,9 +211,20 @@ void print_turned_down(struct output *out, const struct fault *f) {
     if (f->words[0]) print(out, ": %s", f->words);
 }
 
+static void print_first_step(struct output *out, const struct table *t, const struct step *first) {
+    const struct state start = initial_state(&t->impl);
+    print(out, "row %td (internal), sum value %u, enabled in the initial ", first->row - t->impl.row + 1, first->sum);
+    print_numbered(out, &t->impl, &start);
+    if (!marked(first->row, &start, first->sum)) put(out, " but not marked");
+}
+
 void print_verdict(struct output *out, const struct verdict *v) {
     switch (v->outcome) {
     case CHECK_ACCEPTED: put(out, "accepted"); break;
+    case CHECK_ACCEPTED_AFTER_INTERNAL:
+        put(out, "accepted after a first internal step: ");
+        print_first_step(out, &v->table, &v->first);
+        break;
     case CHECK_FAILED:
         print(out, "failed: criterion %u (%s), ", v->failure.criterion, criterion_word(v->failure.criterion));
         print_failure(out, &v->table, &v->failure);

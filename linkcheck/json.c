@@ -41,6 +41,14 @@ static void print_values(struct output *out, const struct process *p, const stru
     put(out, "]");
 }
 
+/* A state, and the step from it if there is a row. */
+static void print_stop(struct output *out, const struct process *p, const struct stop *stop) {
+    const struct state s = numbered_state(p, stop->state);
+    print(out, "\"state\":%u,", stop->state);
+    print_values(out, p, &s);
+    if (stop->row) print(out, ",\"row\":%u,\"sum\":%u", stop->row, stop->sum);
+}
+
 /* A value that is missing, if the failure is by one. */
 static void print_missing_value(struct output *out, const struct table *t, const struct failure *f) {
     const struct missing m = missing_at(t, f);
@@ -53,6 +61,15 @@ static void print_missing_value(struct output *out, const struct table *t, const
     put(out, ",\"term\":\"");
     print_gap(out, t, &m);
     print(out, "\",\"dividend\":%u}", m.gap.dividend);
+}
+
+/* The internal step that is enabled in the initial state. */
+static void print_first_step(struct output *out, const struct verdict *v) {
+    const struct process *p = &v->table.impl;
+    const struct state start = initial_state(p);
+    put(out, ",");
+    print_stop(out, p, &(struct stop){(unsigned)state_number(p, &start), (unsigned)(v->first.row - p->row + 1), v->first.sum});
+    if (v->table.has_marks) print(out, ",\"marked\":%s", truth(marked(v->first.row, &start, v->first.sum)));
 }
 
 static void print_failed(struct output *out, const struct verdict *v) {
@@ -83,22 +100,18 @@ static void begin(struct output *out, const char *name, const char *member, cons
 }
 
 void json_verdict(struct output *out, const char *name, const struct verdict *v) {
-    static const char *const words[] = {[CHECK_ACCEPTED] = "accepted", [CHECK_FAILED] = "failed", [CHECK_TURNED_DOWN] = "turned down"};
+    static const char *const words[] = {
+        [CHECK_ACCEPTED] = "accepted", [CHECK_ACCEPTED_AFTER_INTERNAL] = "accepted after internal", [CHECK_FAILED] = "failed",
+        [CHECK_TURNED_DOWN] = "turned down",
+    };
     begin(out, name, "verdict", words[v->outcome]);
+    if (v->outcome == CHECK_ACCEPTED_AFTER_INTERNAL) print_first_step(out, v);
     if (v->outcome == CHECK_FAILED) print_failed(out, v);
     if (v->outcome == CHECK_TURNED_DOWN) print_fault(out, &v->fault);
     put(out, "}");
 }
 
 /* ---- a measure ---- */
-
-/* A state, and the step from it if there is a row. */
-static void print_stop(struct output *out, const struct process *p, const struct stop *stop) {
-    const struct state s = numbered_state(p, stop->state);
-    print(out, "\"state\":%u,", stop->state);
-    print_values(out, p, &s);
-    if (stop->row) print(out, ",\"row\":%u,\"sum\":%u", stop->row, stop->sum);
-}
 
 static void print_numbers(struct output *out, const struct measured *m) {
     print(out, ",\"states\":%u,\"largest\":%u,\"own_meets\":%s", m->states, m->number[m->largest], truth(m->own_meets));

@@ -21,7 +21,8 @@ static const char help[] =
     "linkcheck checks tables: whether a board may replace the price link controller of a fuel pump.\n"
     "\n"
     "  linkcheck [--report | --json] [-j N] FILE|FOLDER ...\n"
-    "      One line for each table: accepted; failed, where and by what; or turned down, by which rule and, where\n"
+    "      One line for each table: accepted; accepted after a first internal step, with the first such step that\n"
+    "      is enabled in the initial state; failed, where and by what; or turned down, by which rule and, where\n"
     "      there is one, in which line. \"The board\" is the implementation, \"ours\" the specification; terms are\n"
     "      as with --show. A last line has the counts. In a folder every file is taken for a table, in name order,\n"
     "      folders in it too; names that begin with a dot are left out.\n"
@@ -61,8 +62,9 @@ static const char help[] =
     "  linkcheck --version\n"
     "  linkcheck --help\n"
     "\n"
-    "Exit status: 0 all accepted, 1 some failed, 2 some turned down, 3 something could not be read, checked or\n"
-    "written, as a folder without a table, and a message says what; the highest of these; 64 wrong arguments.\n"
+    "Exit status: 0 all accepted as they are, 4 some accepted after a first internal step, 1 some failed, 2 some\n"
+    "turned down, 3 something could not be read, checked or written, as a folder without a table, and a message\n"
+    "says what: the last of these that holds, in this order; 64 wrong arguments.\n"
     "With --columns, --mark, --unmark, --aut and --dot 0 is done, 2 is a text that is no table, or by --mark and\n"
     "--unmark one that has no such result, and 1 is a system that cannot be written. With --measure 0 is a measure,\n"
     "1 a loop, 2 a text that is no table, or one where criterion 3 fails, or 10 otherwise than by the measure.\n";
@@ -182,7 +184,7 @@ static int show(const char *name, const struct verdict *v) {
     put(out, "  ");
     print_verdict(out, v);
     put(out, "\n");
-    return (int)v->outcome;
+    return exit_status(result_of(v));
 }
 
 static int system_of(const char *name, const struct table *t, enum mode mode, enum side side) {

@@ -55,7 +55,7 @@ static void progress_step(struct progress *p) {
 
 struct tally {
     enum format format;
-    size_t with_status[STATUS_UNREAD + 1];
+    size_t with[RESULTS];
     struct progress progress;
 };
 
@@ -74,32 +74,33 @@ static void give_unread(enum format format, const char *name, const char *why) {
 }
 
 static void give(struct tally *t, const char *name, const struct answer *a) {
-    if (t->progress.in_the_way || a->status == STATUS_UNREAD) progress_clear(&t->progress);
-    if (a->status == STATUS_UNREAD) {
+    if (t->progress.in_the_way || a->result == UNREAD) progress_clear(&t->progress);
+    if (a->result == UNREAD) {
         give_unread(t->format, name, a->words);
     } else {
         put_bytes(&standard_output, a->words, a->length);
         put(&standard_output, "\n");
     }
     if (t->progress.in_the_way) output_flush(&standard_output);
-    t->with_status[a->status]++;
+    t->with[a->result]++;
     free(a->words);
     progress_step(&t->progress);
 }
 
 static void summary(const struct tally *t) {
-    const size_t *with = t->with_status;
-    size_t tables = with[CHECK_ACCEPTED] + with[CHECK_FAILED] + with[CHECK_TURNED_DOWN];
-    print(&standard_output, "%zu table%s: %zu accepted, %zu failed, %zu turned down", tables, tables == 1 ? "" : "s", with[CHECK_ACCEPTED],
-          with[CHECK_FAILED], with[CHECK_TURNED_DOWN]);
-    if (with[STATUS_UNREAD]) print(&standard_output, "; %zu not read", with[STATUS_UNREAD]);
+    const size_t *with = t->with;
+    size_t tables = with[ACCEPTED] + with[AFTER_INTERNAL] + with[FAILED] + with[TURNED_DOWN];
+    print(&standard_output, "%zu table%s: %zu accepted, ", tables, tables == 1 ? "" : "s", with[ACCEPTED]);
+    if (with[AFTER_INTERNAL]) print(&standard_output, "%zu accepted after a first internal step, ", with[AFTER_INTERNAL]);
+    print(&standard_output, "%zu failed, %zu turned down", with[FAILED], with[TURNED_DOWN]);
+    if (with[UNREAD]) print(&standard_output, "; %zu not read", with[UNREAD]);
     put(&standard_output, "\n");
 }
 
-static int highest_status(const struct tally *t) {
-    int status = STATUS_UNREAD;
-    while (status > 0 && t->with_status[status] == 0) status--;
-    return status;
+static enum result gravest(const struct tally *t) {
+    enum result result = UNREAD;
+    while (result > ACCEPTED && t->with[result] == 0) result--;
+    return result;
 }
 
 /* ---- several processes ---- */
@@ -199,5 +200,5 @@ int run(const struct paths *paths, enum format format, size_t processes) {
     }
     progress_clear(&t.progress);
     if (format == WORDS) summary(&t);
-    return highest_status(&t);
+    return exit_status(gravest(&t));
 }

@@ -70,6 +70,13 @@ static bool internal_step(const struct row *r, const struct state *s, unsigned s
     return r->action == INTERNAL && enabled(r, s, sum);
 }
 
+struct step first_internal_step(const struct process *p, const struct state *s) {
+    for (unsigned r = 0; r < p->rows; r++)
+        for (unsigned sum = 0; sum < p->row[r].span; sum++)
+            if (internal_step(&p->row[r], s, sum)) return (struct step){&p->row[r], sum};
+    return (struct step){NULL, 0};
+}
+
 bool marked_step(const struct process *p, const struct state *s, struct step *at) {
     for (; at->row < p->row + p->rows; at->row++, at->sum = 0)
         for (; at->sum < at->row->span; at->sum++)

@@ -43,6 +43,9 @@ struct step {
     unsigned sum;
 };
 
+/* The first internal step that is enabled, marked or not; its row is NULL if there is none. */
+struct step first_internal_step(const struct process *p, const struct state *s);
+
 /* Moves on to the first marked step from the state that is not before `at`. Gives whether there is one. */
 bool marked_step(const struct process *p, const struct state *s, struct step *at);
 

@@ -1,7 +1,8 @@
 #!/usr/bin/env bash
 # Builds linkcheck and tries it: reports against compare/reports.tsv, exit statuses, the stored outputs of expected/, texts with and without
-# a line of kind 8, measures against those of test/measures.py, missing values against those of test/values.py, and every look at every table
-# and at damaged ones with the sanitizers and valgrind, where they are there. Ends with 1 at the first fault.
+# a line of kind 8, measures against those of test/measures.py, missing values against those of test/values.py, first internal steps against
+# those of test/first.py, and every look at every table and at damaged ones with the sanitizers and valgrind, where they are there. Ends with
+# 1 at the first fault.
 # Usage: test.sh [COUNT [SEED]] for the damaged texts; test.sh --remake stores the outputs of expected/ anew.
 set -euo pipefail
 cd "$(dirname "$0")/.."
@@ -20,15 +21,27 @@ fail() {
     echo "linkcheck test: $*" >&2
     exit 1
 }
+# judged STATUS: each table has its verdict.
+judged() { [ "$1" -le 2 ] || [ "$1" = 4 ]; }
+
+# changes FOLDER TABLE: in the folder, a table for each line of standard input, which is a name and a change of test/TABLE.txt. A word of
+# `stands_for` in a change stands for what it has. The first is the table as it is given; each other changes it.
+declare -A stands_for
+changes() {
+    local name change word
+    mkdir "$work/$1"
+    while read -r name change; do
+        for word in "${!stands_for[@]}"; do change=${change/$word/${stands_for[$word]}}; done
+        sed "$change" "linkcheck/test/$2.txt" | "$linkcheck" --columns > "$work/$1/$name.txt" || fail "$name: no columns"
+        if [ "$name" != given ] && cmp -s "$work/$1/"{given,"$name"}.txt; then fail "$name: no change"; fi
+    done
+}
 
 # ---- marks: changes of a typed table, by name ----
 
 # The board of test/marked.txt sends a price to its display: it is lost (sum value 0), delivered (1 and 3) or garbled (2). A garbled price
 # is thrown away, and what is shown may be refreshed for ever. Marked are sum value 3 and throwing away.
-mkdir "$work/marks"
-while read -r name change; do
-    sed "$change" linkcheck/test/marked.txt | "$linkcheck" --columns > "$work/marks/$name.txt" || fail "$name: no columns"
-done << 'END'
+changes marks marked << 'END'
 given
 all-marked $s/.*/8 10 10 10/
 all-marked-not-by-10 $s/.*/8 10 14 11 16 10 10/
@@ -61,15 +74,9 @@ END
 # sends that to its display, where it may be lost (row 3), and calls the car (row 4). Row 2 asks that a pump is open. In a change the lines
 # are: 7 to 10 its rows, 11 to 13 ours, 14 the invariant, 15 the mapping, 16 the measure, 17 the mark.
 # open_some: `open` asks for a pump. no_pump: the number of the pump is 0 everywhere but on the board.
-open_some='s/^\([34]  3 3   \)12 1 0 0 0/\115 12 1 0 0 0 14 12 2 0 0/'
-no_pump='15s/1 2$/0 0/; s/^\([34]  1 3 .*\)5 2 1 1$/\10 0/; s/^\([34]  2 1 .*\)1 2    0 0/\10 0    0 0/'
-mkdir "$work/values"
-while read -r name change; do
-    change=${change/open_some/$open_some}
-    change=${change/no_pump/$no_pump}
-    sed "$change" linkcheck/test/values.txt | "$linkcheck" --columns > "$work/values/$name.txt" || fail "$name: no columns"
-    if [ "$name" != given ] && cmp -s "$work/values/"{given,"$name"}.txt; then fail "$name: no change"; fi
-done << 'END'
+stands_for[open_some]='s/^\([34]  3 3   \)12 1 0 0 0/\115 12 1 0 0 0 14 12 2 0 0/'
+stands_for[no_pump]='15s/1 2$/0 0/; s/^\([34]  1 3 .*\)5 2 1 1$/\10 0/; s/^\([34]  2 1 .*\)1 2    0 0/\10 0    0 0/'
+changes values values << 'END'
 given
 invariant 14s/10/13 5 1 2 1 1 0 9/
 invariant-at-start 14s/10/13 5 1 2 4 1 1 0 1 0 9/
@@ -113,6 +120,34 @@ remainder-in-a-divisor 10s/1 2    0 0/5 1 2 5 1 2 3 1 1 1 1    0 0/
 divisor-of-several 14s/10/13 5 3 1 2 0 5 4 1 0 6 12 1 1 1 2 0 0 0 9 0 9/
 END
 
+# ---- first internal steps: changes of a typed table, by name ----
+
+# The board of test/first.txt tests its display until that succeeds (row 4, for sum value 1), and is then ready. Row 5 is never enabled. In a
+# change the lines are: 1 and 2 its parameters, 3 and 4 ours, 6 to 10 its rows, 16 the measure, 17 the marks.
+# ready: it starts without a test. again: row 5 leads from each ready state back to it.
+stands_for[ready]='1s/3$/0/'
+stands_for[again]='10s/11  /12 1 0 0 0/'
+changes first first << 'END'
+given
+ready ready
+again ready; again
+again-and-test again
+again-marked ready; again; $s/11$/10/
+again-marked-elsewhere ready; again; $s/11$/12 1 0 0 3/
+again-fails ready; again; 16s/0 1 0 0$/0 0 0 0/
+first-of-two 10s/11  /12 1 0 0 3/
+marked-after-unmarked 10s/11  /12 1 0 0 3/; 9{h;d;}; 10G; $s/12 2 0 1   11/11 12 2 0 1/
+has-a-price 1s/3$/1/; 3s/0$/1/
+other-price 2s/0$/2/; 4s/0$/2/
+later-sum-value 9s/12 1 0 0 3/15 12 1 0 0 3 12 2 0 1/
+last-of-256 9s/0 2   12 1 0 0 3/0 256 15 12 1 0 0 3 12 2 0 255/; 9s/12 2 0 1 /12 2 0 255 /; $s/12 2 0 1/12 2 0 255/
+not-for-a-sum-value ready; 10s/0 1   11  /0 2 15 12 1 0 0 0 12 2 0 2/
+no-marks $d; 9s/0 2/0 1/; 9s/6 12.*0 3  /0 0  /
+no-marks-ready $d; 9s/0 2/0 1/; 9s/6 12.*0 3  /0 0  /; ready
+by-a-choice 9s/12 1 0 0 3/12 1 0 6 13 1 0 0 4 0 3 5 0 7 0 0/
+fails-without-a-value 9s/12 1 0 0 3/12 0 7 6 12 1 0 0 3 5 0 7 0 0 0 0/
+END
+
 # ---- stored outputs: a name in expected/ and the arguments that give it, in the folder if one is set ----
 
 boards=()
@@ -124,7 +159,7 @@ done
 expect() {
     local name=$1
     shift
-    (cd "${folder:-.}" && "$linkcheck" "$@") > "$work/out" || [ $? -le 2 ] || fail "$*: status $?"
+    (cd "${folder:-.}" && "$linkcheck" "$@") > "$work/out" || judged $? || fail "$*: status $?"
     stored "$name" "$*"
 }
 stored() {
@@ -159,6 +194,10 @@ folder=$work expect marked.impl.dot --dot impl marks/given.txt
 folder=$work expect values.report --report values
 folder=$work expect values.txt values
 folder=$work expect values.json --json values
+folder=$work expect first.report --report first
+folder=$work expect first.txt first
+folder=$work expect first.json --json first
+folder=$work expect after.txt --show first/again.txt
 folder=$work expect missing.txt --show values/ours-next-value.txt
 folder=$work expect missing.impl.aut --aut impl values/data-reached.txt
 folder=$work expect missing.condition.aut --aut impl values/condition-for-a-sum-value.txt
@@ -179,6 +218,10 @@ shown() { grep -qxF -e "    $1" "$2" || fail "$2 does not show: $1"; }
 while read -r line; do shown "$line" examples/README.md; done < linkcheck/expected/examples.txt
 "$linkcheck" examples/pump.txt examples/bad-yesterdays-diesel.txt > "$work/out" || true
 while read -r line; do shown "$line" README.md; done < "$work/out"
+"$linkcheck" examples/self-test.txt > "$work/out" || [ $? = 4 ] || fail "examples/self-test.txt: status $?"
+shown "$(head -n 1 "$work/out")" README.md
+"$linkcheck" --json examples/acknowledge-again.txt > "$work/out" || [ $? = 4 ] || fail "examples/acknowledge-again.txt: status $?"
+shown "$(cat "$work/out")" linkcheck/README.md
 for name in retry concurrent-alternating-bit-with-loss; do
     sed '$d' "examples/$name.txt" | "$linkcheck" - > "$work/out" || true
     shown "$(head -n 1 "$work/out")" examples/README.md
@@ -211,14 +254,42 @@ status() {
     shift
     "$linkcheck" "$@" > "$work/out" 2> "$work/error" < "${input:-/dev/null}" || got=$?
     [ "$got" = "$due" ] || fail "$*: status $got, $due is due"
-    if [ "$due" -ge 3 ] && ! [ -s "$work/error" ]; then fail "$*: no message"; fi
+    if { [ "$due" = 3 ] || [ "$due" = 64 ]; } && ! [ -s "$work/error" ]; then fail "$*: no message"; fi
+    if [ "$due" = 4 ] && [ -s "$work/error" ]; then fail "$*: $(cat "$work/error")"; fi
 }
-good=$tables/P_given.txt bad=$tables/P_data_row3.txt none=$tables/t45.txt
+# counts WORDS: the summary line.
+counts() { [ "$(tail -n 1 "$work/out")" = "$1" ] || fail "\"$1\" is due, not \"$(tail -n 1 "$work/out")\""; }
+good=$tables/P_given.txt bad=$tables/P_data_row3.txt none=$tables/t45.txt after=examples/self-test.txt
 status 0 "$good"
 status 1 "$good" "$bad"
 status 2 "$bad" "$none" "$good"
 status 3 "$good" "$work/missing" "$none"
 grep -q "^2 tables: 1 accepted, 0 failed, 1 turned down; 1 not read" "$work/out" || fail "the run does not go on after a missing file"
+# The gravest counts, wherever it stands: not read, turned down, failed, accepted after a first internal step.
+for jobs in 1 2 3; do
+    status 0 -j $jobs "$good" "$good"
+    counts "2 tables: 2 accepted, 0 failed, 0 turned down"
+    status 4 -j $jobs "$good" "$after" "$good"
+    counts "3 tables: 2 accepted, 1 accepted after a first internal step, 0 failed, 0 turned down"
+    status 4 -j $jobs "$after"
+    counts "1 table: 0 accepted, 1 accepted after a first internal step, 0 failed, 0 turned down"
+    status 1 -j $jobs "$after" "$bad" "$after"
+    counts "3 tables: 0 accepted, 2 accepted after a first internal step, 1 failed, 0 turned down"
+    status 2 -j $jobs "$none" "$after" "$bad"
+    counts "3 tables: 0 accepted, 1 accepted after a first internal step, 1 failed, 1 turned down"
+    status 2 -j $jobs "$after" "$none"
+    counts "2 tables: 0 accepted, 1 accepted after a first internal step, 0 failed, 1 turned down"
+    status 3 -j $jobs "$after" "$work/missing"
+    counts "1 table: 0 accepted, 1 accepted after a first internal step, 0 failed, 0 turned down; 1 not read"
+    for format in --report --json; do
+        status 4 $format -j $jobs "$good" "$after"
+        status 1 $format -j $jobs "$after" "$bad"
+        status 3 $format -j $jobs "$work/missing" "$after"
+    done
+done
+input=$after status 4 -
+status 4 --show "$after"
+for look in --aut --dot --mark --unmark --measure; do status 0 $look "$after"; done
 input=$good status 0 -
 status 2 -
 status 0 --show "$good"
@@ -306,8 +377,8 @@ mkdir "$work/marked"
 tried=0
 while IFS= read -r line <&3 && IFS= read -r report <&4; do
     table=${line%%  *} words=${line#*  }
-    # Those about criteria and about many states have nothing new for a writer.
-    if [[ $table =~ /[cs][0-9]*_ ]]; then continue; fi
+    # Those about criteria, about first steps and about many states have nothing new for a writer.
+    if [[ $table =~ /[crs][0-9]*_ ]]; then continue; fi
     if [[ $words == "turned down "* ]]; then for look in --mark --unmark --measure; do turned_down "$words" $look "$table"; done
     elif tail -n 1 "$table" | grep -q '^     8'; then try_marked "$table"
     else try_unmarked "$table" "$report"; fi
@@ -349,9 +420,9 @@ measures_of() {
     done > "$work/measures"
     linkcheck/test/measures.py < "$work/measures" || fail "a measure is not the smallest"
 }
-measures_of "$tables"/*.txt "$work"/{marks,values}/*.txt
+measures_of "$tables"/*.txt "$work"/{marks,values,first}/*.txt
 ${CC:-cc} -std=c11 -Wall -Wextra -O2 linkcheck/test/slices.c target/staticlib/libmeasuring.a -o "$work/slices"
-"$work/slices" "$tables"/*.txt "$work"/{marks,values}/*.txt || fail "a slice is not written as it should be"
+"$work/slices" "$tables"/*.txt "$work"/{marks,values,first}/*.txt || fail "a slice is not written as it should be"
 if paste "$work/words" "$work/measures" | grep '  accepted' | grep -v '"own_meets":true'; then fail "accepted by another measure"; fi
 sed '$d' examples/retry.txt > "$work/loop"
 out_of_size=$tables/P_first_size_2.txt
@@ -420,22 +491,29 @@ grep -q 'new\\u000aline \\"\\\\\\ufffd.txt' "$work/out" || fail "JSON: $(cat "$w
 
 # ---- damaged texts, and what looks at memory ----
 
-mkdir -p "$work"/damaged/{marks,values}
+mkdir -p "$work"/damaged/{marks,values,first}
 marked=$((count / 10 + 1))
 ${CC:-cc} -std=c11 -Wall -Wextra -O2 linkcheck/test/damage.c -o "$work/damage"
-mapfile -t whole < <(printf '%s\n' $tables/*.txt | grep -Ev '/(t[1-7]|s_[0-9])')
+mapfile -t whole < <(printf '%s\n' $tables/*.txt | grep -Ev '/(t[1-7]|s_[0-9]|r_s_)')
 "$work/damage" "$work/damaged" "$count" "$seed" "${whole[@]}"
 "$work/damage" "$work/damaged/marks" "$marked" "$seed" "$work"/marks/*.txt
 "$work/damage" "$work/damaged/values" "$marked" "$seed" "$work"/values/*.txt
+"$work/damage" "$work/damaged/first" "$marked" "$seed" "$work"/first/*.txt
 "$linkcheck" "$work/damaged" > "$work/plain" || true
 # Each text turned down has its fault found: the words come from another reading than the number.
 for found in "$work/words" "$work/plain"; do
     if grep 'turned down [0-9] ([^)]*)\(, line [0-9]*\)\?$' "$found"; then fail "a fault is not found"; fi
 done
-measures_of "$work"/damaged/*[0-9] "$work"/damaged/{marks,values}/*
+measures_of "$work"/damaged/*[0-9] "$work"/damaged/{marks,values,first}/*
 # What is said to be missing is, and nothing comes before it.
-"$linkcheck" --json "$tables" "$work"/{marks,values,damaged} > "$work/json" || [ $? = 2 ] || fail "--json"
+all=("$tables" "$work"/{marks,values,first,damaged})
+"$linkcheck" --json "${all[@]}" > "$work/json" || [ $? = 2 ] || fail "--json"
 linkcheck/test/values.py < "$work/json" || fail "a missing value is not as it is said"
+# A table is accepted after a first internal step exactly if there is one, and the first is named, in words too.
+linkcheck/test/first.py < "$work/json" > "$work/due_words" || fail "a first internal step is not as it is said"
+{ "$linkcheck" "${all[@]}" || [ $? = 2 ] || fail "${all[*]}"; } | grep '  accepted' > "$work/accepted"
+cmp "$work/due_words" "$work/accepted" || fail "a first internal step is told otherwise in words"
+[ "$(grep -c 'after a first internal step' "$work/accepted")" -ge 150 ] || fail "few tables with a first internal step"
 # What is said to differ differs.
 for found in "$work/words" "$work/plain"; do
     if grep -e "data \([0-9]*\), ours \1\$" -e 'mapped to \(([^)]*)\), ours to \1$' -e 'mapped to \(([^)]*)\), our initial state is \1$' \
@@ -451,8 +529,8 @@ if grep '"marked":false' "$work/marks.json"; then fail "criterion 5 fails by a s
 looks() {
     local folder=$1
     shift
-    "$@" "$folder" > "$work/looked" 2> "$work/error" || [ $? -le 2 ] || fail "$* $folder: $(cat "$work/error")"
-    "$@" --json -j 2 "$folder" > /dev/null 2>> "$work/error" || [ $? -le 2 ] || fail "$* --json $folder: $(cat "$work/error")"
+    "$@" "$folder" > "$work/looked" 2> "$work/error" || judged $? || fail "$* $folder: $(cat "$work/error")"
+    "$@" --json -j 2 "$folder" > /dev/null 2>> "$work/error" || judged $? || fail "$* --json $folder: $(cat "$work/error")"
     if [ -s "$work/error" ]; then fail "$* $folder: $(cat "$work/error")"; fi
 }
 looks_at_each() {
@@ -460,7 +538,7 @@ looks_at_each() {
     for file in "${few[@]}"; do
         for look in "--show" "--aut" "--aut spec" "--dot" "--columns" "--mark" "--unmark" "--measure" "--measure --json"; do
             # shellcheck disable=SC2086
-            "$@" $look "$file" > /dev/null 2> "$work/error" || [ $? -le 2 ] || fail "$* $look $file: $(cat "$work/error")"
+            "$@" $look "$file" > /dev/null 2> "$work/error" || judged $? || fail "$* $look $file: $(cat "$work/error")"
         done
     done
 }
@@ -472,20 +550,20 @@ if linkcheck/build.sh "$work/sanitized" -g -fsanitize=address,undefined -fno-san
     cmp "$work/words" "$work/looked" || fail "the sanitizers' build answers otherwise"
     looks "$work/damaged" "$work/sanitized"
     cmp "$work/plain" "$work/looked" || fail "the sanitizers' build answers otherwise"
-    few=("$tables"/P_*.txt "$tables"/[abfikr]*.txt "$tables"/t[1-7][1-7]*.txt "$work"/{marks,values}/*.txt)
-    few+=("$work"/damaged/{,marks/,values/}?)
+    few=("$tables"/P_*.txt "$tables"/[abfik]*.txt "$tables"/r{em,_mark}_*.txt "$tables"/t[1-7][1-7]*.txt "$work"/{marks,values,first}/*.txt)
+    few+=("$work"/damaged/{,marks/,values/,first/}?)
     looks_at_each "$work/sanitized"
     checked="the address and undefined behaviour sanitizers"
 fi
 if valgrind -q --error-exitcode=99 "$linkcheck" --help > /dev/null 2>&1; then
     mkdir "$work/some"
     cp "$work"/damaged/[1-9]?? "$work/some" 2> /dev/null || cp "$work"/damaged/? "$work/some"
-    cp -r "$work"/{marks,values} "$work/some"
+    cp -r "$work"/{marks,values,first} "$work/some"
     looks "$work/some" valgrind -q --error-exitcode=99 --leak-check=full "$linkcheck"
-    few=("$tables/P_given.txt" "$tables/t56.txt" "$work/marks/given.txt" "$work"/values/{no-guard,measure-branch-taken}.txt)
+    few=("$tables/P_given.txt" "$tables/t56.txt" "$work/marks/given.txt" "$work"/values/{no-guard,measure-branch-taken}.txt "$work/first/again.txt")
     looks_at_each valgrind -q --error-exitcode=99 --leak-check=full "$linkcheck"
     checked="$checked and valgrind"
 fi
-damaged=$((count + 2 * marked))
+damaged=$((count + 3 * marked))
 echo "linkcheck: $(wc -l < "$work/due") tables as in compare/reports.tsv, $damaged damaged texts from seed $seed, $checked: no fault"
 tail -n 1 "$work/plain"

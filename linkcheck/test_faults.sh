@@ -20,6 +20,7 @@ tables=compare/tables
 good=$tables/P_given.txt bad=$tables/P_data_row3.txt none=$tables/t45.txt
 marked=$tables/m_P_given.txt other=examples/retry.txt full=$tables/m_t3_fields_4096_without.txt
 leads_out=$tables/P_first_size_2.txt loop=$work/loop still=$tables/buffer1.txt no_value=examples/bad-no-pumps.txt
+after=examples/self-test.txt
 sed '$d' "$other" > "$loop"
 EIO=5 EINTR=4 EAGAIN=11 ENOMEM=12 EACCES=13 EMFILE=24 ENOSPC=28 ECHILD=10 ECONNRESET=104
 
@@ -143,9 +144,9 @@ for ((place = 0; place < 32; place++)); do
 4 tables: 4 accepted, 0 failed, 0 turned down; 4 not read" "byte $place of a header"
 done
 
-# A library that was made for other rules: another verdict, a report that says something else, a text that is no table; a result that can't
-# be, a number without or beside one, another number than is due; a measure that is none, or too large, a state that there isn't, or that is
-# on no loop.
+# A library that was made for other rules: another verdict, a report that says something else, a text that is no table, a first internal
+# step where there is none, or none where there is one; a result that can't be, a number without or beside one, another number than is due;
+# a measure that is none, or too large, a state that there isn't, or that is on no loop.
 if [ $# = 0 ]; then
     compile linkcheck/*.c linkcheck/test/other_rules.c -o "$work/other"
     while read -r returns verdict table; do
@@ -156,12 +157,22 @@ if [ $# = 0 ]; then
         done
     done << END
 3 3 $good
+0 0 $after
+3 0 $after
+0 3 $after
+3 3 $none
+4 4 $good
+4 4 $after
 9 0 $good
 0 1 $good
 1 0 $good
 4294967295 0 $good
 0 0 $none
 END
+    # With the right answers there is something to write.
+    OTHER_RETURNS=3 OTHER_VERDICT=3 due 4 "" "$work/other" "$after"
+    grep -q "^$after  accepted after a first internal step: " "$work/out" || fail "verdict 3 of $after: $(cat "$work/out")"
+    OTHER_RETURNS=0 OTHER_VERDICT=0 due 0 "" "$work/other" "$good"
     # A criterion that there isn't; a row where there is none, or none where there is one; 10 where nothing lacks a value, another where
     # something does.
     while read -r criterion state row table; do
@@ -320,11 +331,12 @@ right_line() {
     [ -n "${known["x$1"]:-}" ] || [[ $1 =~ $summary_line ]] || [ "$1" = "     9 not read               " ] ||
         [[ $1 == '{"file":"'*'","'@(verdict|measure)'":"unreadable","why":"'*'"}' ]]
 }
-summary_line='^([0-9]+) tables?: ([0-9]+) accepted, ([0-9]+) failed, ([0-9]+) turned down(; ([0-9]+) not read)?$'
+summary_line='^([0-9]+) tables?: ([0-9]+) accepted, (([0-9]+) accepted after a first internal step, )?([0-9]+) failed, ([0-9]+) turned down'
+summary_line+='(; ([0-9]+) not read)?$'
 # The summary of such a run counts as many tables as have their line, and all, unless a folder could not be looked at.
 counts_are_right() {
     [[ $2 =~ $summary_line ]] || return 0
-    local read=$((BASH_REMATCH[2] + BASH_REMATCH[3] + BASH_REMATCH[4])) unread=${BASH_REMATCH[6]:-0}
+    local read=$((BASH_REMATCH[2] + ${BASH_REMATCH[4]:-0} + BASH_REMATCH[5] + BASH_REMATCH[6])) unread=${BASH_REMATCH[8]:-0}
     [ "$read" = "${BASH_REMATCH[1]}" ] && [ "$read" = $((${#lines[@]} - 1)) ] && [ "$unread" -gt 0 ] || return 1
     [ $((read + unread)) = "$in_all" ] || { [[ $1 =~ ^(scandir|stat|lstat|.*alloc)$ ]] && [ $((read + unread)) -lt "$in_all" ]; }
 }
@@ -372,7 +384,7 @@ with_every_fault() {
     known=() in_all=0
     while IFS= read -r line; do
         known["x$line"]=1
-        if [[ $line =~ $summary_line ]]; then in_all=$((BASH_REMATCH[1] + ${BASH_REMATCH[6]:-0})); fi
+        if [[ $line =~ $summary_line ]]; then in_all=$((BASH_REMATCH[1] + ${BASH_REMATCH[8]:-0})); fi
     done < "$work/out"
     for line in "${calls[@]}"; do
         # shellcheck disable=SC2086
@@ -390,10 +402,12 @@ with_every_fault -j 16 "$work/store" "$work/store" "$good"
 with_every_fault --json -j 2 "$work/store"
 with_every_fault --report "$work/store" "$none"
 with_every_fault -j 2 "$good" "$work/missing" "$good"
+with_every_fault -j 2 "$good" "$after" "$good" "$after"
 input=$good with_every_fault -j 2 "$bad" - "$good"
 input=$good with_every_fault --columns
 with_every_fault --columns README.md
 with_every_fault --show "$bad"
+with_every_fault --show "$after"
 with_every_fault --aut "$good"
 with_every_fault --dot spec "$good"
 with_every_fault --aut "$none"
@@ -408,7 +422,7 @@ with_every_fault --measure "$none"
 with_every_fault --measure --json "$tables/s_0_256_256.txt"
 input=$loop with_every_fault --measure --json -
 with_every_fault --measure --json "$leads_out"
-with_every_fault --json -j 2 "$no_value" "$good"
+with_every_fault --json -j 2 "$no_value" "$good" "$after"
 with_every_fault --measure --json "$work/missing"
 sanitized="no sanitizer"
 export ASAN_OPTIONS=exitcode=99:verify_asan_link_order=0 UBSAN_OPTIONS=print_stacktrace=1

@@ -34,15 +34,20 @@ static bool is_by_these_rules(const struct table *t, const struct failure *f) {
     return f->criterion == START || (f->criterion == VALUES) == (first_missing(t, &s, ALL).part != NOTHING);
 }
 
-/* A library that gives another verdict than these three, takes a text which can't be taken apart here, or sees another criterion fail than
- * can fail first, was made for other rules. */
+/* A library that gives another verdict than these four, takes a text which can't be taken apart here, sees another criterion fail than can
+ * fail first, or tells the two ways to be accepted apart by something else than the internal steps of the initial state, was made for other
+ * rules. */
 void verdict_of(struct verdict *v, const struct text *t) {
     v->outcome = check_design(t->bytes, t->len, v->report, sizeof v->report);
-    if (v->outcome > CHECK_TURNED_DOWN || report_number(v->report, 0) != v->outcome) other_rules();
+    if (v->outcome > CHECK_ACCEPTED_AFTER_INTERNAL || report_number(v->report, 0) != v->outcome) other_rules();
     const unsigned second = report_number(v->report, 1);
     v->failure = (struct failure){second, report_number(v->report, 2), report_number(v->report, 3), report_number(v->report, 4), false};
     v->fault = table_read(&v->table, t->bytes, t->len);
     if (v->outcome == CHECK_TURNED_DOWN && v->fault.number != second) v->fault = (struct fault){.number = second};
     if (v->outcome != CHECK_TURNED_DOWN && v->fault.number) other_rules();
     if (v->outcome == CHECK_FAILED && !is_by_these_rules(&v->table, &v->failure)) other_rules();
+    if (!CHECK_IS_ACCEPTED(v->outcome)) return;
+    const struct state start = initial_state(&v->table.impl);
+    v->first = first_internal_step(&v->table.impl, &start);
+    if ((v->outcome == CHECK_ACCEPTED_AFTER_INTERNAL) != (v->first.row != NULL)) other_rules();
 }

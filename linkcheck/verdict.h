@@ -3,6 +3,7 @@
 #define VERDICT_H
 
 #include "../include/checker.h"
+#include "state.h"
 #include "table.h"
 
 #include <stdbool.h>
@@ -24,8 +25,9 @@ struct failure {
 
 struct verdict {
     uint8_t report[CHECK_REPORT_BYTES];
-    unsigned outcome;       /* CHECK_ACCEPTED, CHECK_FAILED or CHECK_TURNED_DOWN */
+    unsigned outcome;       /* CHECK_ACCEPTED, CHECK_ACCEPTED_AFTER_INTERNAL, CHECK_FAILED or CHECK_TURNED_DOWN */
     struct table table;     /* whole if the text was not turned down */
+    struct step first;      /* of one accepted after a first internal step: the first that is enabled in the initial state */
     struct failure failure; /* of a failed one */
     struct fault fault;     /* of a text turned down; its line is 0 and its words are empty if it isn't found */
 };
