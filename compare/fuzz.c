@@ -58,20 +58,21 @@ static int is_changed(const struct text *t) { return memcmp(lent, t->bytes, t->l
 
 // The one-call check.
 
-// How many texts came to what: accepted, failed by a criterion, turned down by a number.
-enum { CRITERIA = 10, TURNED_DOWN = 7, SORTS = 1 + CRITERIA + TURNED_DOWN };
+// How many texts came to what: accepted as they are, failed by a criterion, turned down by a number, accepted after a first internal step.
+enum { CRITERIA = 10, TURNED_DOWN = 7, AFTER_INTERNAL = 1 + CRITERIA + TURNED_DOWN, SORTS };
 
 // A remainder by zero is its dividend at this level.
 enum { HAS_ALL_VALUES = 4 };
 
 struct counts {
-    unsigned all[SORTS], marked[SORTS], dividing[SORTS], by_marks, by_numbers, by_zero[SORTS];
+    unsigned all[SORTS], marked[SORTS], dividing[SORTS], by_marks, by_numbers, by_zero[SORTS], from_focus_point;
 };
 
 static int sort_of(const uint8_t *report) {
     unsigned verdict, number;
     sscanf((const char *)report, "%6u%6u", &verdict, &number);
-    return verdict == 0 ? 0 : verdict == 1 ? (int)number : CRITERIA + (int)number;
+    if (verdict == CHECK_ACCEPTED_AFTER_INTERNAL) return AFTER_INTERNAL;
+    return verdict == CHECK_ACCEPTED ? 0 : verdict == CHECK_FAILED ? (int)number : CRITERIA + (int)number;
 }
 
 // Whether the report is another one without the line of kind 8.
@@ -84,19 +85,29 @@ static int by_marks(const struct text *t, const uint8_t *report) {
     return memcmp(other, report, REPORT) != 0;
 }
 
-// Whether the report is another one where every term has a value.
+// Whether the report is another one where every term has a value. That level has no verdict 3: it is 0 there.
 static int by_zero(const struct text *t, const uint8_t *report) {
     uint8_t other[REPORT];
-    reference_check_at(HAS_ALL_VALUES, t->bytes, t->len, other, REPORT);
-    return memcmp(other, report, REPORT) != 0;
+    uint32_t verdict = reference_check_at(HAS_ALL_VALUES, t->bytes, t->len, other, REPORT);
+    return sort_of(report) == AFTER_INTERNAL ? verdict != CHECK_ACCEPTED : memcmp(other, report, REPORT) != 0;
+}
+
+// Whether the initial state of a text with verdict 3 is a focus point: it is accepted as it is if it has its marked steps alone.
+static int from_focus_point(const struct text *t) {
+    static struct text marked;
+    uint8_t report[REPORT];
+    marked = *t;
+    keep_marked_steps(&marked);
+    return reference_check(marked.bytes, marked.len, report, REPORT) == CHECK_ACCEPTED;
 }
 
 static void count(struct counts *seen, const struct text *t, const uint8_t *report) {
-    int sort = sort_of(report), is_design = sort <= CRITERIA;
+    int sort = sort_of(report), is_design = sort <= CRITERIA || sort == AFTER_INTERNAL;
     seen->all[sort]++;
     if (has_marks(t)) {
         seen->marked[sort]++;
         seen->by_marks += is_design && by_marks(t, report);
+        seen->from_focus_point += sort == AFTER_INTERNAL && from_focus_point(t);
     }
     if (!is_design) return;
     enum dividing dividing = dividing_of(t);
@@ -108,10 +119,10 @@ static void count(struct counts *seen, const struct text *t, const uint8_t *repo
 static void print_counts(const char *what, const unsigned *seen) {
     unsigned texts = 0;
     for (int c = 0; c < SORTS; c++) texts += seen[c];
-    printf("fuzz: %u %s: accepted %u; failed by criterion", texts, what, seen[0]);
+    printf("fuzz: %u %s: accepted %u, after a first internal step %u; failed by criterion", texts, what, seen[0], seen[AFTER_INTERNAL]);
     for (int c = 1; c <= CRITERIA; c++) printf(" %u", seen[c]);
     printf("; turned down by number");
-    for (int c = CRITERIA + 1; c < SORTS; c++) printf(" %u", seen[c]);
+    for (int c = CRITERIA + 1; c < AFTER_INTERNAL; c++) printf(" %u", seen[c]);
     printf("\n");
 }
 
@@ -314,7 +325,7 @@ static void load(struct list *l, const struct text *t, struct known known) {
 }
 
 static void advance(struct list *l, uint64_t n) {
-    static const char *const words[] = {"open", "accepted", "failed", "turned down"};
+    static const char *const words[] = {"open", "accepted", "failed", "turned down", "accepted3"};
     uint64_t number;
     uint32_t stands = reference_advance(l->desk, n, &number);
     fprintf(l->calls, "advance %llu\n", (unsigned long long)n);
@@ -365,7 +376,7 @@ static void desk_one(struct list *l, const struct text *t, struct known known) {
 
 static int is_accepted(const struct text *t) {
     uint8_t report[REPORT];
-    return reference_check(t->bytes, t->len, report, REPORT) == CHECK_ACCEPTED;
+    return CHECK_IS_ACCEPTED(reference_check(t->bytes, t->len, report, REPORT));
 }
 
 // Tables of less than 8,000 bytes.
@@ -407,6 +418,7 @@ int main(int n, char **words) {
     print_counts("texts", seen.all);
     print_counts("of them with marks", seen.marked);
     printf("fuzz: %u of these get another report without the line of kind 8\n", seen.by_marks);
+    printf("fuzz: %u of these are accepted after a first internal step, though no step of the initial state is marked\n", seen.from_focus_point);
     print_counts("of the designs divide by what can be 0", seen.dividing);
     print_counts("of them have another report where a remainder by zero is its dividend", seen.by_zero);
     printf("fuzz: %u designs more divide, by numbers above 0 alone\n", seen.by_numbers);

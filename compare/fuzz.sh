@@ -16,7 +16,7 @@ ${CC:-cc} -std=c11 -O2 -Wall -Wextra compare/fuzz.c target/staticlib/lib{checker
     target/reference/release/libreference_c.a -lpthread -ldl -lm -o "$work/fuzz"
 echo "fuzz: seed $seed; again with: compare/fuzz.sh $count $seed"
 # Tables of many states take the reference long; compare/run.sh has them.
-mapfile -t tables < <(printf '%s\n' compare/tables/*.txt | grep -Ev '/(t5_size|s_[0-9])')
+mapfile -t tables < <(printf '%s\n' compare/tables/*.txt | grep -Ev '/(t5_size|s_[0-9]|r_s_)')
 "$work/fuzz" "$count" "$seed" "$work/calls" "$work/due" "${tables[@]}"
 target/bin/desk_calls < "$work/calls" > "$work/answers"
 cmp "$work/due" "$work/answers" || { diff "$work/due" "$work/answers" | head -n 4 || true; exit 1; }

@@ -63,6 +63,7 @@ while read -r name bytes n calls _; do
 done < "$work/plan" | target/bin/desk_calls > "$work/answers"
 awk '
     function due(words) { print words "\t" $1 " by " $3 }
+    function end(verdict) { return verdict == 0 ? "accepted" : verdict == 3 ? "accepted3" : "failed" }
     $6 == 2 { due("turned down " $7); for (i = 0; i < $4 + 2; i++) due("turned down 11"); next }
     {
         due("load 0")
@@ -73,7 +74,7 @@ awk '
             decided = left <= $3 + 0
             here = decided ? left : $3
             left -= here
-            due((!decided ? "open" : $6 == 0 ? "accepted" : "failed") " " here)
+            due((decided ? end($6) : "open") " " here)
         }
         due("verdict " $6 " " $7 " " $8 " " $9 " " $10)
         due("drop 0")
@@ -105,8 +106,8 @@ awk -F '\t' '
     FNR == NR { report[$1] = $2; next }
     {
         split(report[$1], r, " ")
-        end = r[1] == 0 ? "accepted" : "failed"
-        examined = r[1] == 0 ? $2 : r[2] == 1 ? 0 : r[3] + 1
+        end = r[1] == 0 ? "accepted" : r[1] == 3 ? "accepted3" : "failed"
+        examined = r[1] != 1 ? $2 : r[2] == 1 ? 0 : r[3] + 1
         due("load 0")
         due("turned down 17")
         measure(0)

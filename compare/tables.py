@@ -1,6 +1,6 @@
 #!/usr/bin/env python3
-"""Writes the tables of compare/tables that are edges of the rules: each limit, turned-down number and criterion, marks, measures, and
-terms without a value.
+"""Writes the tables of compare/tables that are edges of the rules: each limit, turned-down number and criterion, marks, measures, terms
+without a value, and first internal steps.
 
 Usage: tables.py DIRECTORY. The same files come out each time. The other tables there are kept by hand.
 """
@@ -404,17 +404,21 @@ def criteria():
     put("c_outside_invariant_all", small(parameters=[(4, 0)], rows=[[0, 1, 13, 0, 0, 1, 0, 0, 0, 1, 0]], invariant=[12, 1, 0, 0, 0]))
 
 
+def state_of(number, sizes):
+    """The values of the state with a number."""
+    values = []
+    for size in reversed(sizes):
+        values.insert(0, number % size)
+        number //= size
+    return values
+
+
 def many_states():
     # Accepted after all 65,536 states, and failing at the first, a middle and the last.
     for state in (0, 32768, 65535):
         for sizes in ((256, 256), (32768, 2), (2, 32768), (4,) * 8):
-            values = []
-            rest = state
-            for size in reversed(sizes):
-                values.insert(0, rest % size)
-                rest //= size
             formula = [10]
-            for i, v in enumerate(values):
+            for i, v in enumerate(state_of(state, sizes)):
                 formula = [15] + formula + [12, 1, i, 0, v]
             table = small(parameters=[(s, 0) for s in sizes], rows=[[1, 1] + formula + [0, 0] + [x for i in range(len(sizes)) for x in (1, i)]])
             put("s_%d_%s" % (state, "_".join(map(str, sizes))), table)
@@ -1169,11 +1173,141 @@ def runs_that_lack():
     put("o_lacks_next_of_0_not_enabled", small(parameters=[(6, 0)], rows=[[0, 4, 15, *above, 13, 0, 0, 2, *by_sum]], measure=[1, 0]))
 
 
+# Verdict 3: an internal row is enabled in the initial state.
+
+def down(*conditions, start=3, states=6, span=1, visible=(0,)):
+    """States from 0 on, of which one is the initial one. An internal row for each condition, which leads to the state below; and rows of
+    visible actions, enabled everywhere, before those with these numbers."""
+    rows = [[0, span, *condition, 0, 0, *choice([12, 1, 0, 0, 0], [0, 0], [4, 1, 0, 0, 1])] for condition in conditions]
+    for action, at in enumerate(visible, 1):
+        rows.insert(at + action - 1, [action, 1, 10, 0, action, 1, 0])
+    spec_rows = [[action, 1, 10, 0, action, 0, 0] for action, _ in enumerate(visible, 1)]
+    return small(parameters=[(states, start)], rows=rows, spec_rows=spec_rows, measure=[1, 0])
+
+
+def in_state(number):
+    return [12, 1, 0, 0, number]
+
+
+def first_steps():
+    here, elsewhere = in_state(3), [15, 14, *in_state(3), 14, *in_state(0)]
+    put("r_no_rows", small())
+    put("r_visible_alone", down())
+    put("r_spec_rows_alone", small(spec_rows=[[1, 1, 11, 0, 0, 0, 0]]))
+    put("r_enabled_everywhere", down([14, *in_state(0)]))
+    put("r_enabled_nowhere", down([11]))
+    for start in (0, 1, 3, 5):
+        for state in (1, 2, 3, 4, 5):
+            put("r_start_%d_enabled_in_%d" % (start, state), down(in_state(state), start=start))
+        others = [15, 14, *in_state(start), 14, *in_state(0)]
+        put("r_start_%d_enabled_elsewhere" % start, down(others, start=start))
+    # Sum values.
+    for span in (1, 2, 3, 255, 256):
+        for s in sorted({0, 1, span // 2, span - 1, span}):
+            put("r_span_%d_sum_%d" % (span, s), down([15, 12, 2, 0, s, *here], span=span))
+        put("r_span_%d_elsewhere" % span, down([15, 12, 2, 0, span - 1, *elsewhere], span=span))
+    # Several rows, among visible ones.
+    for count in (2, 3, 30):
+        for at in sorted({0, 1, count - 1, count}):
+            conditions = [here if i == at else elsewhere for i in range(count)]
+            put("r_rows_%d_at_%d" % (count, at), down(*conditions))
+            put("r_rows_%d_at_%d_among_visible" % (count, at), down(*conditions, visible=(1, count)))
+    put("r_rows_all", down(*[here] * 32, visible=()))
+    put("r_rows_spans", small(parameters=[(6, 3)], rows=[[0, 2, 15, 12, 2, 0, 2, *here, 0, 0, 0, 0], [0, 256, 15, 12, 2, 0, 255, *here, 0, 0, 0, 0]],
+                              measure=[1, 0]))
+    put("r_rows_spans_none", small(parameters=[(6, 3)], rows=[[0, 2, 15, 12, 2, 0, 2, *here, 0, 0, 0, 0],
+                                                              [0, 255, 15, 12, 2, 0, 255, *here, 0, 0, 0, 0]], measure=[1, 0]))
+
+
+def first_steps_and_marks():
+    """Whether a step is marked, and where it leads, makes no difference."""
+    here, elsewhere = in_state(3), [15, 14, *in_state(3), 14, *in_state(0)]
+    loop = small(parameters=[(6, 3)], rows=[[1, 1, 10, 0, 7, 1, 0], [0, 1, *here, 0, 0, 1, 0]], spec_rows=[[1, 1, 10, 0, 7, 0, 0]])
+    for name, formula in (("all", [10]), ("none", [11]), ("here", here), ("elsewhere", elsewhere), ("by_sum", [12, 2, 0, 0]),
+                          ("by_other_sum", [12, 2, 0, 1])):
+        put("r_mark_" + name, marked(down(here), formula))
+        put("r_mark_%s_enabled_elsewhere" % name, marked(down(elsewhere), formula))
+        put("r_loop_mark_" + name, marked(loop, formula))
+    for first, second in (("marked", "unmarked"), ("unmarked", "marked"), ("unmarked", "unmarked")):
+        formulas = [[10] if sort == "marked" else [11] for sort in (first, second)]
+        put("r_rows_%s_%s" % (first, second), marked(down(here, here), *formulas))
+        put("r_rows_%s_%s_first" % (first, second), marked(down(here, elsewhere), *formulas))
+        put("r_rows_%s_%s_second" % (first, second), marked(down(elsewhere, here), *formulas))
+        put("r_rows_%s_%s_none" % (first, second), marked(down(elsewhere, elsewhere), *formulas))
+    for s in (0, 1, 255):
+        put("r_sum_%d_marked" % s, marked(down(here, span=256), [12, 2, 0, s]))
+        put("r_sum_%d_unmarked" % s, marked(down(here, span=256), [14, 12, 2, 0, s]))
+        put("r_sum_%d_enabled_unmarked" % s, marked(down([15, 12, 2, 0, s, *here], span=256), [14, 12, 2, 0, s]))
+    # A ring of steps that aren't marked, also within the invariant; steps that lead to the initial state, within the invariant and outside.
+    ring = [[0, 1, 10, 0, 0, 5, 3, 1, 0, 0, 1, 0, 6]]
+    put("r_ring", marked(small(parameters=[(6, 3)], rows=ring), [11]))
+    put("r_ring_in_invariant", marked(small(parameters=[(6, 3)], rows=[[0, 1, 10, 0, 0, 5, 3, 1, 0, 0, 1, 0, 4]], invariant=[13, 1, 0, 0, 4]), [11]))
+    put("r_leads_to_start", marked(small(parameters=[(6, 3)], rows=[[0, 1, 14, *here, 0, 0, 0, 3]]), [11]))
+    put("r_enabled_outside_invariant", small(parameters=[(6, 3)], rows=[[0, 1, 14, *here, 0, 0, 0, 3]], invariant=here))
+    for name in ("retry", "chain"):
+        table = {"retry": RETRY, "chain": CHAIN}[name]
+        for start in range(table[0][1]):
+            formulas = {"retry": [[12, 2, 0, 1]], "chain": CHAIN_MARKS}[name]
+            put("r_%s_start_%d" % (name, start), marked(changed(table, 0, [1, table[0][1], start]), *formulas))
+
+
+def first_steps_of_wide():
+    """The wide table starts where its internal row is enabled: 3 if it is accepted. Criteria fail in a late, a middle or an early state."""
+    def start(table, phase, price):
+        lines = [[1, 3, phase], [1, 8, price], [2, 2, min(phase, 1)], [2, 8, price]]
+        return lines + table[4:]
+
+    for phase in range(3):
+        for price in (0, 4, 7):
+            put("r_wide_start_%d_%d" % (phase, price), start(WIDE, phase, price))
+    put("r_wide_fails_1_invariant", changed(start(WIDE, 1, 4), 11, [5, 14] + at_state(1, 4)))
+    put("r_wide_fails_1_mapping", changed(start(WIDE, 1, 4), 2, [2, 2, 0]))
+    put("r_wide_fails_1_missing", changed(start(WIDE, 1, 4), 11, [5] + lacking(at_state(1, 4))))
+    fails = {
+        "2": (0, lambda here: changed(WIDE, 12, [6] + MAPPING[0] + choice(here, [0, 8], [1, 1]))),
+        "3": (2, lambda here: with_row(ROWS, 4, phase=choice(here, [0, 3], [1, 0]))),
+        "4": (1, lambda here: with_row(ROWS, 2, price=choice(here, [5, 3, 1, 1, 0, 1, 0, 8], [1, 1]))),
+        "5": (1, lambda here: with_row(ROWS, 2, phase=choice(here, [0, 1], [0, 2]))),
+        "6": (1, lambda here: with_row(SPEC_ROWS, 2, condition=[14] + here)),
+        "7": (2, lambda here: with_row(ROWS, 4, condition=[14] + here)),
+        "8": (2, lambda here: with_row(ROWS, 4, data=choice(here, [0, 99], [0, 3]))),
+        "9": (2, lambda here: with_row(ROWS, 4, price=choice(here, [5, 3, 1, 1, 0, 1, 0, 8], [1, 1]))),
+        "10": (2, lambda here: marked(WIDE, lacking(here))),
+    }
+    for criterion, (phase, table) in fails.items():
+        for name, price in (("late", 7), ("middle", 4), ("early", 0)):
+            put("r_wide_fails_%s_%s" % (criterion, name), start(table(at_state(phase, price)), 1, 4))
+    # A condition that has a value, or has none, in the initial state.
+    here = at_state(1, 4)
+    for name, formula in formulas_that_do_not(here, ROWS[2][1]).items():
+        put("r_wide_condition_has_" + name, start(with_row(ROWS, 2, condition=formula), 1, 4))
+    for name, formula in formulas_that_lack(here, ROWS[2][1]).items():
+        put("r_wide_condition_by_" + name, start(with_row(ROWS, 2, condition=formula), 1, 4))
+    for name, value in values_that_do_not(in_state(3), [0, 7]).items():
+        put("r_condition_%s_holds" % name, marked(down([12, 0, 7, *value]), [11]))
+        put("r_condition_%s_does_not" % name, marked(down([12, 0, 8, *value]), [11]))
+
+
+def first_steps_in_many_states():
+    for sizes in ((256, 256), (32768, 2), (4,) * 8):
+        for name, number in (("first", 0), ("middle", 32769), ("last", 65535)):
+            values = state_of(number, sizes)
+            here = [10]
+            for i, value in enumerate(values):
+                here = [15] + here + [12, 1, i, 0, value]
+            stays = [x for i in range(len(sizes)) for x in (1, i)]
+            title = "r_s_%s_%s" % (name, "_".join(map(str, sizes)))
+            for where, condition in (("here", here), ("elsewhere", [14] + here)):
+                rows = [[0, 1, *condition, 0, 0, *stays]]
+                put("%s_%s" % (title, where), marked(small(parameters=list(zip(sizes, values)), rows=rows), [11]))
+
+
 for part in (long_texts, bad_columns, many_fields, shapes, bounds, terms, actions, together, criteria, many_states, all_marked,
              marks_of_designs, count_of_marks, place_of_marks, terms_of_marks, fields_of_marks, faults_with_marks, marks_by_sum,
              order_of_marks, focus_points, marks_and_criteria, wide_marks, runs, loops, steps_that_leave, long_runs, lacks_at_places,
              lacks_by_terms, lacks_for_a_sum, lacks_at_initial_state, lacks_at_next_state, order_of_10, lacks_in_specification,
-             outside_the_invariant, zeros, slots_of_pumps, runs_that_lack):
+             outside_the_invariant, zeros, slots_of_pumps, runs_that_lack, first_steps, first_steps_and_marks, first_steps_of_wide,
+             first_steps_in_many_states):
     part()
 for name, table in made.items():
     with open(os.path.join(directory, name + ".txt"), "wb") as file:

@@ -7,7 +7,7 @@
 #include <stdlib.h>
 #include <string.h>
 
-enum { ROOM = 40000, POOL = 2500 };
+enum { ROOM = 40000, POOL = 3000 };
 
 struct text {
     uint8_t bytes[ROOM];
@@ -753,6 +753,23 @@ static unsigned terms_of(const struct text *t, struct term *list) {
         line++;
     }
     return n;
+}
+
+// A design with its marked steps alone: the condition of each internal row, from the last on, is and-ed with its mark.
+static void keep_marked_steps(struct text *t) {
+    static struct term list[MOST_TERMS];
+    static struct text old, both;
+    const unsigned n = terms_of(t, list);
+    unsigned mark = n;
+    old = *t;
+    for (unsigned i = n; i-- > 0;) {
+        if (list[i].place != CONDITION || field_at(&old, list[i].at - 12) != 0 || mark == 0) continue;
+        both.len = 0;
+        mark--;
+        field(&both, 15);
+        put(&both, old.bytes + list[mark].at, list[mark].end - list[mark].at);
+        splice(t, list[i].at, 0, both.bytes, both.len);
+    }
 }
 
 // How a text divides: not at all, by numbers above 0, or by what can be 0.

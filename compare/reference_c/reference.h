@@ -36,7 +36,7 @@ uint32_t reference_verdict(const struct reference_desk *desk, uint16_t numbers[5
 uint32_t reference_drop(struct reference_desk *desk);
 
 /* Except that an advance gives how the desk stands, and a number: how many states it examined, or by which it is turned down. */
-enum { REFERENCE_OPEN, REFERENCE_ACCEPTED, REFERENCE_FAILED, REFERENCE_TURNED_DOWN };
+enum { REFERENCE_OPEN, REFERENCE_ACCEPTED, REFERENCE_FAILED, REFERENCE_TURNED_DOWN, REFERENCE_ACCEPTED_AFTER_INTERNAL };
 uint32_t reference_advance(struct reference_desk *desk, uint64_t n, uint64_t *number);
 
 /* And that a measure gives and tells what measure_design does. */

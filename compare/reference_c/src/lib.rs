@@ -162,7 +162,7 @@ pub unsafe extern "C" fn reference_advance(desk: *mut Desk, n: u64, number: *mut
                 Standing::Open => 0,
                 Standing::Accepted => 1,
                 Standing::Failed => 2,
-                Standing::AcceptedAfterStep => unreachable!("verdict 3 comes with request 6"),
+                Standing::AcceptedAfterStep => 4,
             }
         }
         Err(refusal) => {
