@@ -36,7 +36,7 @@ zero-is (arith o v w) e = absurd (false≢true e)
 zero-is (choice f v w) e = absurd (false≢true e)
 zero-is noValue e = absurd (false≢true e)
 
-by-zero : (v : Value) → Reflects (v ≡ num 0) (isZero v)
+pub by-zero : (v : Value) → Reflects (v ≡ num 0) (isZero v)
 by-zero v = by-iff (zero-is v) (λ e. ap isZero e) (by-value (isZero v))
 
 -- ---- where the test says yes

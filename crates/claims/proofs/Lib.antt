@@ -15,3 +15,6 @@ pub mod PumpByFive
 pub mod Text
 pub mod Writers
 pub mod Measures
+pub mod Looks
+pub mod Duty
+pub mod Lent

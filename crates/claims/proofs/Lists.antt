@@ -76,7 +76,7 @@ asks-nothing = record {
 }
 
 -- bytes, or a number, lent from anywhere
-abbrev lent : {A : Type 0} → A → RefT A
+abbrev pub lent : {A : Type 0} → A → RefT A
 lent x = record { ptr = (0, 0); name = 0; now = x }
 
 writes-as : (way : Way) (text buffer : List ℕ) → let w = conversion.answerOf way text buffer in

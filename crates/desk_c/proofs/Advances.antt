@@ -1,4 +1,4 @@
--- The loop of `desk_advances`: the advances made, and those that are left till one is not answered open, are all that it takes.
+-- The loop of `bench_advances`: the advances made, and those that are left till one is not answered open, are all that it takes.
 use Prim.Native.Nat.{ℕ, suc, _+_, _-_, _<_, _≤_}
 use mathlib.Core.Path.{_≡_, refl, sym, ap, _∙_}
 use mathlib.Core.Bool.{Bool, true, false, not}

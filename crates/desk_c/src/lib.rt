@@ -12,7 +12,7 @@ const MOST: u64 = limits::MAX_STATES as u64;
 
 // Loads a text: 0, or the number by which it is turned down.
 #[no_mangle]
-pub extern "C" fn desk_load(text: &[u8]) -> u32
+pub extern "C" fn bench_load(text: &[u8]) -> u32
     ensures { λ r. ⌜ r ≡ faultOf (now (text .entry)) ⌝ }
 {
     let loaded = Desk::empty().load(text);
@@ -26,7 +26,7 @@ pub extern "C" fn desk_load(text: &[u8]) -> u32
 // Loads a text and advances by n while the desk is open: how many advances that takes, the one that ends it included, so 1 where the text is
 // turned down or n is 0.
 #[no_mangle]
-pub extern "C" fn desk_advances(text: &[u8], n: u64) -> u64
+pub extern "C" fn bench_advances(text: &[u8], n: u64) -> u64
     ensures { λ r. ⌜ r ≡ advancesTill 65536 (loadOf emptyDesk (now (text .entry)) .desk) n ⌝ }
 {
     let loaded = Desk::empty().load(text);

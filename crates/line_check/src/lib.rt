@@ -100,7 +100,7 @@ fn ended(part: &[u8]) -> bool
 }
 
 // What is left of a part after n fields; of a part with fewer, what stands after its last.
-fn after_fields(part: &[u8], n: usize) -> &[u8]
+pub fn after_fields(part: &[u8], n: usize) -> &[u8]
     ensures { λ r. ⌜ fieldsOf (now r) ≡ drop n (fieldsOf (now (part .entry))) ⌝ }
 {
     let mut left = part;

@@ -5,7 +5,7 @@ use mathlib.Core.Bool.{Bool, true, false, not, cond}
 use mathlib.Core.List.{List}
 use Prim.Native.Nat.{ℕ, zero, suc, _+_, _-_, _≤_, _<_}
 use native.Mathlib.Omega.{arith}
-use borrow.Author.Tests.{ne-eqb, not-true, not-false}
+use borrow.Author.Tests.{eq-eqb, ne-eqb, not-true, not-false}
 use lib.ListN.{length}
 use Rattle.foundation.specs.First.{Outcome, fail, failIf, orElse, firstIn}
 use Rattle.foundation.specs.Trial.{Place as At, place, firstPlace, inCriterion}
@@ -19,7 +19,7 @@ use Rattle.design.specs.declared.Shape.{Shape}
 use Rattle.layout.specs.Sizes.{Fits}
 use Rattle.steps.specs.Arrays.{rowSpan, mappedIn}
 use Rattle.steps.proofs.States.{rows-count}
-use Rattle.lowest_failure.specs.Search.{Known, toldPlace, atImpl, atImplBy, atSpec, holdsFor, spanFor, rowsFor, inRow, inRows, inCriteria}
+use Rattle.lowest_failure.specs.Search.{Known, toldPlace, atImpl, atImplBy, atSpec, holdsFor, criterionFor, spanFor, rowsFor, inRow, inRows, inCriteria}
 use Rattle.verdicts.specs.declared.Place.{Place}
 use Rattle.lowest_failure.specs.declared.Finding.{Finding}
 use Rattle.lowest_failure.specs.declared.Finding.the-variants.{Nothing, Found}
@@ -73,6 +73,14 @@ module _ (d : Design) (v : State) (r : Bool) (n k e : ℕ) where
       → r ≡ atImpl holds9 d v k e → r ≡ holdsFor d v n k e
   unfolding holdsFor
   arm-else h3 h4 h5 h6 h7 h8 er = er ∙ simp (ne-eqb n 3 h3, ne-eqb n 4 h4, ne-eqb n 5 h5, ne-eqb n 6 h6, ne-eqb n 7 h7, ne-eqb n 8 h8)
+
+  pub arm2 : n ≡ 2 → r ≡ holds2 d v → r ≡ criterionFor d v n k e
+  unfolding criterionFor
+  arm2 y er = er ∙ rw (eq-eqb n 2 y)
+
+  pub arm-others : (n ≡ 2 → ⊥) → r ≡ holdsFor d v n k e → r ≡ criterionFor d v n k e
+  unfolding criterionFor
+  arm-others y er = er ∙ rw (ne-eqb n 2 y)
 
 -- ---- the loops
 

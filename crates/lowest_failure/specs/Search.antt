@@ -9,7 +9,7 @@ use Rattle.foundation.specs.First.{Outcome, pass, fail, failIf, firstIn, allIn}
 use Rattle.foundation.specs.Trial.{Place, place}
 use Rattle.criteria.specs.Design.{Design, Row, State, mapped}
 use Rattle.criteria.specs.Rows.{rowAt, markedTest}
-use Rattle.decision.specs.Tests.{focusB, holds3, holds4, holds5, holds6, holds7, holds8, holds9}
+use Rattle.decision.specs.Tests.{focusB, holds2, holds3, holds4, holds5, holds6, holds7, holds8, holds9}
 use Rattle.design.specs.declared.Shape.{Shape}
 use Rattle.layout.specs.Sizes.{Fits}
 use Rattle.steps.specs.Arrays.{padded}
@@ -53,6 +53,10 @@ holdsFor d v n k e =
     (cond (eqb n 7) (atSpec holds7 d v k e)
     (cond (eqb n 8) (atImpl holds8 d v k e)
     (atImpl holds9 d v k e))))))
+
+-- criterion n of 2 to 9; in 2 row and sum value do not matter
+unfoldable pub criterionFor : Design → State → ℕ → ℕ → ℕ → Bool
+criterionFor d v n k e = cond (eqb n 2) (holds2 d v) (holdsFor d v n k e)
 
 unfoldable pub spanFor : Design → ℕ → ℕ → ℕ
 spanFor d n k = cond (eqb n 7) (rowAt (d .spec .rows) k .span) (rowAt (d .impl .rows) k .span)

@@ -8,7 +8,7 @@ ghost use Rattle.decision.specs.Tests as tests;
 ghost use Rattle.decision.specs.Examine.{firstFailing};
 ghost use Rattle.design.specs.Loaded.{designAt};
 ghost use Rattle.layout.specs.Sizes.{Fits};
-ghost use Rattle.lowest_failure.specs.Search.{Known, toldPlace, atImpl, atImplBy, atSpec, quietIn, holdsFor, spanFor, rowsFor, inRow, inRows, inCriteria};
+ghost use Rattle.lowest_failure.specs.Search.{Known, toldPlace, atImpl, atImplBy, atSpec, quietIn, holdsFor, criterionFor, spanFor, rowsFor, inRow, inRows, inCriteria};
 
 pub enum Finding {
     Nothing,
@@ -356,4 +356,28 @@ pub fn lowest<'a>(
         });
     }
     in_criteria(fields, starts, shape, here)
+}
+
+// Whether criterion n, one of 2 to 9, holds at the state v, for row k and a sum value.
+pub fn criterion<'a>(
+    fields: &'a limits::Fields,
+    starts: &'a limits::Starts,
+    shape: Shape,
+    v: limits::Values,
+    n: u16,
+    k: u16,
+    sum: u16,
+) -> bool
+    requires { ⌜ Fits shape ⌝ }
+    ensures { λ r. ⌜ r ≡ criterionFor (designAt (now (fields .entry)) (now (starts .entry)) shape) v n k sum ⌝ }
+{
+    let here = Here {
+        state: v,
+        mapped: steps::mapped(fields, starts, shape, &v),
+        focus: focus(fields, starts, shape, &v),
+    };
+    if n == 2 {
+        return holds2(fields, starts, shape, here);
+    }
+    holds(fields, starts, shape, here, n, k, sum)
 }

@@ -34,7 +34,7 @@ use Rattle.steps.specs.declared.Step.{Step}
 -- ---- the values of terms, one after the other
 
 -- past the end nothing is stored
-sets-out : (w : List ℕ) (i : ℕ) (vs : List ℕ) → length w ≤ i → sets w i vs ≡ w
+pub sets-out : (w : List ℕ) (i : ℕ) (vs : List ℕ) → length w ≤ i → sets w i vs ≡ w
 sets-out w i [] l = refl
 sets-out w i (x ∷ vs) l = rw (set-out w i x l) (sets-out w (suc i) vs (omega arith))
 

@@ -71,7 +71,7 @@ unfolding firstValues
 first-later zero i a x = refl
 first-later (suc n) i a x = rw (first-later n (suc i) a x)
 
-first-all : (x : List ℕ) → firstValues (length x) 0 x ≡ x
+pub first-all : (x : List ℕ) → firstValues (length x) 0 x ≡ x
 unfolding firstValues
 first-all [] = refl
 first-all (a ∷ x) = rw (first-later (length x) 0 a x, first-all x)

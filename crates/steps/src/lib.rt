@@ -28,7 +28,7 @@ pub const NOWHERE: u32 = limits::MAX_STATES as u32;
 // ---- values
 
 // No more than there is room for.
-fn few(n: u8) -> usize
+pub fn few(n: u8) -> usize
     ensures { λ r. ⌜ r ≡ min n 8 ⌝ }
 {
     if (n as usize) < limits::MAX_PARAMETERS {

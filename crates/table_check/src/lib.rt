@@ -170,7 +170,7 @@ fn line_numbers_fit<'a>(fields: &'a [u16], starts: &'a [u16], i: usize) -> bool
 }
 
 // "Sizes and spans are at least 1, spans at most 256, initial values below their size."
-fn in_bounds(role: Role, first: u16, second: u16) -> bool
+pub fn in_bounds(role: Role, first: u16, second: u16) -> bool
     ensures { λ r. ⌜ r ≡ numbersFitBy role first second ⌝ }
 {
     match role {

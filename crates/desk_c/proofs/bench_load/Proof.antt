@@ -1,11 +1,11 @@
--- `desk_load` returns the number of its load.
+-- `bench_load` returns the number of its load.
 use borrow.Author.Needs.{needs}
 use Rattle.desk_c.proofs.Loads as laws
-use Rattle.desk_c.proofs.desk_load.Statement.{statement}
-use Rattle.desk_c.proofs.desk_load.Tie as tie
+use Rattle.desk_c.proofs.bench_load.Statement.{statement}
+use Rattle.desk_c.proofs.bench_load.Tie as tie
 
-pub desk-load-spec : {M : Type 1} → statement M
-desk-load-spec =
+pub bench-load-spec : {M : Type 1} → statement M
+bench-load-spec =
     tie.close
     (tie.spec
     (λ c κs. search needs)

@@ -1,12 +1,12 @@
--- `desk_advances` makes as many advances as it takes.
+-- `bench_advances` makes as many advances as it takes.
 use borrow.Author.Needs.{needs}
 use native.Mathlib.Omega.{arith}
 use mathlib.Core.Path.{_≡_}
 use Prim.Native.Nat.{_-_, _≤_}
 use Rattle.desk_c.proofs.Advances.{withLeft, taken}
 use Rattle.desk_c.proofs.Advances as laws
-use Rattle.desk_c.proofs.desk_advances.Statement.{statement}
-use Rattle.desk_c.proofs.desk_advances.Tie as tie
+use Rattle.desk_c.proofs.bench_advances.Statement.{statement}
+use Rattle.desk_c.proofs.bench_advances.Tie as tie
 
 abbrev Inv-loop : tie.InvT-loop
 Inv-loop text n desk₀ made₀ desk made = (made ≤ 65536) × (withLeft desk n made ≡ taken text n)
@@ -14,8 +14,8 @@ Inv-loop text n desk₀ made₀ desk made = (made ≤ 65536) × (withLeft desk n
 abbrev μ-loop : tie.MeasureT-loop
 μ-loop text n desk₀ made₀ desk made = 65536 - made
 
-pub desk-advances-spec : {M : Type 1} → statement M
-desk-advances-spec =
+pub bench-advances-spec : {M : Type 1} → statement M
+bench-advances-spec =
     tie.close
     (tie.spec
     Inv-loop
