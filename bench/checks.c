@@ -10,8 +10,8 @@
 #include "walk_plain.h"
 
 /* What the static library of the crate desk_c has. */
-uint32_t desk_load(const uint8_t *text, size_t text_len);
-uint64_t desk_advances(const uint8_t *text, size_t text_len, uint64_t n);
+uint32_t bench_load(const uint8_t *text, size_t text_len);
+uint64_t bench_advances(const uint8_t *text, size_t text_len, uint64_t n);
 
 enum { OURS, PLAIN, HOISTED, REFERENCE, SORTS };
 
@@ -46,7 +46,7 @@ static int plain(const struct job *j) { return plain_walk(&j->table, 0, j->table
 
 static int hoisted(const struct job *j) { return plain_walk(&j->table, 0, j->table.states, 1); }
 
-static int our_load(const struct job *j) { return desk_load(j->text.bytes, j->text.len) == 0; }
+static int our_load(const struct job *j) { return bench_load(j->text.bytes, j->text.len) == 0; }
 
 static int reference_loads(const struct job *j)
 {
@@ -73,7 +73,7 @@ static int our_unmark(const struct job *j) { return written_by(unmark_design, j)
 
 static int reference_unmarks(const struct job *j) { return written_by(reference_unmark, j) == j->text.len; }
 
-static int our_advances(const struct job *j) { return desk_advances(j->text.bytes, j->text.len, 1) == j->table.states; }
+static int our_advances(const struct job *j) { return bench_advances(j->text.bytes, j->text.len, 1) == j->table.states; }
 
 static int reference_advances(const struct job *j)
 {

@@ -7,10 +7,10 @@ set -euo pipefail
 cd "$(dirname "$0")/.."
 out=target/bench
 mkdir -p "$out"
-for name in checker conversion measuring desk_c; do tools/library.sh $name; done
+for name in checker conversion measuring looking duty lent_desk desk_c; do tools/library.sh $name; done
 compare/reference_c/build.sh
 python3 bench/tables.py "$out"
-libraries=(target/staticlib/lib{checker,conversion,measuring}.a)
+libraries=(target/staticlib/lib{checker,conversion,measuring,looking,duty,lent_desk}.a)
 flags=(-std=c11 -O3 -Wall -Wextra)
 ${CC:-gcc} "${flags[@]}" bench/checks.c "${libraries[@]}" target/staticlib/libdesk_c.a target/reference/release/libreference_c.a \
     -lpthread -ldl -lm -o "$out/checks"

@@ -13,6 +13,7 @@ enum { STACK = 1 << 20, PAINT = 0xA5 };
 static ucontext_t here, there;
 static uint8_t stack[STACK], text[1 << 16], report[CHECK_REPORT_BYTES], result[MARK_RESULT_BYTES];
 static uint16_t slice[MEASURE_PLACES];
+static struct check_desk desk;
 static size_t len;
 static uint32_t number;
 
@@ -26,10 +27,30 @@ static void unmark(void) { unmark_design(text, len, result, sizeof result, &numb
 
 static void measure(void) { measure_design(text, len, slice, MEASURE_PLACES, &number); }
 
+static void hold(void) { hold_design(text, len, desk.held.fields, desk.held.starts, desk.held.counts); }
+
+static void name_line(void) { fault_line(text, len, 1); }
+
+static void compare(void) { same_duty(text, len, text, len); }
+
+static void load(void)
+{
+    desk_new(&desk);
+    desk_load(&desk, text, len);
+}
+
+static void advance(void)
+{
+    size_t states;
+    load();
+    desk_advance(&desk, MEASURE_PLACES, &states);
+}
+
 static const struct {
     const char *name;
     void (*call)(void);
-} functions[] = {{"check_design", check}, {"mark_design", mark}, {"unmark_design", unmark}, {"measure_design", measure}};
+} functions[] = {{"check_design", check}, {"mark_design", mark}, {"unmark_design", unmark}, {"measure_design", measure},
+               {"hold_design", hold}, {"fault_line", name_line}, {"same_duty", compare}, {"desk_load", load}, {"desk_advance", advance}};
 
 enum { FUNCTIONS = sizeof functions / sizeof *functions };
 

@@ -1,7 +1,8 @@
-/* turns ROUNDS FUNCTION THIS OTHER TEXT..: check_design or desk_load of two shared libraries on each text, in turn, ROUNDS times; the least
+/* turns ROUNDS FUNCTION THIS OTHER TEXT..: check_design or bench_load of two shared libraries on each text, in turn, ROUNDS times; the least
  * time of each counts, as that with the least other work beside it. Prints this one's time over the other's. */
 #define _POSIX_C_SOURCE 200809L
 #include <dlfcn.h>
+#include <stdbool.h>
 #include <stdio.h>
 #include <stdlib.h>
 #include <string.h>
@@ -35,10 +36,12 @@ static struct timed timed_of(const char *library, const char *function)
 {
     struct timed t = {0};
     void *handle = dlopen(library, RTLD_NOW | RTLD_LOCAL);
+    const bool load = strcmp(function, "bench_load") == 0;
     void *symbol = handle ? dlsym(handle, function) : NULL;
+    if (handle && load && !symbol) symbol = dlsym(handle, "desk_load"); /* its name before 4.0.0 */
     if (!symbol) { fprintf(stderr, "%s: %s\n", library, dlerror()); exit(1); }
-    if (strcmp(function, "desk_load")) memcpy(&t.check, &symbol, sizeof symbol);
-    else memcpy(&t.load, &symbol, sizeof symbol);
+    if (load) memcpy(&t.load, &symbol, sizeof symbol);
+    else memcpy(&t.check, &symbol, sizeof symbol);
     return t;
 }
 
