@@ -2,6 +2,7 @@
 #ifndef ANSWER_H
 #define ANSWER_H
 
+#include "output.h"
 #include "paths.h"
 
 #include <stdbool.h>
@@ -9,13 +10,18 @@
 enum format { WORDS, REPORT, JSON };
 
 /* What comes of a file, the gravest last. */
-enum result { ACCEPTED, AFTER_INTERNAL, FAILED, TURNED_DOWN, UNREAD, RESULTS };
+enum result { ACCEPTED, AFTER_INTERNAL, FAILED, OTHER_DUTY, TURNED_DOWN, NOT_FINISHED, UNREAD, RESULTS };
 
-/* That of a table by its verdict, and the exit status if nothing graver came of any file. */
+/* That of a table by its verdict, the word that its line begins with, and the exit status if nothing graver came of any file. */
 enum result result_of(const struct verdict *v);
+const char *result_word(enum result result);
 int exit_status(enum result gravest);
 
-/* The line of a file, without byte 10; or why it could not be read, if that is its result. */
+/* The verdict in words, without byte 10; with the whole run to a failing state if that is asked for. */
+enum run_length { SHORT_RUN, WHOLE_RUN };
+void print_result(struct output *out, const struct verdict *v, enum run_length length);
+
+/* The line of a file, without byte 10, and in words without the file's name; or why it could not be read, if that is its result. */
 struct answer {
     enum result result;
     char *words; /* on the heap, with a byte 0 at the end */
@@ -31,7 +37,7 @@ struct answer unread(const char *why);
 /* Sends the answer for the file with this number in the list. Gives whether it could. */
 bool send_answer(int to, size_t number, const struct answer *a);
 
-/* Takes the answer for the file with this number and name. Gives whether what came is one, as it is sent. */
-bool take_answer(int from, size_t number, const char *name, struct answer *a);
+/* Takes the next answer, and the number of its file. Gives whether what came is one, as it is sent. */
+bool take_answer(int from, const struct paths *paths, size_t *number, struct answer *a);
 
 #endif

@@ -4,7 +4,7 @@
 set -euo pipefail
 cd "$(dirname "$0")/.."
 output=${1:-target/bin/linkcheck}
-libraries=(target/staticlib/lib{checker,conversion,measuring}.a)
-for name in checker conversion measuring; do tools/library.sh $name; done
+libraries=(target/staticlib/lib{checker,lent_desk,duty,conversion,measuring,looking}.a)
+for name in checker lent_desk duty conversion measuring looking; do tools/library.sh $name; done
 mkdir -p "$(dirname "$output")"
 ${CC:-cc} -std=c11 -Wall -Wextra -O2 "${@:2}" linkcheck/*.c "${libraries[@]}" -o "$output"

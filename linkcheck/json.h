@@ -10,6 +10,9 @@
 void json_verdict(struct output *out, const char *name, const struct verdict *v);
 void json_measure(struct output *out, const char *name, const struct measured *m);
 
+/* What an object begins with: the file, and this member, "verdict" or "measure". */
+void json_begin(struct output *out, const char *name, const char *member, const char *what);
+
 /* One for a file that could not be read, in place of one with this member, "verdict" or "measure". */
 void json_unreadable(struct output *out, const char *member, const char *name, const char *why);
 

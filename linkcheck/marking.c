@@ -1,5 +1,5 @@
 /* A table's text with a line of kind 8, and without it. What is written, and whether, is for mark_design and unmark_design to say. Where
- * linkcheck's own reading comes to another number, nothing is written: the library was made for other rules. */
+ * linkcheck's own reading comes to another number, there are no words beside theirs. */
 #define _POSIX_C_SOURCE 200809L
 #include "explain.h"
 #include "names.h"
@@ -15,7 +15,7 @@ static struct fault other_formula(const struct table *t) {
     for (unsigned r = t->impl.rows; r-- > 0;) {
         const term mark = t->impl.row[r].mark;
         if (!mark || mark[0] == TRUE) continue;
-        f = (struct fault){.number = MARK_OTHER_FORMULA, .line = t->lines};
+        f = (struct fault){.number = MARK_OTHER_FORMULA, .line = file_line(t, t->lines)};
         snprintf(f.words, sizeof f.words, "the formula of row %u is not 10", r + 1);
     }
     return f;
@@ -33,9 +33,9 @@ static struct fault too_many_fields(const struct table *t) {
 }
 
 /* Why there is no result; its number is 0 if there is one. */
-static struct fault fault_of(const struct text *text, enum sort sort) {
+static struct fault refusal_of(const struct text *text, enum sort sort) {
     static struct table table;
-    const struct fault f = table_read(&table, text->bytes, text->len);
+    const struct fault f = table_read(&table, text);
     if (f.number) return f;
     return sort == MARKED ? too_many_fields(&table) : other_formula(&table);
 }
@@ -46,16 +46,13 @@ int write_sort(struct output *out, const char *name, enum sort sort) {
     uint32_t number;
     const int error = text_read(&text, name);
     if (error) return complain(STATUS_UNREAD, name, strerror(error));
+    const struct fault no_numbers = fault_of(&text, 0);
+    if (text.slips) return turn_down(name, &no_numbers);
     const size_t length = (sort == MARKED ? mark_design : unmark_design)(text.bytes, text.len, result, sizeof result, &number);
-    const struct fault f = fault_of(&text, sort);
-    if (number != f.number || (length == 0) != (number != MARK_DONE) || length > sizeof result) other_rules();
-    if (number == MARK_DONE) {
-        put_bytes(out, result, length);
-        return 0;
-    }
-    struct output *m = message();
-    put_name(m, name);
-    put(m, ": ");
-    print_turned_down(m, &f);
-    return message_sent(m, CHECK_TURNED_DOWN);
+    if ((length == 0) != (number != MARK_DONE) || length > sizeof result) return complain(STATUS_UNREAD, name, other_rules);
+    struct fault f = refusal_of(&text, sort);
+    if (number != f.number) f = fault_of(&text, number);
+    if (number != MARK_DONE) return turn_down(name, &f);
+    put_bytes(out, result, length);
+    return 0;
 }

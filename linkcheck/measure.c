@@ -1,6 +1,6 @@
 /* The smallest measure of a table. Whether there is one, and its numbers, are for measure_design to say. Here they are held against the
- * table, the text's own measure beside them, and the steps of a loop are found. Where that comes to something else than was said, nothing
- * is written: the library was made for other rules. */
+ * table, the text's own measure beside them, and the steps of a loop are found. Where that comes to something else than was said, only what
+ * was said is written. */
 #define _POSIX_C_SOURCE 200809L
 #include "measure.h"
 #include "explain.h"
@@ -25,10 +25,11 @@ static struct step first_step(const struct measured *m) {
 
 /* The number of the state that a step leads to. If one lacked a value or led outside the invariant, the table would have been turned
  * down. */
-static unsigned led_to(const struct measured *m, const struct state *s, const struct step *step) {
+static unsigned led_to(struct measured *m, const struct state *s, const struct step *step) {
     const struct state next = next_state(&m->table.impl, step->row, s, step->sum);
-    if (!keeps_invariant(&m->table, &next)) other_rules();
-    return (unsigned)state_number(&m->table.impl, &next);
+    const bool fits = keeps_invariant(&m->table, &next);
+    m->fits = m->fits && fits;
+    return fits ? (unsigned)state_number(&m->table.impl, &next) : 0;
 }
 
 /* ---- a measure ---- */
@@ -70,7 +71,7 @@ static void look_at_numbers(struct measured *m) {
     for (unsigned k = 0; k < m->states; k++) {
         const struct state s = state_of(m, k);
         if (m->own[k] == NO_VALUE) own_fails(m, (struct failure){.criterion = VALUES, .state = k});
-        if (m->number[k] != (invariant_holds(&m->table, &s) ? longest_run(m, k, &s) : 0)) other_rules();
+        if (m->number[k] != (invariant_holds(&m->table, &s) ? longest_run(m, k, &s) : 0)) m->fits = false;
         if (m->number[k] > m->number[m->largest]) m->largest = k;
         if (excess(m, k) > excess(m, m->above)) m->above = k;
     }
@@ -85,7 +86,7 @@ struct search {
 };
 
 /* Goes from a state over marked steps, nearest states first, until it comes to that state again or there is no other. */
-static void go_round(const struct measured *m, struct search *g, unsigned start) {
+static void go_round(struct measured *m, struct search *g, unsigned start) {
     size_t count = 0;
     g->found[count++] = start;
     for (size_t i = 0; i < count && !g->before[start].row; i++) {
@@ -115,25 +116,29 @@ static void gather(struct measured *m, const struct search *g, unsigned start) {
 }
 
 /* Whether a marked step leads from one stop to the next, both within the invariant. */
-static bool leads(const struct measured *m, const struct stop *from, const struct stop *to) {
+static bool leads(struct measured *m, const struct stop *from, const struct stop *to) {
     const struct state s = state_of(m, from->state);
     const struct step step = {&m->table.impl.row[from->row - 1], from->sum};
     return invariant_holds(&m->table, &s) && step.row->action == INTERNAL && enabled(step.row, &s, step.sum) &&
            marked(step.row, &s, step.sum) && led_to(m, &s, &step) == to->state;
 }
 
+/* Where a loop is told there is 0 for every state. */
+static bool all_zero(const struct measured *m) {
+    unsigned k = 0;
+    while (k < m->states && m->number[k] == 0) k++;
+    return k == m->states;
+}
+
 static void find_loop(struct measured *m, unsigned start) {
     struct search *g = calloc(1, sizeof *g);
     if (!g) no_memory();
-    if (start >= m->states) other_rules();
-    for (unsigned k = 0; k < m->states; k++)
-        if (m->number[k] != 0) other_rules();
-    go_round(m, g, start);
-    if (!g->before[start].row) other_rules();
-    gather(m, g, start);
+    m->fits = start < m->states && all_zero(m);
+    if (m->fits) go_round(m, g, start);
+    m->fits = m->fits && g->before[start].row;
+    if (m->fits) gather(m, g, start);
     free(g);
-    for (size_t i = 0; i < m->length; i++)
-        if (!leads(m, &m->loop[i], &m->loop[(i + 1) % m->length])) other_rules();
+    for (size_t i = 0; m->fits && i < m->length; i++) m->fits = leads(m, &m->loop[i], &m->loop[(i + 1) % m->length]);
 }
 
 /* ---- turned down ---- */
@@ -170,17 +175,38 @@ static void find_failure(struct measured *m) {
 
 /* ---- all of it ---- */
 
-static void measure_of(struct measured *m, const struct text *text) {
-    uint32_t number;
-    m->outcome = measure_design(text->bytes, text->len, m->number, MEASURE_PLACES, &number);
-    m->fault = table_read(&m->table, text->bytes, text->len);
-    if (!m->fault.number) m->states = (unsigned)state_count(&m->table.impl);
-    const bool turned_down = m->outcome == MEASURE_TURNED_DOWN;
-    if (turned_down && number == MEASURE_CRITERION_3 && !m->fault.number) find_failure(m);
-    if (turned_down != (m->fault.number != 0) || (turned_down && m->fault.number != number)) other_rules();
-    if (m->outcome == MEASURE_LOOP) find_loop(m, number);
-    else if (m->outcome == MEASURE_FILLED && number == 0) look_at_numbers(m);
-    else if (!turned_down) other_rules();
+/* Looks at a table for what there is to tell. */
+static void look_at_table(struct measured *m) {
+    m->states = (unsigned)state_count(&m->table.impl);
+    m->fits = true;
+    switch (m->outcome) {
+    case MEASURE_FILLED:
+        look_at_numbers(m);
+        m->fits = m->fits && m->given == 0;
+        break;
+    case MEASURE_LOOP: find_loop(m, m->given); break;
+    default:
+        if (m->given == MEASURE_CRITERION_3) find_failure(m);
+        m->fits = m->fault.number == MEASURE_CRITERION_3;
+    }
+}
+
+/* Gives false if what measure_design says is no answer. */
+static bool measure_of(struct measured *m, const struct text *text) {
+    m->whole = m->fits = false;
+    if (text->slips) {
+        m->outcome = MEASURE_TURNED_DOWN;
+        m->fault = fault_of(text, 0);
+        m->fits = true;
+        return true;
+    }
+    m->outcome = measure_design(text->bytes, text->len, m->number, MEASURE_PLACES, &m->given);
+    if (m->outcome > MEASURE_TURNED_DOWN) return false;
+    m->fault = table_read(&m->table, text);
+    m->whole = !m->fault.number && table_hold(&m->table, text->bytes, text->len);
+    m->fits = m->outcome == MEASURE_TURNED_DOWN && m->fault.number && m->fault.number == m->given;
+    if (m->whole) look_at_table(m);
+    return true;
 }
 
 /* ---- in words ---- */
@@ -227,12 +253,19 @@ static void print_loop(struct output *out, const struct measured *m) {
     put(out, "\n");
 }
 
+/* What was said alone: whether there is a measure, or a state on a loop. */
+static void print_bare(struct output *out, const struct measured *m) {
+    if (m->outcome == MEASURE_LOOP) print(out, "no measure meets criterion 5: state %lu is on a loop\n", (unsigned long)m->given);
+    else put(out, "there is a measure that meets criterion 5\n");
+}
+
 static int say_turned_down(const char *name, const struct measured *m) {
     struct output *out = message();
     put_name(out, name);
     put(out, ": ");
-    print_turned_down(out, &m->fault);
-    if (m->fault.number == MEASURE_CRITERION_3) {
+    if (m->fits) print_turned_down(out, &m->fault);
+    else print(out, "turned down %lu", (unsigned long)m->given);
+    if (m->fits && m->fault.number == MEASURE_CRITERION_3) {
         put(out, ": ");
         print_failure(out, &m->table, &m->failure);
     }
@@ -242,22 +275,30 @@ static int say_turned_down(const char *name, const struct measured *m) {
 static int print_measured(struct output *out, const char *name, const struct measured *m) {
     put_name(out, name);
     put(out, "  ");
-    if (m->outcome == MEASURE_LOOP) print_loop(out, m);
+    if (!m->fits) print_bare(out, m);
+    else if (m->outcome == MEASURE_LOOP) print_loop(out, m);
     else print_filled(out, m);
     return (int)m->outcome;
+}
+
+static int say_unreadable(struct output *out, const char *name, enum format format, const char *why) {
+    if (format == JSON) {
+        json_unreadable(out, "measure", name, why);
+        put(out, "\n");
+    }
+    return complain(STATUS_UNREAD, name, why);
 }
 
 int write_measure(struct output *out, const char *name, enum format format) {
     static struct text text;
     static struct measured measured;
     const int error = text_read(&text, name);
-    if (!error) measure_of(&measured, &text);
+    if (error) return say_unreadable(out, name, format, strerror(error));
+    if (!measure_of(&measured, &text)) return say_unreadable(out, name, format, other_rules);
     if (format == JSON) {
-        if (error) json_unreadable(out, "measure", name, strerror(error));
-        else json_measure(out, name, &measured);
+        json_measure(out, name, &measured);
         put(out, "\n");
+        return (int)measured.outcome;
     }
-    if (error) return complain(STATUS_UNREAD, name, strerror(error));
-    if (format == JSON) return (int)measured.outcome;
     return measured.outcome == MEASURE_TURNED_DOWN ? say_turned_down(name, &measured) : print_measured(out, name, &measured);
 }

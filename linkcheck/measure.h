@@ -4,18 +4,18 @@
 
 #include "answer.h"
 #include "output.h"
+#include "runs.h"
 #include "verdict.h"
 
-/* A state, and a marked step from it: a row, counted from 1, and a sum value. */
-struct stop {
-    unsigned state, row, sum;
-};
-
 struct measured {
-    unsigned outcome;   /* MEASURE_FILLED, MEASURE_LOOP or MEASURE_TURNED_DOWN */
-    struct table table; /* whole if the text was not turned down by 1 to 7 */
-    unsigned states;
+    unsigned outcome; /* MEASURE_FILLED, MEASURE_LOOP or MEASURE_TURNED_DOWN */
+    uint32_t given;   /* the number that measure_design gave */
     uint16_t number[MEASURE_PLACES]; /* the smallest measure of each state */
+
+    bool whole;         /* the table is read and held */
+    bool fits;          /* what is found there fits the answer; else none of what follows is told */
+    struct table table; /* if it is whole */
+    unsigned states;
 
     uint32_t own[MEASURE_PLACES]; /* filled: the text's own measure of each state, or NO_VALUE; 0 where the invariant does not hold */
     unsigned largest;             /* the lowest state with the largest number */
@@ -23,7 +23,7 @@ struct measured {
     unsigned above;               /* the lowest state where it is above the smallest by most */
     struct failure own_failure;   /* the lowest state where it fails criterion 10 or 5, and the step that fails 5 */
 
-    struct stop loop[MEASURE_PLACES]; /* a loop: its states in order, from the one that was named */
+    struct stop loop[MEASURE_PLACES]; /* a loop: its states and marked steps in order, from the state that was named */
     size_t length;
 
     struct fault fault;     /* turned down; its line is 0 and its words are empty for 18 */

@@ -9,59 +9,79 @@ static const struct missing nothing;
 
 /* ---- single parts ---- */
 
-/* The formula, or one of `count` values that stand one after the other, if it has no value where `place` says. */
-static struct missing in_formula(enum part part, term f, struct missing place) {
-    place.gap = gap_in_formula(f, place.at.value, place.sum);
+/* A term that has no value where `place` says. */
+static struct missing in_term(enum part part, term t, struct missing place) {
+    const struct point p = point_at(place.table, &place.at, place.sum);
+    place.gap = gap_in(t, &p);
     place.part = part;
     return place.gap.at ? place : nothing;
 }
 
-static struct missing in_values(enum part part, term v, unsigned count, struct missing place) {
-    place.parameter = gap_in_values(v, count, place.at.value, place.sum, &place.gap);
-    place.part = part;
-    return place.parameter < count ? place : nothing;
+/* The first of `count` values that is told to be missing; the terms stand one after the other. */
+static struct missing in_values(enum part part, term v, const uint32_t *told, unsigned count, struct missing place) {
+    for (; place.parameter < count; place.parameter++, v = passed(v))
+        if (told[place.parameter] == LOOK_NO_VALUE) return in_term(part, v, place);
+    return nothing;
 }
 
 static struct missing place_outside_rows(const struct table *t, const struct state *s) {
-    return (struct missing){.process = &t->impl, .sum = NO_SUM, .at = *s};
+    return (struct missing){.table = t, .process = &t->impl, .sum = NO_SUM, .at = *s};
+}
+
+static struct missing in_invariant(const struct table *t, const struct state *s, const struct state_look *look) {
+    return look->told[LOOK_INVARIANT] == LOOK_NO_TRUTH ? in_term(THE_INVARIANT, t->invariant, place_outside_rows(t, s)) : nothing;
+}
+
+static struct missing in_mapping(const struct table *t, const struct state *s, const struct state_look *look) {
+    return in_values(A_MAPPED_VALUE, t->mapping, look->told + LOOK_MAPPED, t->spec.parameters, place_outside_rows(t, s));
+}
+
+static struct missing in_measure(const struct table *t, const struct state *s, const struct state_look *look) {
+    return in_values(THE_MEASURE, t->measure, look->told + LOOK_MEASURE, 1, place_outside_rows(t, s));
 }
 
 struct missing missing_invariant(const struct table *t, const struct state *s) {
-    return in_formula(THE_INVARIANT, t->invariant, place_outside_rows(t, s));
+    const struct state_look look = state_at(t, s);
+    return in_invariant(t, s, &look);
 }
 
 struct missing missing_mapped(const struct table *t, const struct state *s) {
-    return in_values(A_MAPPED_VALUE, t->mapping, t->spec.parameters, place_outside_rows(t, s));
+    const struct state_look look = state_at(t, s);
+    return in_mapping(t, s, &look);
 }
 
 struct missing missing_measure(const struct table *t, const struct state *s) {
-    return in_values(THE_MEASURE, t->measure, 1, place_outside_rows(t, s));
+    const struct state_look look = state_at(t, s);
+    return in_measure(t, s, &look);
 }
 
 /* ---- rows, and all of it ---- */
 
-static struct missing in_row(const struct row *row, struct missing place) {
-    struct missing m = in_formula(A_CONDITION, row->condition, place);
-    if (!m.part && row->mark) m = in_formula(A_MARK, row->mark, place);
-    if (m.part || !enabled(row, &place.at, place.sum)) return m;
-    m = in_values(DATA_NUMBER, row->data, 1, place);
-    return m.part ? m : in_values(A_NEXT_VALUE, row->next, place.process->parameters, place);
+struct missing missing_in_row(const struct process *p, const struct row *row, const struct state *s, unsigned sum) {
+    const struct row_look look = row_at(row, s, sum);
+    const struct missing place = {.table = row->table, .process = p, .row = row, .sum = sum, .at = *s};
+    if (look.told[LOOK_CONDITION] == LOOK_NO_TRUTH) return in_term(A_CONDITION, row->condition, place);
+    if (look.told[LOOK_MARK] == LOOK_NO_TRUTH) return in_term(A_MARK, row->mark, place);
+    if (look.told[LOOK_CONDITION] != LOOK_HOLDS) return nothing;
+    const struct missing m = in_values(DATA_NUMBER, row->data, look.told + LOOK_DATA, 1, place);
+    return m.part ? m : in_values(A_NEXT_VALUE, row->next, look.told + LOOK_NEXT, p->parameters, place);
 }
 
 struct missing missing_in_rows(const struct process *p, const struct state *s) {
-    for (unsigned r = 0; r < p->rows; r++)
-        for (unsigned sum = 0; sum < p->row[r].span; sum++) {
-            const struct missing m = in_row(&p->row[r], (struct missing){.process = p, .row = &p->row[r], .sum = sum, .at = *s});
+    for (const struct row *row = p->row; row < p->row + p->rows; row++)
+        for (unsigned sum = 0; sum < row->sums; sum++) {
+            const struct missing m = missing_in_row(p, row, s, sum);
             if (m.part) return m;
         }
     return nothing;
 }
 
 struct missing first_missing(const struct table *t, const struct state *s, enum asked asked) {
-    struct missing m = missing_invariant(t, s);
-    if (m.part || !invariant_holds(t, s)) return m;
-    m = missing_mapped(t, s);
-    if (!m.part && asked == ALL) m = missing_measure(t, s);
+    const struct state_look look = state_at(t, s);
+    struct missing m = in_invariant(t, s, &look);
+    if (look.told[LOOK_INVARIANT] != LOOK_HOLDS) return m;
+    m = in_mapping(t, s, &look);
+    if (!m.part && asked == ALL) m = in_measure(t, s, &look);
     if (!m.part) m = missing_in_rows(&t->impl, s);
     if (m.part) return m;
     const struct state ours = mapped(t, s);
@@ -99,7 +119,7 @@ static void print_part(struct output *out, const struct table *t, const struct m
     }
     put(out, part_word(m->part));
     if (m->part == A_NEXT_VALUE) print(out, " of %c%u", letter_of(t, m), m->parameter);
-    print(out, " of %srow %u", ours ? "our " : "", missing_row(m));
+    print(out, " of %srow %u", ours ? "the specification's " : "", missing_row(m));
     if (m->row->span > 1) print(out, " for sum value %u", m->sum);
     if (!ours) return;
     put(out, " at the mapped state ");
@@ -115,5 +135,6 @@ void print_missing(struct output *out, const struct table *t, const struct missi
     print_part(out, t, m);
     put(out, ": ");
     print_gap(out, t, m);
-    print_divisor_reads(out, m->gap.at, letter_of(t, m), m->at.value, m->sum);
+    const struct point p = point_at(t, &m->at, m->sum);
+    print_reads(out, reads_of(passed(m->gap.at + 1)), letter_of(t, m), &p);
 }

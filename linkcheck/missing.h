@@ -11,6 +11,7 @@ enum part { NOTHING, THE_INVARIANT, A_MAPPED_VALUE, THE_MEASURE, A_CONDITION, A_
 /* A term without a value; its part is NOTHING if there is none. */
 struct missing {
     enum part part;
+    const struct table *table;
     const struct process *process; /* whose parameters it reads */
     const struct row *row;         /* NULL outside rows */
     unsigned sum;
@@ -23,8 +24,9 @@ struct missing missing_invariant(const struct table *t, const struct state *s);
 struct missing missing_mapped(const struct table *t, const struct state *s);
 struct missing missing_measure(const struct table *t, const struct state *s);
 
-/* The first that the rows of a process lack: rows rise, within a row sum values; condition and mark, and of an enabled row data and next
- * values. */
+/* The first that a row lacks for a sum value: condition and mark, and of an enabled row data and next values. And the first that the rows
+ * of a process lack: rows rise, within a row sum values. */
+struct missing missing_in_row(const struct process *p, const struct row *row, const struct state *s, unsigned sum);
 struct missing missing_in_rows(const struct process *p, const struct state *s);
 
 /* The first by which a state fails criterion 10: the invariant; where it holds the mapping, the measure, the implementation's rows, and the

@@ -73,6 +73,15 @@ void print(struct output *o, const char *format, ...) {
     else if (!o->error) o->error = EOVERFLOW;
 }
 
+void put_count(struct output *o, size_t number) {
+    if (number < 1000) {
+        print(o, "%zu", number);
+        return;
+    }
+    put_count(o, number / 1000);
+    print(o, ",%03zu", number % 1000);
+}
+
 int output_close(struct output *o) {
     output_flush(o);
     if (close(o->file) != 0 && !o->error) o->error = errno;

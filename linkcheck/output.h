@@ -29,6 +29,9 @@ __attribute__((format(printf, 2, 3)))
 #endif
 void print(struct output *o, const char *format, ...);
 
+/* Adds a number with commas, as 65,536. */
+void put_count(struct output *o, size_t number);
+
 /* Sends what is gathered. */
 void output_flush(struct output *o);
 

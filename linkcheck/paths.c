@@ -1,10 +1,12 @@
 /* The files that are to be checked, in order. */
 #define _POSIX_C_SOURCE 200809L
 #include "paths.h"
+#include "names.h"
 #include "output.h"
 
 #include <dirent.h>
 #include <errno.h>
+#include <fnmatch.h>
 #include <stdio.h>
 #include <stdlib.h>
 #include <string.h>
@@ -41,18 +43,27 @@ static int not_hidden(const struct dirent *entry) {
 
 static void add_folder(struct paths *p, const char *folder);
 
-/* A link to a folder is not followed, as it may lead back. */
+static bool fits(const struct paths *p, const char *name) {
+    const int answer = fnmatch(p->pattern, strrchr(name, '/') + 1, 0);
+    if (answer != 0 && answer != FNM_NOMATCH) give_up("the pattern of --glob can't be used");
+    return answer == 0;
+}
+
+/* What can't be a folder is left out unless its name fits. A link to a folder is not followed, as it may lead back. */
 static void add_entry(struct paths *p, char *name) {
     struct stat link, file;
-    if (lstat(name, &link) != 0 || stat(name, &file) != 0) {
-        keep(p, name, strerror(errno), NULL);
-    } else if (S_ISREG(file.st_mode)) {
-        keep(p, name, NULL, NULL);
-    } else if (S_ISDIR(link.st_mode)) {
+    const int known = lstat(name, &link), told = stat(name, &file), error = errno;
+    if (known == 0 && told == 0 && S_ISDIR(link.st_mode)) {
         add_folder(p, name);
         free(name);
+    } else if (known == 0 && told == 0 && S_ISDIR(file.st_mode)) {
+        keep(p, name, "a link to a folder, not followed", NULL);
+    } else if (known == 0 && (told == 0 || S_ISLNK(link.st_mode)) && !fits(p, name)) {
+        free(name);
+    } else if (known != 0 || told != 0) {
+        keep(p, name, strerror(error), NULL);
     } else {
-        keep(p, name, S_ISDIR(file.st_mode) ? "a link to a folder, not followed" : "not a file", NULL);
+        keep(p, name, S_ISREG(file.st_mode) ? NULL : "not a file", NULL);
     }
 }
 
@@ -68,6 +79,18 @@ static void add_folder(struct paths *p, const char *folder) {
         free(entry[i]);
     }
     free(entry);
+}
+
+/* A folder in which nothing was found. */
+static void keep_empty(struct paths *p, const char *name) {
+    struct output words = {.file = KEPT};
+    put(&words, "no table in this folder: no file named ");
+    put_name(&words, p->pattern);
+    put(&words, "; --glob takes others");
+    put_bytes(&words, "", 1);
+    if (words.error) no_memory();
+    keep(p, copy_of(name), words.bytes, NULL);
+    free(words.bytes);
 }
 
 static void add_and_read(struct paths *p, const char *name) {
@@ -86,7 +109,7 @@ void paths_add(struct paths *p, const char *name) {
         keep(p, copy_of(name), strerror(errno), NULL);
     } else if (S_ISDIR(file.st_mode)) {
         add_folder(p, name);
-        if (p->count == before) keep(p, copy_of(name), "no table in this folder", NULL);
+        if (p->count == before) keep_empty(p, name);
     } else if (S_ISREG(file.st_mode)) {
         keep(p, copy_of(name), NULL, NULL);
     } else {

@@ -1,63 +1,25 @@
-/* Checking a list of files. With N processes, number k of them takes the files k, k + N, k + 2 N, .. and sends its answers through a pipe;
- * the first process takes one answer from each pipe in turn, and so has them in order. */
+/* Checking a list of files: their answers in order, and what comes of all of them. */
 #define _POSIX_C_SOURCE 200809L
 #include "run.h"
 #include "json.h"
+#include "junit.h"
+#include "names.h"
+#include "progress.h"
+#include "team.h"
+#include "watch.h"
 
-#include <errno.h>
-#include <poll.h>
-#include <signal.h>
-#include <stdio.h>
 #include <stdlib.h>
 #include <string.h>
-#include <sys/types.h>
-#include <sys/wait.h>
-#include <time.h>
-#include <unistd.h>
-
-/* ---- progress ---- */
-
-struct progress {
-    int wanted, shown;
-    int in_the_way; /* the answers go to the terminal too */
-    struct timespec last;
-    size_t done, all;
-};
-
-static struct progress progress_start(size_t all) {
-    struct progress p = {.wanted = isatty(STDERR_FILENO), .in_the_way = isatty(STDOUT_FILENO), .all = all};
-    clock_gettime(CLOCK_MONOTONIC, &p.last);
-    return p;
-}
-
-/* If progress can't be shown, nothing is lost. */
-static void progress_clear(struct progress *p) {
-    if (p->shown) write_all(STDERR_FILENO, "\r\033[K", 4);
-    p->shown = 0;
-}
-
-/* One file more is done. A second after the start, and from then on once a second, it is said. */
-static void progress_step(struct progress *p) {
-    struct timespec now;
-    char words[80];
-    p->done++;
-    if (!p->wanted) return;
-    clock_gettime(CLOCK_MONOTONIC, &now);
-    if (now.tv_sec - p->last.tv_sec < 1 || p->done == p->all) return;
-    p->last = now;
-    output_flush(&standard_output);
-    snprintf(words, sizeof words, "\rlinkcheck: %zu of %zu tables", p->done, p->all);
-    write_all(STDERR_FILENO, words, strlen(words));
-    p->shown = 1;
-}
-
-/* ---- the answers together ---- */
 
 struct tally {
-    enum format format;
-    size_t with[RESULTS];
+    const struct request *asked;
+    size_t with[RESULTS], given;
+    struct junit junit;
     struct progress progress;
+    const char *name; /* of the table that is checked */
 };
+
+/* ---- a line ---- */
 
 /* A file that could not be read has a line where others have their report, as long as one. Its first field is no verdict, and what follows
  * is no number, so that nothing takes it for a report. */
@@ -73,28 +35,57 @@ static void give_unread(enum format format, const char *name, const char *why) {
     }
 }
 
-static void give(struct tally *t, const char *name, const struct answer *a) {
-    if (t->progress.in_the_way || a->result == UNREAD) progress_clear(&t->progress);
-    if (a->result == UNREAD) {
-        give_unread(t->format, name, a->words);
-    } else {
-        put_bytes(&standard_output, a->words, a->length);
-        put(&standard_output, "\n");
-    }
-    if (t->progress.in_the_way) output_flush(&standard_output);
-    t->with[a->result]++;
-    free(a->words);
-    progress_step(&t->progress);
+/* The words of a verdict, the first of them coloured. */
+static void put_coloured(const struct answer *a) {
+    static const char *const colours[RESULTS] = {
+        [ACCEPTED] = "\033[32m", [AFTER_INTERNAL] = "\033[33m", [FAILED] = "\033[31m", [OTHER_DUTY] = "\033[31m",
+        [TURNED_DOWN] = "\033[31m", [NOT_FINISHED] = "\033[35m", [UNREAD] = "",
+    };
+    const char *word = result_word(a->result);
+    const size_t length = strncmp(a->words, word, strlen(word)) == 0 ? strlen(word) : 0;
+    put(&standard_output, colours[a->result]);
+    put_bytes(&standard_output, a->words, length);
+    put(&standard_output, "\033[0m");
+    put_bytes(&standard_output, a->words + length, a->length - length);
 }
 
-static void summary(const struct tally *t) {
-    const size_t *with = t->with;
-    size_t tables = with[ACCEPTED] + with[AFTER_INTERNAL] + with[FAILED] + with[TURNED_DOWN];
-    print(&standard_output, "%zu table%s: %zu accepted, ", tables, tables == 1 ? "" : "s", with[ACCEPTED]);
-    if (with[AFTER_INTERNAL]) print(&standard_output, "%zu accepted after a first internal step, ", with[AFTER_INTERNAL]);
-    print(&standard_output, "%zu failed, %zu turned down", with[FAILED], with[TURNED_DOWN]);
-    if (with[UNREAD]) print(&standard_output, "; %zu not read", with[UNREAD]);
+static void give_line(const struct request *asked, const char *name, const struct answer *a) {
+    if (asked->format == WORDS) {
+        put_name(&standard_output, name);
+        put(&standard_output, "  ");
+    }
+    if (asked->coloured) put_coloured(a);
+    else put_bytes(&standard_output, a->words, a->length);
     put(&standard_output, "\n");
+}
+
+static void give(struct tally *t, const char *name, struct answer *a) {
+    const bool left_out = t->asked->quiet && (a->result == ACCEPTED || a->result == AFTER_INTERNAL);
+    if (t->progress.in_the_way || a->result == UNREAD) progress_clear(&t->progress);
+    if (t->asked->junit) junit_add(&t->junit, name, a);
+    if (a->result == UNREAD) give_unread(t->asked->format, name, a->words);
+    else if (!left_out) give_line(t->asked, name, a);
+    if (t->progress.in_the_way) output_flush(&standard_output);
+    t->with[a->result]++;
+    if (t->progress.done < ++t->given) t->progress.done = t->given;
+    free(a->words);
+    progress_tell(&t->progress);
+}
+
+/* ---- the end ---- */
+
+static void summary(const struct tally *t) {
+    struct output *out = &standard_output;
+    const size_t *with = t->with;
+    size_t tables = 0;
+    for (enum result result = ACCEPTED; result < UNREAD; result++) tables += with[result];
+    print(out, "%zu table%s: %zu accepted, ", tables, tables == 1 ? "" : "s", with[ACCEPTED]);
+    if (with[AFTER_INTERNAL]) print(out, "%zu accepted after a first internal step, ", with[AFTER_INTERNAL]);
+    print(out, "%zu failed, %zu turned down", with[FAILED], with[TURNED_DOWN]);
+    if (with[OTHER_DUTY]) print(out, ", %zu with another duty", with[OTHER_DUTY]);
+    if (with[NOT_FINISHED]) print(out, ", %zu not finished", with[NOT_FINISHED]);
+    if (with[UNREAD]) print(out, "; %zu not read", with[UNREAD]);
+    put(out, "\n");
 }
 
 static enum result gravest(const struct tally *t) {
@@ -103,102 +94,47 @@ static enum result gravest(const struct tally *t) {
     return result;
 }
 
-/* ---- several processes ---- */
+/* ---- the files ---- */
 
-enum { NONE = -1 };
+static struct tally *telling; /* the run whose progress is told */
 
-struct worker {
-    pid_t process;
-    int answers; /* the reading end of its pipe; NONE after something else than an answer came */
-};
-
-static int answers_to; /* the writing end of a worker's pipe */
-
-/* A worker ends when nobody can read its answers any more, as the first process is gone. It looks every second. */
-static void look_for_reader(int alarm_signal) {
-    const int kept = errno;
-    struct pollfd end = {.fd = answers_to};
-    (void)alarm_signal;
-    if (poll(&end, 1, 0) > 0) _exit(STATUS_UNREAD);
-    alarm(1);
-    errno = kept;
+static void tell_here(size_t examined, size_t states) {
+    progress_tell_table(&telling->progress, telling->name, examined, states);
 }
 
-static void end_with_reader(int to) {
-    struct sigaction look = {.sa_handler = look_for_reader, .sa_flags = SA_RESTART};
-    sigset_t alarms;
-    answers_to = to;
-    sigemptyset(&alarms);
-    sigaddset(&alarms, SIGALRM);
-    sigaction(SIGALRM, &look, NULL);
-    sigprocmask(SIG_UNBLOCK, &alarms, NULL);
-    alarm(1);
-}
-
-static _Noreturn void work(const struct paths *paths, enum format format, size_t first, size_t step, int to) {
-    end_with_reader(to);
-    for (size_t i = first; i < paths->count; i += step) {
-        struct answer a = answer_to(&paths->path[i], format);
-        if (!send_answer(to, i, &a)) _exit(STATUS_UNREAD);
-        free(a.words);
-    }
-    _exit(0);
-}
-
-/* Starts worker k. It holds the writing end of its own pipe, and no end of another's. */
-static bool start_worker(struct worker *worker, size_t k, const struct paths *paths, enum format format, size_t step) {
-    int ends[2];
-    if (pipe(ends) != 0) return false;
-    worker[k] = (struct worker){.process = fork(), .answers = ends[0]};
-    if (worker[k].process == 0) {
-        for (size_t other = 0; other <= k; other++) close(worker[other].answers);
-        work(paths, format, k, step, ends[1]);
-    }
-    close(ends[1]);
-    if (worker[k].process < 0) close(ends[0]);
-    return worker[k].process > 0;
-}
-
-/* The next answer of a worker. If it failed, as for want of memory, its files from here on count as not read. */
-static struct answer next_answer(struct worker *w, size_t number, const char *name) {
-    struct answer a;
-    if (w->answers != NONE && take_answer(w->answers, number, name, &a)) return a;
-    if (w->answers != NONE) close(w->answers);
-    w->answers = NONE;
-    return unread("not checked, as the process for it failed");
-}
-
-static void end_worker(struct worker *w) {
-    if (w->answers != NONE) close(w->answers);
-    while (waitpid(w->process, NULL, 0) < 0 && errno == EINTR) continue;
-}
-
-static void run_workers(struct tally *t, const struct paths *paths, size_t processes) {
-    struct worker worker[MOST_PROCESSES];
-    size_t started = 0;
-    while (started < processes && start_worker(worker, started, paths, t->format, processes)) started++;
+static void run_alone(struct tally *t, const struct paths *paths) {
+    telling = t;
+    if (t->progress.wanted) watch.tell = tell_here;
     for (size_t i = 0; i < paths->count; i++) {
-        const struct path *path = &paths->path[i];
-        size_t k = i % processes;
-        /* What a process that could not be started would have done is done here. */
-        struct answer a = k < started ? next_answer(&worker[k], i, path->name) : answer_to(path, t->format);
-        give(t, path->name, &a);
+        t->name = paths->path[i].name;
+        struct answer a = answer_to(&paths->path[i], t->asked->format);
+        give(t, t->name, &a);
     }
-    for (size_t k = 0; k < started; k++) end_worker(&worker[k]);
 }
 
-int run(const struct paths *paths, enum format format, size_t processes) {
-    struct tally t = {.format = format, .progress = progress_start(paths->count)};
-    if (processes > paths->count) processes = paths->count;
-    if (processes > 1) {
-        run_workers(&t, paths, processes);
-    } else {
-        for (size_t i = 0; i < paths->count; i++) {
-            struct answer a = answer_to(&paths->path[i], format);
-            give(&t, paths->path[i].name, &a);
+static void run_team(struct tally *t, struct team *team, const struct paths *paths) {
+    for (size_t i = 0; i < paths->count; i++) {
+        struct answer a;
+        const char *name = paths->path[i].name;
+        while (!team_answer(team, i, &a, t->progress.wanted)) {
+            const struct team_place at = team_place(team, i);
+            t->progress.done = team_done(team);
+            if (at.states) progress_tell_table(&t->progress, name, at.examined, at.states);
+            else progress_tell(&t->progress);
         }
+        give(t, name, &a);
     }
+    team_end(team);
+}
+
+int run(const struct paths *paths, const struct request *asked) {
+    struct tally t = {.asked = asked, .progress = progress_start(paths->count)};
+    const size_t processes = asked->processes < paths->count ? asked->processes : paths->count;
+    struct team *team = processes > 1 ? team_start(paths, asked->format, processes, t.progress.wanted) : NULL;
+    if (team) run_team(&t, team, paths);
+    else run_alone(&t, paths);
     progress_clear(&t.progress);
-    if (format == WORDS) summary(&t);
-    return exit_status(gravest(&t));
+    if (asked->format == WORDS) summary(&t);
+    const int status = asked->junit ? junit_write(&t.junit, asked->junit) : 0;
+    return status ? status : exit_status(gravest(&t));
 }

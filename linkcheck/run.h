@@ -6,9 +6,17 @@
 
 enum { MOST_PROCESSES = 256 };
 
-/* Checks the files and writes their answers in order, in words with a summary line at the end. Gives the exit status: 3 if something could
- * not be read or checked, else 2 if a text was turned down, else 1 if a table failed, else 4 if one was accepted after a first internal step,
- * else 0. */
-int run(const struct paths *paths, enum format format, size_t processes);
+/* What is asked of a run. */
+struct request {
+    enum format format;
+    size_t processes;
+    bool quiet;        /* no line for a table that is accepted, as it is or after a first internal step */
+    bool coloured;     /* in words, the verdict's own words have a colour */
+    const char *junit; /* the file for JUnit XML; NULL for none */
+};
+
+/* Checks the files and writes their answers in order, in words with a summary line at the end. Gives the exit status: that of the gravest
+ * result. */
+int run(const struct paths *paths, const struct request *asked);
 
 #endif

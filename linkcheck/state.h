@@ -4,10 +4,16 @@
 
 #include "output.h"
 #include "table.h"
+#include "terms.h"
 
 #include <stdbool.h>
 
-/* One value for each parameter of a process; NO_VALUE where a step or the mapping lacks it. No term is evaluated in such a state. */
+/* Holds a table that was read without a fault, so that its states and rows can be looked at by the functions below. Gives whether
+ * hold_design has read the text as linkcheck did. */
+bool table_hold(struct table *t, const uint8_t *text, size_t len);
+
+/* One value for each parameter of a process, and 0 after the last; NO_VALUE where a step or the mapping lacks it. No term is evaluated in
+ * such a state. */
 struct state {
     unsigned value[MAX_PARAMETERS];
 };
@@ -25,6 +31,25 @@ bool same_state(const struct process *p, const struct state *a, const struct sta
 
 /* The first parameter whose value is not below its size, or is missing; the number of parameters if there is none. */
 unsigned outside(const struct process *p, const struct state *s);
+
+/* What look_state tells of a state of the implementation, and look_row of a row at a state of its process. */
+struct state_look {
+    uint32_t told[LOOK_STATE_PLACES];
+};
+struct row_look {
+    uint32_t told[LOOK_ROW_PLACES];
+};
+struct state_look state_at(const struct table *t, const struct state *s);
+struct row_look row_at(const struct row *r, const struct state *s, unsigned sum);
+
+/* The next state that it tells of. */
+struct state next_of(const struct row_look *look);
+
+/* Where the terms of a row, or outside rows, are evaluated in a state. */
+struct point point_at(const struct table *t, const struct state *s, unsigned sum);
+
+/* Whether a criterion, 2 to 9, holds for a row and a sum value in a state where the invariant holds and nothing is without a value. */
+bool criterion_holds(const struct table *t, const struct state *s, unsigned criterion, unsigned row, unsigned sum);
 
 /* Whether the condition has a value and holds. */
 bool enabled(const struct row *r, const struct state *s, unsigned sum);
@@ -62,6 +87,9 @@ bool invariant_holds(const struct table *t, const struct state *s);
 bool keeps_invariant(const struct table *t, const struct state *next);
 struct state mapped(const struct table *t, const struct state *s);
 unsigned measure(const struct table *t, const struct state *s);
+
+/* Whether none of the values is missing. */
+bool is_whole(const struct process *p, const struct state *s);
 
 /* Writes the values, none of which is missing, as (2, 1); and with the number, if they are inside the sizes, as state 9 = (2, 1). */
 void print_state(struct output *out, const struct process *p, const struct state *s);

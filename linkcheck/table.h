@@ -3,6 +3,8 @@
 #ifndef TABLE_H
 #define TABLE_H
 
+#include "../include/checker.h"
+
 #include <stdbool.h>
 #include <stddef.h>
 #include <stdint.h>
@@ -29,6 +31,11 @@ struct row {
     unsigned action, span;
     term condition, data, next; /* next: one value for each parameter, one after the other */
     term mark;                  /* of an internal row: the formula that its marked steps meet; NULL if all its steps are marked */
+
+    /* Of a table that is held. */
+    const struct table *table;
+    unsigned side, number; /* LOOK_IMPLEMENTATION or LOOK_SPECIFICATION; counted from 1 */
+    unsigned sums;         /* how many sum values there are to look at: the span, or 1 if no term of the row reads the sum value */
 };
 
 struct process {
@@ -42,28 +49,34 @@ struct line {
     size_t count;
 };
 
+struct text;
+
 /* A table points into itself: it is filled where it stays. */
 struct table {
+    const struct text *text; /* what it was taken from, which stays too */
     uint16_t field[MAX_TEXT / COLUMNS];
     struct line line[MAX_TEXT / COLUMNS];
     size_t fields, lines;
     struct process impl, spec;
     term invariant, mapping, measure;
     bool has_marks; /* there is a line of kind 8 */
+
+    struct held_design held; /* the same as hold_design has it: terms are evaluated there */
 };
 
-/* The line that a term begins in, counted from 1. */
+/* The line of the file that a term begins in, counted from 1. */
 size_t line_of(const struct table *t, term at);
 
-/* Where a text breaks which rule. */
+/* Why a text is turned down. */
 struct fault {
-    unsigned number;    /* the turned-down number: 1 to 7, 15 or 16 of a writer, 18 of a measure; 0 for none */
-    unsigned criterion; /* of 18: the one that fails, 3 or 10 */
-    size_t line;        /* counted from 1; 0 if it is no single line's */
+    unsigned number;         /* 1 to 7, 15 or 16 of a writer, 18 of a measure; 0 for none, or of a typed file that isn't numbers */
+    unsigned criterion;      /* of 18: the one that fails, 3 or 10 */
+    const struct text *text; /* what shows it in its lines, which stays; NULL if nothing does */
+    size_t line;             /* of 15 and 16: the file's line, 0 if it is no single line's; and words */
     char words[120];
 };
 
-/* Takes the text apart. Gives the lowest fault, at its first line; the table is whole if there is none. */
-struct fault table_read(struct table *t, const uint8_t *text, size_t len);
+/* Takes the text apart. Gives the lowest fault; the table is whole if there is none. */
+struct fault table_read(struct table *t, const struct text *text);
 
 #endif

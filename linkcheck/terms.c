@@ -70,94 +70,76 @@ term scan_formula(struct scan *s) {
     return start;
 }
 
-/* ---- evaluation: the place moves past the term ---- */
+/* ---- parts, and their values ---- */
 
-/* Where a term is evaluated, and the first remainder by zero that was met. After one, what comes out is of no meaning. */
-struct point {
-    const unsigned *parameters;
-    unsigned sum;
-    struct gap gap;
+static const uint8_t parts_of[] = {
+    [SUM] = 2, [DIFFERENCE] = 2, [REMAINDER] = 2, [CHOICE] = 3, [EQUAL] = 2, [LESS] = 2, [NOT] = 1, [AND] = 2, [OR] = 2,
 };
 
-static bool holds(term *at, struct point *p);
-static unsigned value(term *at, struct point *p);
-
-/* What is met in the branch that isn't taken doesn't count. */
-static unsigned choice(term *at, struct point *p) {
-    const bool first = holds(at, p);
-    struct point aside = *p;
-    const unsigned a = value(at, first ? p : &aside), b = value(at, first ? &aside : p);
-    return first ? a : b;
-}
-
-static unsigned remainder_of(unsigned dividend, unsigned divisor, term at, struct point *p) {
-    if (divisor) return dividend % divisor;
-    if (!p->gap.at) p->gap = (struct gap){at, dividend};
-    return 0;
-}
-
-static unsigned value(term *at, struct point *p) {
-    const term start = *at;
-    unsigned mark = *(*at)++;
-    if (mark == NUMBER) return *(*at)++;
-    if (mark == PARAMETER) return p->parameters[*(*at)++];
-    if (mark == SUM_VALUE) return p->sum;
-    if (mark == CHOICE) return choice(at, p);
-    unsigned a = value(at, p), b = value(at, p);
-    switch (mark) {
-    case SUM: return (a + b) & UINT16_MAX;
-    case DIFFERENCE: return (a - b) & UINT16_MAX;
-    default: return remainder_of(a, b, start, p);
+/* Passes a term, and gives what it reads. */
+static unsigned reads(term *at) {
+    unsigned read = 0;
+    for (unsigned due = 1; due > 0; due--) {
+        const unsigned mark = *(*at)++;
+        if (mark == SUM_VALUE) read |= READS_SUM;
+        if (mark == PARAMETER) read |= 1u << **at;
+        if (mark == NUMBER || mark == PARAMETER) ++*at;
+        due += parts_of[mark];
     }
+    return read;
 }
 
-/* Both parts of `15` and `16` are evaluated, whatever the first is. */
-static bool holds(term *at, struct point *p) {
-    unsigned mark = *(*at)++;
-    if (mark == TRUE || mark == FALSE) return mark == TRUE;
-    if (mark == EQUAL || mark == LESS) {
-        unsigned a = value(at, p), b = value(at, p);
-        return mark == EQUAL ? a == b : a < b;
+unsigned reads_of(term t) {
+    return reads(&t);
+}
+
+term passed(term t) {
+    reads(&t);
+    return t;
+}
+
+static unsigned value_at(term v, const struct point *p) {
+    return look_value(p->table->held.fields, (size_t)(v - p->table->field), p->values, p->sum);
+}
+
+static unsigned truth_at(term f, const struct point *p) {
+    return look_formula(p->table->held.fields, (size_t)(f - p->table->field), p->values, p->sum);
+}
+
+/* A term's mark says whether it is a value or a formula. */
+static bool lacks_value(term t, const struct point *p) {
+    return *t < TRUE ? value_at(t, p) == NO_VALUE : truth_at(t, p) == LOOK_NO_TRUTH;
+}
+
+/* The first part without a value, of those that are evaluated; NULL if there is none. */
+static term lacking_part(term whole, const struct point *p) {
+    term at = whole + 1;
+    if (*whole == CHOICE && !lacks_value(at, p)) {
+        const bool first = truth_at(at, p) == LOOK_HOLDS;
+        at = first ? passed(at) : passed(passed(at));
+        return lacks_value(at, p) ? at : NULL;
     }
-    bool a = holds(at, p);
-    if (mark == NOT) return !a;
-    bool b = holds(at, p);
-    return mark == AND ? a && b : a || b;
+    for (unsigned due = parts_of[*whole]; due > 0; due--, at = passed(at))
+        if (lacks_value(at, p)) return at;
+    return NULL;
 }
 
-static unsigned value_or_none(term *at, const unsigned *parameters, unsigned sum, struct gap *gap) {
-    struct point p = {parameters, sum, {NULL, 0}};
-    const unsigned number = value(at, &p);
-    *gap = p.gap;
-    return p.gap.at ? NO_VALUE : number;
+struct gap gap_in(term t, const struct point *p) {
+    if (!lacks_value(t, p)) return (struct gap){NULL, 0};
+    for (term part = t; part; part = lacking_part(t, p)) t = part;
+    return *t == REMAINDER ? (struct gap){t, value_at(t + 1, p)} : (struct gap){NULL, 0};
 }
 
-unsigned value_at(term v, const unsigned *parameters, unsigned sum) {
-    struct gap gap;
-    return value_or_none(&v, parameters, sum, &gap);
+term failing_conjunct(term f, const struct point *p) {
+    if (*f != AND) return truth_at(f, p) == LOOK_FAILS ? f : NULL;
+    const term first = failing_conjunct(f + 1, p);
+    return first ? first : failing_conjunct(passed(f + 1), p);
 }
 
-bool holds_at(term f, const unsigned *parameters, unsigned sum) {
-    struct point p = {parameters, sum, {NULL, 0}};
-    const bool truth = holds(&f, &p);
-    return truth && !p.gap.at;
-}
-
-struct gap gap_in_formula(term f, const unsigned *parameters, unsigned sum) {
-    struct point p = {parameters, sum, {NULL, 0}};
-    holds(&f, &p);
-    return p.gap;
-}
-
-void values_at(term v, unsigned count, const unsigned *parameters, unsigned sum, unsigned *values) {
-    struct gap gap;
-    for (unsigned i = 0; i < count; i++) values[i] = value_or_none(&v, parameters, sum, &gap);
-}
-
-unsigned gap_in_values(term v, unsigned count, const unsigned *parameters, unsigned sum, struct gap *gap) {
-    unsigned i = 0;
-    while (i < count && value_or_none(&v, parameters, sum, gap) != NO_VALUE) i++;
-    return i;
+unsigned pinned_by(term f) {
+    if (*f == AND) return pinned_by(f + 1) | pinned_by(passed(f + 1));
+    const bool pins = *f == EQUAL && f[1] == PARAMETER && f[3] == NUMBER;
+    return pins ? 1u << f[2] : 0;
 }
 
 /* ---- infix ---- */
@@ -256,32 +238,29 @@ term print_formula(struct output *out, term f, char letter) {
     return f;
 }
 
-/* Passes a term, and gives what it reads: bit i for parameter i, the bit after those of the parameters for the sum value. */
-static unsigned reads(term *at) {
-    unsigned read = 0;
-    for (unsigned due = 1; due > 0; due--) {
-        switch (*(*at)++) {
-        case NUMBER: ++*at; break;
-        case PARAMETER: read |= 1u << *(*at)++; break;
-        case SUM_VALUE: read |= 1u << MAX_PARAMETERS; break;
-        case TRUE: case FALSE: break;
-        case NOT: due += 1; break;
-        case CHOICE: due += 3; break;
-        default: due += 2;
-        }
+/* Each as a part of `and`. */
+static void conjuncts_text(struct printer *p, term *at, const char *between) {
+    if (**at != AND) {
+        formula_text(p, at, BOTH);
+        return;
     }
-    return read;
+    ++*at;
+    conjuncts_text(p, at, between);
+    put(p->out, between);
+    conjuncts_text(p, at, between);
 }
 
-void print_divisor_reads(struct output *out, term remainder, char letter, const unsigned *parameters, unsigned sum) {
+void print_conjuncts(struct output *out, term f, char letter, const char *between) {
+    if (*f == AND) conjuncts_text(&(struct printer){out, letter}, &f, between);
+    else print_formula(out, f, letter);
+}
+
+void print_reads(struct output *out, unsigned reads, char letter, const struct point *p) {
     const char *before = " with ";
-    term at = remainder + 1;
-    reads(&at);
-    const unsigned read = reads(&at);
     for (unsigned i = 0; i < MAX_PARAMETERS; i++) {
-        if (!(read & 1u << i)) continue;
-        print(out, "%s%c%u = %u", before, letter, i, parameters[i]);
+        if (!(reads & 1u << i)) continue;
+        print(out, "%s%c%u = %u", before, letter, i, p->values[i]);
         before = ", ";
     }
-    if (read & 1u << MAX_PARAMETERS) print(out, "%ss = %u", before, sum);
+    if (reads & READS_SUM) print(out, "%ss = %u", before, p->sum);
 }

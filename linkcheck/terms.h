@@ -1,5 +1,6 @@
-/* Values and formulas in prefix order: scanned, evaluated, and written in infix. A remainder by zero has no value, nor has a term that
- * evaluates one: a `6` evaluates the branch that it takes, every other term all its parts. */
+/* Values and formulas in prefix order: scanned, taken apart, and written in infix. Their values are for look_value and look_formula to say.
+ * A remainder by zero has no value, nor has a term that evaluates one: a `6` evaluates the branch that it takes, every other term all its
+ * parts. */
 #ifndef TERMS_H
 #define TERMS_H
 
@@ -26,29 +27,41 @@ term scan_value(struct scan *s);
 term scan_formula(struct scan *s);
 
 /* What stands for the value of a term that has none. It is no number, and below no size. */
-enum { NO_VALUE = UINT16_MAX + 1 };
+enum { NO_VALUE = LOOK_NO_VALUE };
+
+/* Where a term of a table is evaluated: for these values of the parameters, 0 after the last, and this sum value. */
+struct point {
+    const struct table *table;
+    uint16_t values[LOOK_VALUES];
+    uint16_t sum;
+};
 
 /* The first remainder by zero that a term evaluates. A term has a value exactly if it evaluates none. */
 struct gap {
     term at; /* NULL if there is none */
     unsigned dividend;
 };
+struct gap gap_in(term t, const struct point *p);
 
-/* For these parameter values and this sum value: the value of a term that a scan has passed, whether a formula has a value and holds, and
- * what it lacks. */
-unsigned value_at(term v, const unsigned *parameters, unsigned sum);
-bool holds_at(term f, const unsigned *parameters, unsigned sum);
-struct gap gap_in_formula(term f, const unsigned *parameters, unsigned sum);
+/* The first that fails of the formulas which a formula joins by `and`; NULL if none does. */
+term failing_conjunct(term f, const struct point *p);
 
-/* The values of `count` terms that stand one after the other; and the first of them without a value, `count` if there is none. */
-void values_at(term v, unsigned count, const unsigned *parameters, unsigned sum, unsigned *values);
-unsigned gap_in_values(term v, unsigned count, const unsigned *parameters, unsigned sum, struct gap *gap);
+/* What a term reads: bit i for parameter i, READS_SUM for the sum value. `passed` gives where the term ends. */
+enum { READS_SUM = 1 << MAX_PARAMETERS };
+unsigned reads_of(term t);
+term passed(term t);
+
+/* The parameters that a formula can hold for one value alone, as it says so itself, joined by `and`: p0 = 2. */
+unsigned pinned_by(term f);
 
 /* Writes a term in infix, with brackets where they are needed; parameter i is the letter with i. Gives where the term ends. */
 term print_value(struct output *out, term v, char letter);
 term print_formula(struct output *out, term f, char letter);
 
-/* Writes what the divisor of a remainder reads, with the values, as " with p2 = 0"; nothing if it reads nothing. */
-void print_divisor_reads(struct output *out, term remainder, char letter, const unsigned *parameters, unsigned sum);
+/* Writes a formula with other words than " and " between those that it joins. */
+void print_conjuncts(struct output *out, term f, char letter, const char *between);
+
+/* Writes what is read, as reads_of has it, with its values there, as " with p2 = 0"; nothing if nothing is read. */
+void print_reads(struct output *out, unsigned reads, char letter, const struct point *p);
 
 #endif

@@ -1,8 +1,10 @@
 #!/usr/bin/env bash
 # Builds linkcheck and tries it: reports against compare/reports.tsv, exit statuses, the stored outputs of expected/, texts with and without
 # a line of kind 8, measures against those of test/measures.py, missing values against those of test/values.py, first internal steps against
-# those of test/first.py, and every look at every table and at damaged ones with the sanitizers and valgrind, where they are there. Ends with
-# 1 at the first fault.
+# those of test/first.py, runs and explanations against those of test/runs.py, walks against test/walk.py, objects against schema.json, typed
+# tables and the places of faults by test_typed.sh, what a store needs by test_store.sh, transition systems and pictures by
+# test_pictures.sh, and every look at every table and at damaged ones with the sanitizers and valgrind, where they are there. Ends with 1 at
+# the first fault.
 # Usage: test.sh [COUNT [SEED]] for the damaged texts; test.sh --remake stores the outputs of expected/ anew.
 set -euo pipefail
 cd "$(dirname "$0")/.."
@@ -148,6 +150,78 @@ by-a-choice 9s/12 1 0 0 3/12 1 0 6 13 1 0 0 4 0 3 5 0 7 0 0/
 fails-without-a-value 9s/12 1 0 0 3/12 0 7 6 12 1 0 0 3 5 0 7 0 0 0 0/
 END
 
+# ---- typed tables and texts with several faults ----
+
+# Typed: one that is right, one where lines are wrong, one where there is something else than numbers. In columns: line ends, columns, and
+# lines that are typed.
+mkdir "$work"/{typed,places}
+cat > "$work/typed/right.txt" << 'END'
+# The pump table.
+1 3 0   # the phase: 0 ready, 1 has taken a price, 2 about to show it
+1 4 0   # the price
+2 2 0
+2 4 0
+
+# Rows: action and span, condition, data, next values.
+3 01 4  12 1 0 0 0  2    0 1  2
+3 00 1  12 1 0 0 1  0 0  0 2  1 1
+3 02 1  12 1 0 0 2  1 1  0 0  1 1
+
+4 1 4   12 1 0 0 0  2    0 1  2
+4 2 1   12 1 0 0 1  1 1  0 0  1 1
+5 10
+6 6 12 1 0 0 0 0 0 0 1   1 1
+7 6 12 1 0 0 1 0 1 0 0
+END
+while read -r name change; do sed "$change" "$work/typed/right.txt" > "$work/typed/$name.txt"; done << 'END'
+fails 10s/1 1  0 0/0 0  0 0/
+terms 9s/  1 1$//; 10s/0 2 /9 2 /; 14s/10/12 2 0 0/; 15s/$/ 7/; 16s/1 0 0 1/1 5 0 1/; 12s/12 1 0/12 1/
+kinds 2s/ 0 / 0 0 /; 5s/2/9/; 9s/3/4/; 16d
+numbers 2s/3/0/; 3s/ 0/ 4/; 8s/4 /0 /; 12s/4  /300 /
+sizes 2s/3/300/; 3s/4/300/
+actions 8s/01/2/; 9s/0 0  0 2/1 0  0 2/; 12s/1 4/0 4/; 13s/2 1/2 2/
+words 3s/0/zero/; 8s/01/a1/; 9s/00/-0/; 10s/12 1/p0=/; 14s/10/65536/; 16s/$/ \\/
+END
+printf '     1     3  \t  0\n     1     4 00001\n            2     2     0\n     2 70000     0\n      \n' > "$work/places/columns.txt"
+printf '     1\342\202\254     3\n     1     3     x\n     2     2 0    \n\n     1   "\\2\n     3' >> "$work/places/columns.txt"
+sed 's/$/\r/' "$tables/P_given.txt" > "$work/places/lines.txt"
+sed '2,3s/$/\r/' "$tables/P_given.txt" > "$work/places/some-lines.txt"
+cp "$work/typed/right.txt" "$work/places/typed.txt"
+yes 2> /dev/null | tr -d y | head -n 200 > "$work/places/empty-lines.txt" || true
+: > "$work/places/nothing.txt"
+
+# ---- runs to a failing state: changes of a typed table, by name ----
+
+# The board of test/runs.txt starts in p0 = 4. By row 1 it comes to 5, 6 or 7, from 5 to 6 (row 2), and from 6 (row 3) and 7 (row 4) to 0,
+# which is mapped to a state that there isn't: criterion 2 fails in state 0. In a change the lines are: 4 to 7 its rows, 8 and 9 ours, 10 the
+# invariant, 11 the mapping, 12 the measure.
+# no_size: no state is mapped elsewhere than to 0, so that criterion 2 holds.
+stands_for[no_size]='11s/0 1   0 0/0 0   0 0/'
+changes runs runs << 'END'
+given
+other-way 6s/12 1 0 0 6/11/
+longer-way 4s/3 0 5 2/0 5/; 6s/12 1 0 0 6/12 1 1 0 1/; 6s/1 1$/0 0/
+later-sum-value 4s/12 1 0 0 4/15 12 1 0 0 4 14 12 2 0 1/
+no-condition-for-a-sum-value 4s/12 1 0 0 4/15 12 1 0 0 4 14 12 2 6 12 2 0 1 5 2 0 0 0 9/
+no-data-for-a-sum-value 4s/4      2  /4      6 12 2 0 1 5 2 0 0 2  /
+no-next-value-for-a-sum-value 4s/1 1$/6 12 2 0 1 5 2 0 0 1 1/
+no-data-on-either-way 6s/12 1 0 0 6/11/; 7s/1 1     0 0/5 1 1 0 0     0 0/
+no-mark-on-the-way $s/$/\n8 10 12 5 0 1 0 0 0 0/
+outside-on-a-way 4s/3 0 5 2/3 0 5 3 2 2/
+invariant-fails-on-the-way 10s/10/14 12 1 0 0 6/
+invariant-lacks-on-the-way 10s/10/13 5 0 1 4 1 0 0 6 0 9/
+invariant-lacks-in-the-state 10s/10/13 5 0 1 1 0 0 9/
+invariant-lacks-in-a-state-not-reached 10s/10/13 5 0 1 1 0 0 9/; 6s/0 0       1 1$/0 1 1 1/; 7s/0 0       1 1$/0 1 1 1/
+not-reached 6s/0 0       1 1$/0 1 1 1/; 7s/0 0       1 1$/0 1 1 1/
+not-reached-round 5s/0 6  /0 5  /; 6s/0 0       1 1$/0 4 1 1/; 7s/0 0       1 1$/0 6 1 1/
+starts-there 1s/4/0/; no_size
+two-fail-at-start 10s/10/15 15 10 12 1 0 0 1 15 12 1 1 0 2 11/
+last-fails-at-start 10s/10/15 10 15 12 1 0 0 4 16 12 1 1 0 2 11/
+two-fail-after-a-step 10s/10/15 14 12 1 0 0 5 15 12 1 0 0 4 13 1 0 0 5/
+two-fail-of-ours 8s/10  /15 12 1 0 0 0 15 12 1 0 2 15 13 1 0 0 0 12 2 0 2/; 9s/10/11/; no_size
+two-fail-of-the-boards 4s/12 1 0 0 4/15 12 1 0 0 4 15 14 12 1 1 0 0 14 12 2 0 0/; no_size
+END
+
 # ---- stored outputs: a name in expected/ and the arguments that give it, in the folder if one is set ----
 
 boards=()
@@ -186,6 +260,12 @@ expect pump.impl.aut --aut impl "$tables/P_given.txt"
 expect pump.spec.aut --aut spec "$tables/P_given.txt"
 expect pump.impl.dot --dot impl "$tables/P_given.txt"
 expect pump.spec.dot --dot spec "$tables/P_given.txt"
+expect pump.impl.states --aut-states impl "$tables/P_given.txt"
+expect pump.spec.states --aut-states spec "$tables/P_given.txt"
+expect diesel.dot --dot examples/bad-yesterdays-diesel.txt
+expect outside.dot --dot "$tables/P_first_size_2.txt"
+expect around.dot --dot --around 33,1 examples/bad-yesterdays-diesel.txt
+expect folded.dot --dot impl examples/alternating-bit.txt
 folder=$work expect marks.txt marks
 folder=$work expect marks.json --json marks
 folder=$work expect marked.txt --show marks/given.txt
@@ -197,6 +277,8 @@ folder=$work expect values.json --json values
 folder=$work expect first.report --report first
 folder=$work expect first.txt first
 folder=$work expect first.json --json first
+folder=$work expect runs.txt runs
+folder=$work expect runs.json --json runs
 folder=$work expect after.txt --show first/again.txt
 folder=$work expect missing.txt --show values/ours-next-value.txt
 folder=$work expect missing.impl.aut --aut impl values/data-reached.txt
@@ -212,7 +294,49 @@ expect_each measures.json "--measure --json" "${short[@]}"
 mapfile -t values < <(cd "$work" && printf '%s\n' values/*.txt)
 folder=$work expect_each values.measures.txt --measure "${values[@]}"
 folder=$work expect_each values.measures.json "--measure --json" "${values[@]}"
+mapfile -t typed < <(cd "$work" && printf '%s\n' typed/*.txt)
+mapfile -t places < <(cd "$work" && printf '%s\n' places/*.txt)
+folder=$work expect typed.txt --typed typed
+folder=$work expect typed.json --typed --json typed
+folder=$work expect_each typed.places.txt "--typed --show" "${typed[@]:3}"
+folder=$work expect_each places.txt --show "${places[@]}"
+folder=$work expect places.json --json places
 cmp "$tables/P_given.txt" linkcheck/expected/columns.txt
+"$linkcheck" --typed --columns "$work/typed/right.txt" | cmp - "$tables/P_given.txt" || fail "typed/right.txt is not the pump table"
+# walks NAME TABLE: a walk by the commands in standard input, a line each.
+walks() {
+    (cd "${folder:-.}" && "$linkcheck" --walk "$2") > "$work/out" || fail "--walk $2: status $?"
+    stored "$1" "--walk $2"
+}
+printf '%s\n' 2 1 1 b b b b "g 33" g33 " g  33 " "g 48" g "g x" 0 7 99999999999 x '?' "" "$(printf '%0200d' 1)" s q 1 |
+    walks diesel.walk examples/bad-yesterdays-diesel.txt
+printf '1\r\n\t1 \n1\n2' | walks retry.walk examples/retry.txt
+printf '%s\n' 1 1 2 3 b "g 12" | folder=$work walks marked.walk marks/given.txt
+printf '%s\n' "g 4" 1 | walks outside.walk "$tables/P_first_size_2.txt"
+printf '%s\n' "g 0" "g 2" "g 19" | walks weak.walk examples/service-mode.txt
+printf '%s\n' "g 3" | walks size.walk "$tables/P_second_spec_size_3.txt"
+printf '%s\n' "g 0" 3 | folder=$work walks missing.next.walk values/ours-next-value.txt
+printf '%s\n' "g 9" | folder=$work walks missing.measure.walk values/measure-branch-taken.txt
+for part in invariant mapping mark condition-for-a-sum-value; do
+    echo "g 0" | folder=$work walks "missing.$part.walk" "values/$part.txt"
+done
+# Many steps: 256 that differ, of which the last are taken all the same, 256 of which 200 do the same but for our data, and three that do
+# the same but don't come one after the other.
+"$linkcheck" --columns > "$work/many.txt" << 'END'
+1 256 0
+1 2 0
+2 256 0
+3 1 256 12 1 1 0 0   2   2 1 1
+3 2 256 13 2 0 200   0 7   1 0 0 1
+3 3 6   12 5 2 0 2 0 0  0 7   1 0 1 1
+4 1 256 10           2   2
+4 2 256 10           2   1 0
+4 3 6   10           0 7 1 0
+5 10
+6 1 0
+7 0 0
+END
+printf '%s\n' 41 256 257 260 261 | folder=$work walks many.walk many.txt
 # The pages show what is said.
 shown() { grep -qxF -e "    $1" "$2" || fail "$2 does not show: $1"; }
 while read -r line; do shown "$line" examples/README.md; done < linkcheck/expected/examples.txt
@@ -222,6 +346,10 @@ while read -r line; do shown "$line" README.md; done < "$work/out"
 shown "$(head -n 1 "$work/out")" README.md
 "$linkcheck" --json examples/acknowledge-again.txt > "$work/out" || [ $? = 4 ] || fail "examples/acknowledge-again.txt: status $?"
 shown "$(cat "$work/out")" linkcheck/README.md
+"$linkcheck" "$tables/P_cond_row3_true.txt" > "$work/out" || true
+shown "$(head -n 1 "$work/out")" linkcheck/README.md
+printf '%s\n' 'g 33' | "$linkcheck" --walk examples/bad-yesterdays-diesel.txt | tail -n 9 > "$work/out"
+while IFS= read -r line; do shown "$line" linkcheck/README.md; done < "$work/out"
 for name in retry concurrent-alternating-bit-with-loss; do
     sed '$d' "examples/$name.txt" | "$linkcheck" - > "$work/out" || true
     shown "$(head -n 1 "$work/out")" examples/README.md
@@ -231,10 +359,6 @@ done
 while read -r line; do shown "$line" README.md; done < "$work/out"
 "$linkcheck" --measure examples/buffer-two.txt > "$work/out"
 while read -r line; do shown "$line" README.md; done < "$work/out"
-for look in aut dot; do
-    "$linkcheck" --$look "$tables/P_given.txt" > "$work/out" || fail "--$look: status $?"
-    cat linkcheck/expected/pump.{impl,spec}.$look | diff - "$work/out" || fail "--$look is not that of both sides"
-done
 
 # ---- reports ----
 
@@ -289,7 +413,10 @@ for jobs in 1 2 3; do
 done
 input=$after status 4 -
 status 4 --show "$after"
-for look in --aut --dot --mark --unmark --measure; do status 0 $look "$after"; done
+for look in "--aut impl" "--aut-states spec" --dot --mark --unmark --measure; do
+    # shellcheck disable=SC2086
+    status 0 $look "$after"
+done
 input=$good status 0 -
 status 2 -
 status 0 --show "$good"
@@ -307,6 +434,18 @@ status 1 --show "$work/values/no-guard.txt"
 status 2 --measure "$work/values/no-guard.txt"
 status 0 --measure "$work/values/measure-branch-taken.txt"
 status 3 --dot spec "$work/missing"
+status 0 --walk "$good"
+status 0 --walk "$bad"
+status 2 --walk "$none"
+grep -qx "linkcheck: $none: turned down 4 (kinds of lines): no line of kind 7" "$work/error" || fail "--walk $none: $(cat "$work/error")"
+status 3 --walk "$work/missing"
+status 3 --walk "$work"
+status 64 --walk
+status 64 --walk -
+status 64 --walk "$good" "$bad"
+status 64 --walk --json "$good"
+status 64 --walk --show "$good"
+status 64 --walk -j 2 "$good"
 status 0 --help
 [ "$("$linkcheck" --version)" = "linkcheck $(cat VERSION)" ] || fail "--version is not that of the file VERSION"
 status 2 --columns README.md
@@ -319,9 +458,32 @@ status 64 -j 0 "$good"
 status 64 -j 1x "$good"
 status 64 --show
 status 64 --show "$good" "$bad"
-status 64 --aut
-status 64 --aut impl "$good" "$bad"
-status 64 --aut both "$good"
+for look in --aut --aut-states; do
+    status 64 $look
+    status 64 $look "$good"
+    grep -q "impl or spec is due before the file, after: $look" "$work/error" || fail "$look without a side: $(cat "$work/error")"
+    status 64 $look impl "$good" "$bad"
+    status 64 $look both "$good"
+done
+status 64 --dot
+status 64 --dot both "$good"
+status 64 --dot impl spec "$good"
+for around in "" x "1," 1,x 1,101 65536 1,2,3 -1 " 1" 1,-1; do status 64 --dot --around "$around" "$good"; done
+status 64 --dot "$good" --around
+status 64 --dot --around 1 spec "$good"
+status 64 --around 1 "$good"
+status 64 --show --around 1 "$good"
+status 1 --dot --around 12 "$good"
+grep -q 'there is no state' "$work/error" || fail "--around a state that is none: $(cat "$work/error")"
+status 1 --dot --around 0 "$tables/P_inv_false.txt"
+grep -q 'the invariant does not hold in the state' "$work/error" || fail "--around outside: $(cat "$work/error")"
+status 0 --dot --around 0 "$good"
+status 0 --dot impl --around 11,100 "$good"
+status 0 --typed "$work/typed/right.txt"
+status 1 --typed "$work/typed/right.txt" "$work/typed/fails.txt"
+status 2 --typed "$work/typed"
+status 3 --typed "$work/typed" "$work/missing"
+status 3 --typed --columns "$work/missing"
 status 64 --report --json "$good"
 status 64 --show --json "$good"
 if [ -c /dev/full ]; then "$linkcheck" "$good" > /dev/full 2> "$work/error" && fail "a full disk is not noticed"; fi
@@ -419,8 +581,10 @@ measures_of() {
         "$linkcheck" --measure --json "$file" || [ $? -le 2 ] || fail "--measure --json $file"
     done > "$work/measures"
     linkcheck/test/measures.py < "$work/measures" || fail "a measure is not the smallest"
+    linkcheck/test/runs.py < "$work/measures" || fail "of a measure that there isn't, a run is not as it is said"
+    linkcheck/test/schema.py < "$work/measures" || fail "--measure --json is not as schema.json says"
 }
-measures_of "$tables"/*.txt "$work"/{marks,values,first}/*.txt
+measures_of "$tables"/*.txt "$work"/{marks,values,first,runs}/*.txt
 ${CC:-cc} -std=c11 -Wall -Wextra -O2 linkcheck/test/slices.c target/staticlib/libmeasuring.a -o "$work/slices"
 "$work/slices" "$tables"/*.txt "$work"/{marks,values,first}/*.txt || fail "a slice is not written as it should be"
 if paste "$work/words" "$work/measures" | grep '  accepted' | grep -v '"own_meets":true'; then fail "accepted by another measure"; fi
@@ -467,7 +631,51 @@ for options in --measure "--measure --json" "--json --measure"; do
     status 64 "${options[@]}" --measure "$good"
 done
 status 64 --measure --mark "$good"
-status 64 --aut --measure "$good"
+status 64 --aut --measure impl "$good"
+
+# ---- long runs, and walks ----
+
+# changing MAPPING: the chain with this mapping, of which no step is marked: criterion 4 alone can fail, where the mapping changes.
+changing() {
+    { sed '/^     [267]/d' "$work/chain"; printf '2 2 1\n6 %s\n7 0 0\n8 11\n' "$1"; } | sort -sn -k 1,1 |
+        "$linkcheck" --columns > "$work/long"
+}
+# A run through every state but the last: shortened in words, whole for --show and as a JSON object.
+changing "6 15 12 1 0 0 255 12 1 1 0 255 0 0 0 1"
+status 1 "$work/long"
+grep -qF '; reached: (0, 0) -tau-> (0, 1) -tau-> (0, 2) -tau-> (0, 3) -tau-> .. 65526 steps more .. (255, 250) -tau-> ' "$work/out" ||
+    fail "a long run"
+grep -q ' -tau-> (255, 253) -tau-> (255, 254)$' "$work/out" || fail "the end of a long run"
+status 1 --show "$work/long"
+[ "$(grep -c '^  state [0-9]* = ([0-9]*, [0-9]*), row 1, sum value 0: tau ->$' "$work/out")" = 65534 ] || fail "a long run with --show"
+[ "$(tail -n 1 "$work/out")" = "  state 65534 = (255, 254)" ] || fail "the end of a long run with --show"
+status 1 --json "$work/long"
+cp "$work/out" "$work/long.json"
+linkcheck/test/runs.py < "$work/long.json" || fail "a long run as a JSON object"
+linkcheck/test/schema.py < "$work/long.json" || fail "a long run is not as schema.json says"
+status 1 --json -j 2 "$work/long" "$work/long"
+cat "$work/long.json" "$work/long.json" | cmp - "$work/out" || fail "a long run from another process"
+# The longest run that stands whole on a line, and one more step.
+for steps in 12 13; do
+    changing "6 12 1 1 0 $((steps + 1)) 0 0 0 1"
+    status 1 "$work/long"
+    [ "$(head -n 1 "$work/out" | grep -o 'tau->' | wc -l)" = $((steps == 12 ? 12 : 8)) ] || fail "a run of $steps steps: $(cat "$work/out")"
+done
+grep -q ' .. 5 steps more .. ' "$work/out" || fail "a run of 13 steps: $(cat "$work/out")"
+# Every state that is walked to, with every step and what the criteria say of it.
+mapfile -t walked < <(grep -v -e 'turned down' -e '/s_' "$work/words" | sed 's/  .*//' | awk 'NR % 9 == 0')
+mapfile -t with_marks < <(cd "$work" && "$linkcheck" marks | grep -v -e 'turned down' | sed "s,^,$work/,; s/  .*//")
+linkcheck/test/walk.py "$linkcheck" "${walked[@]}" examples/*.txt "$work/many.txt" "$work"/{values,first,runs}/*.txt "${with_marks[@]}" ||
+    fail "--walk shows something else than there is"
+# There is a prompt exactly if the commands come from a terminal.
+printf 'q\n' | "$linkcheck" --walk "$good" | grep -q '^> ' && fail "--walk prompts a script"
+python3 - "$linkcheck" "$good" << 'END' || fail "--walk does not prompt at a terminal"
+import os, pty, subprocess, sys
+first, second = pty.openpty()
+os.write(first, b'1\nq\n')
+shown = subprocess.run([sys.argv[1], '--walk', sys.argv[2]], stdin=second, capture_output=True, check=True, timeout=60).stdout
+sys.exit(shown.count(b'\n> ') != 2)
+END
 
 # Too many states.
 "$linkcheck" --columns linkcheck/test/wide.txt > "$work/wide.txt"
@@ -499,48 +707,78 @@ mapfile -t whole < <(printf '%s\n' $tables/*.txt | grep -Ev '/(t[1-7]|s_[0-9]|r_
 "$work/damage" "$work/damaged/marks" "$marked" "$seed" "$work"/marks/*.txt
 "$work/damage" "$work/damaged/values" "$marked" "$seed" "$work"/values/*.txt
 "$work/damage" "$work/damaged/first" "$marked" "$seed" "$work"/first/*.txt
-"$linkcheck" "$work/damaged" > "$work/plain" || true
+"$linkcheck" --glob '*' "$work/damaged" > "$work/plain" || true
 # Each text turned down has its fault found: the words come from another reading than the number.
 for found in "$work/words" "$work/plain"; do
     if grep 'turned down [0-9] ([^)]*)\(, line [0-9]*\)\?$' "$found"; then fail "a fault is not found"; fi
 done
 measures_of "$work"/damaged/*[0-9] "$work"/damaged/{marks,values,first}/*
 # What is said to be missing is, and nothing comes before it.
-all=("$tables" "$work"/{marks,values,first,damaged})
-"$linkcheck" --json "${all[@]}" > "$work/json" || [ $? = 2 ] || fail "--json"
+all=("$tables" "$work"/{marks,values,first,runs,damaged})
+"$linkcheck" --json --glob '*' "${all[@]}" > "$work/json" || [ $? = 2 ] || fail "--json"
 linkcheck/test/values.py < "$work/json" || fail "a missing value is not as it is said"
+# What is said to be reached is, by the shortest run, and what isn't is not; and every object is as the schema says.
+linkcheck/test/runs.py < "$work/json" > "$work/found" || fail "a run, a row, a condition or a conjunct is not as it is said"
+cat "$work/found"
+for kind in "conjunct" "not reached" "reached by no step" "reached by steps"; do
+    grep -q "[0-9][0-9] $kind" "$work/found" || fail "no table with \"$kind\""
+done
+linkcheck/test/schema.py < "$work/json" || fail "--json is not as schema.json says"
+cat linkcheck/expected/*.json | grep -v '^status' | linkcheck/test/schema.py || fail "stored objects are not as schema.json says"
 # A table is accepted after a first internal step exactly if there is one, and the first is named, in words too.
 linkcheck/test/first.py < "$work/json" > "$work/due_words" || fail "a first internal step is not as it is said"
-{ "$linkcheck" "${all[@]}" || [ $? = 2 ] || fail "${all[*]}"; } | grep '  accepted' > "$work/accepted"
+{ "$linkcheck" --glob '*' "${all[@]}" || [ $? = 2 ] || fail "${all[*]}"; } | grep '  accepted' > "$work/accepted"
 cmp "$work/due_words" "$work/accepted" || fail "a first internal step is told otherwise in words"
 [ "$(grep -c 'after a first internal step' "$work/accepted")" -ge 150 ] || fail "few tables with a first internal step"
 # What is said to differ differs.
 for found in "$work/words" "$work/plain"; do
-    if grep -e "data \([0-9]*\), ours \1\$" -e 'mapped to \(([^)]*)\), ours to \1$' -e 'mapped to \(([^)]*)\), our initial state is \1$' \
-        -e 'the state is mapped to \(([^)]*)\), .*, mapped to \1$' "$found"; then fail "nothing differs"; fi
+    if sed 's/; \(reached: \|state [0-9]* is the\|the invariant holds\|no run\).*//' "$found" | grep -e "data \([0-9]*\), the specification's \1\$" \
+        -e "mapped to \(([^)]*)\), the specification's to \1\$" -e "mapped to \(([^)]*)\), the specification's initial state is \1\$" \
+        -e 'the state is mapped to \(([^)]*)\), .*, mapped to \1$'; then fail "nothing differs"; fi
     if sed -n 's/.*: the measure is \([0-9]*\), and \([0-9]*\) after.*/\1 \2/p' "$found" | awk '$2 < $1' | grep .; then fail "the measure falls"; fi
     if grep 'criterion 2 ' "$found" | grep -v 'not below the size'; then fail "no mapped value is outside"; fi
 done
 # A step that fails criterion 5 is marked.
-"$linkcheck" --json "$work/marks" "$work/damaged/marks" > "$work/marks.json" || true
+"$linkcheck" --json --glob '*' "$work/marks" "$work/damaged/marks" > "$work/marks.json" || true
 if grep '"marked":false' "$work/marks.json"; then fail "criterion 5 fails by a step that is not marked"; fi
+
+linkcheck/test_typed.sh "$seed" "${all[@]}" || fail "typed tables"
+mapfile -t some < <(printf '%s\n' "$tables"/*.txt | awk 'NR % 8 == 0')
+linkcheck/test_store.sh "$tables" "$work"/{marks,values,first} || fail "a store"
+linkcheck/test_pictures.sh examples/*.txt "$tables"/{P_,m_c}*.txt "$work"/{marks,values,first}/*.txt "${some[@]}" || fail "pictures"
 
 # Every look, by the command given, over a folder's tables.
 looks() {
     local folder=$1
     shift
+    set -- "$@" --glob '*'
     "$@" "$folder" > "$work/looked" 2> "$work/error" || judged $? || fail "$* $folder: $(cat "$work/error")"
     "$@" --json -j 2 "$folder" > /dev/null 2>> "$work/error" || judged $? || fail "$* --json $folder: $(cat "$work/error")"
+    "$@" --typed --json "$folder" > /dev/null 2>> "$work/error" || judged $? || fail "$* --typed --json $folder: $(cat "$work/error")"
     if [ -s "$work/error" ]; then fail "$* $folder: $(cat "$work/error")"; fi
 }
 looks_at_each() {
     local look file
     for file in "${few[@]}"; do
-        for look in "--show" "--aut" "--aut spec" "--dot" "--columns" "--mark" "--unmark" "--measure" "--measure --json"; do
-            # shellcheck disable=SC2086
-            "$@" $look "$file" > /dev/null 2> "$work/error" || judged $? || fail "$* $look $file: $(cat "$work/error")"
+        for look in "--show" "--aut impl" "--aut spec" "--aut-states impl" "--dot" "--dot --around 0" "--columns" "--mark" "--unmark" \
+            "--measure" "--measure --json"; do
+            look "$file" "$look" "$@"
+        done
+        printf '%s\n' 1 1 1 2 2 b "g 0" "g 3" "g 7" 1 s 3 99 q | "$@" --walk "$file" > /dev/null 2> "$work/error" || judged $? ||
+            fail "$* --walk $file: $(cat "$work/error")"
+    done
+    for file in "$work"/{typed,places}/*.txt; do
+        for look in "--typed" "--typed --show" "--typed --json" "--typed --columns" "--typed --dot" "--typed --mark"; do
+            look "$file" "$look" "$@"
         done
     done
+}
+# look FILE OPTIONS COMMAND...: one of them.
+look() {
+    local file=$1 asked=$2
+    shift 2
+    # shellcheck disable=SC2086
+    "$@" $asked "$file" > /dev/null 2> "$work/error" || judged $? || fail "$* $asked $file: $(cat "$work/error")"
 }
 checked="no sanitizer"
 export ASAN_OPTIONS=exitcode=99 UBSAN_OPTIONS=print_stacktrace=1
@@ -551,6 +789,9 @@ if linkcheck/build.sh "$work/sanitized" -g -fsanitize=address,undefined -fno-san
     looks "$work/damaged" "$work/sanitized"
     cmp "$work/plain" "$work/looked" || fail "the sanitizers' build answers otherwise"
     few=("$tables"/P_*.txt "$tables"/[abfik]*.txt "$tables"/r{em,_mark}_*.txt "$tables"/t[1-7][1-7]*.txt "$work"/{marks,values,first}/*.txt)
+    few+=("$work"/damaged/{,marks/,values/,first/}? "$work"/{typed,places}/*.txt)
+
+    few=("$tables"/P_*.txt "$tables"/[abfik]*.txt "$tables"/r{em,_mark}_*.txt "$tables"/t[1-7][1-7]*.txt "$work"/{marks,values,first,runs}/*.txt)
     few+=("$work"/damaged/{,marks/,values/,first/}?)
     looks_at_each "$work/sanitized"
     checked="the address and undefined behaviour sanitizers"
@@ -558,7 +799,9 @@ fi
 if valgrind -q --error-exitcode=99 "$linkcheck" --help > /dev/null 2>&1; then
     mkdir "$work/some"
     cp "$work"/damaged/[1-9]?? "$work/some" 2> /dev/null || cp "$work"/damaged/? "$work/some"
-    cp -r "$work"/{marks,values,first} "$work/some"
+    cp -r "$work"/{marks,values,first,typed,places} "$work/some"
+
+    cp -r "$work"/{marks,values,first,runs} "$work/some"
     looks "$work/some" valgrind -q --error-exitcode=99 --leak-check=full "$linkcheck"
     few=("$tables/P_given.txt" "$tables/t56.txt" "$work/marks/given.txt" "$work"/values/{no-guard,measure-branch-taken}.txt "$work/first/again.txt")
     looks_at_each valgrind -q --error-exitcode=99 --leak-check=full "$linkcheck"

@@ -57,22 +57,31 @@ faulty() {
 # A whole table has come when reading fails: no verdict, and no columns. The pipe stays open for writing, so that its end is never told.
 mkfifo "$work/pipe"
 exec 9<> "$work/pipe"
-for arguments in "-" "--json -" "-j 2 - $good" "--show -" "--aut -" "--columns" "--columns -" "--mark -" "--unmark -" \
-    "--measure -" "--measure --json -"; do
+for arguments in "-" "--json -" "-j 2 - $good" "--show -" "--aut impl -" "--dot -" "--columns" "--columns -" "--mark -" "--unmark -" \
+    "--measure -" "--measure --json -" "--typed -" "--typed --show -"; do
     cat "$good" >&9
     # shellcheck disable=SC2086
     due 3 "linkcheck: -: Resource temporarily unavailable" "$work/nonblocking" "$linkcheck" $arguments <&9
     if grep -v -e unreadable -e 'not read$' -e "^$good  accepted" "$work/out"; then fail "$arguments: written after a read error"; fi
 done
-for look in --columns --show --aut --dot --mark --unmark --measure; do
+for look in --columns --show "--aut impl" "--aut-states spec" --dot --mark --unmark --measure "--typed --show"; do
+    # shellcheck disable=SC2086
     due 3 "linkcheck: -: Connection reset by peer" faulty read 2 $ECONNRESET "$linkcheck" $look - < "$good"
     written "" "$look after a read error"
+    # shellcheck disable=SC2086
     due 3 "linkcheck: $good: Input/output error" faulty read 2 $EIO "$linkcheck" $look "$good"
     written "" "$look after a read error"
 done
+# Commands that can't be read: what was shown before stays.
+printf 'g 9\n' >&9
+due 3 "linkcheck: standard input: Resource temporarily unavailable" "$work/nonblocking" "$linkcheck" --walk "$good" <&9
+[ "$(grep -c '^state ' "$work/out")" = 2 ] || fail "--walk after a read error: $(cat "$work/out")"
+due 3 "linkcheck: $good: Input/output error" faulty read 1 $EIO "$linkcheck" --walk "$good"
+written "" "--walk after a read error"
 exec 9>&-
+due 3 "linkcheck: standard input: Bad file descriptor" "$linkcheck" --walk "$good" <&-
 due 2 "linkcheck: -: Input/output error" eval "{ faulty read 2 $EIO \"$linkcheck\" --columns || true; } < $good | \"$linkcheck\" -"
-written "-  turned down 4 (kinds of lines): no line of kind 1
+written "-  turned down 4 (kinds of lines): no line of kinds 1, 2, 5, 6 and 7
 1 table: 0 accepted, 0 failed, 1 turned down" "the check of columns that could not be read"
 
 # A folder without a table.
@@ -135,78 +144,114 @@ closed '2>&-' 3 --unmark "$other"
 closed '2>&-' 3 --measure "$leads_out"
 closed '2>&-' 3 --measure "$no_value"
 
-# What a process sends is looked at: if any byte of its first header is another, its four tables are not checked, named and counted.
-four=("$good" "$good" "$good" "$good")
+# What a process sends is looked at: if any byte of its first header is another, its table is not checked, and so is what it has sent beside;
+# that is named and counted, and the other process does the rest.
 for ((place = 0; place < 32; place++)); do
-    FAULT_IN=worker due 3 "not checked, as the process for it failed" \
-        faulty write 1 "flip $place" "$linkcheck" -j 2 "${four[@]}" "${four[@]}"
-    written "$(printf '%s  accepted\n' "${four[@]}")
-4 tables: 4 accepted, 0 failed, 0 turned down; 4 not read" "byte $place of a header"
+    FAULT_IN=worker due 3 "linkcheck: $good: not checked, as the process for it failed" \
+        faulty write 1 "flip $place" "$linkcheck" -j 2 "$good"{,,,,,,,}
+    unread=$(grep -c "not checked" "$work/error")
+    written "$(for ((i = unread; i < 8; i++)); do echo "$good  accepted"; done
+    read=$((8 - unread))
+    echo "$read table$([ $read = 1 ] || echo s): $read accepted, 0 failed, 0 turned down; $unread not read")" "byte $place of a header"
 done
 
-# A library that was made for other rules: another verdict, a report that says something else, a text that is no table, a first internal
-# step where there is none, or none where there is one; a result that can't be, a number without or beside one, another number than is due;
-# a measure that is none, or too large, a state that there isn't, or that is on no loop.
+# A library that was made for other rules. What is no verdict, as the report says something else or there is no such verdict, is told as
+# not read, and the run goes on. A verdict stays as it is, without words where what linkcheck finds doesn't fit it: accepted though the text
+# is no table, a first internal step where there is none or none where there is one, a criterion that there isn't, a row where there is
+# none or none where there is one, a sum value or a state that there isn't, a criterion that holds, 10 where nothing lacks a value, another
+# where something does. So do the answers of the writers and of a measure: a number beside a result is none, any other stays.
 if [ $# = 0 ]; then
-    compile linkcheck/*.c linkcheck/test/other_rules.c -o "$work/other"
+    compile linkcheck/*.c linkcheck/test/other_rules.c target/staticlib/lib{lent_desk,duty,looking}.a -o "$work/other"
     while read -r returns verdict table; do
         for jobs in 1 2; do
-            OTHER_RETURNS=$returns OTHER_VERDICT=$verdict due 3 "the library was built for other rules" \
+            OTHER_RETURNS=$returns OTHER_VERDICT=$verdict due 3 "$table: the library was built for other rules" \
                 "$work/other" -j $jobs "$table" "$table"
-            if grep accepted "$work/out" | grep -v '^0 tables'; then fail "accepted by other rules"; fi
+            written "0 tables: 0 accepted, 0 failed, 0 turned down; 2 not read" "$table by other rules"
         done
+        OTHER_RETURNS=$returns OTHER_VERDICT=$verdict due 3 "the library was built for other rules" "$work/other" --show "$table"
+        written "" "--show $table by other rules"
     done << END
-3 3 $good
-0 0 $after
 3 0 $after
 0 3 $after
-3 3 $none
 4 4 $good
 4 4 $after
 9 0 $good
 0 1 $good
 1 0 $good
 4294967295 0 $good
-0 0 $none
 END
-    # With the right answers there is something to write.
+    # bare RETURNS WORDS MEMBERS TABLE: the verdict stands alone, in words, as a JSON object and after --show.
+    bare() {
+        local status=$1
+        if [ "$status" = 3 ]; then status=4; fi
+        OTHER_RETURNS=$1 OTHER_VERDICT=$1 due "$status" "" "$work/other" "$4" "$4"
+        [ "$(head -n 2 "$work/out")" = "$4  $2"$'\n'"$4  $2" ] || fail "\"$2\" is due by other rules: $(cat "$work/out")"
+        OTHER_RETURNS=$1 OTHER_VERDICT=$1 due "$status" "" "$work/other" --json "$4"
+        written "{\"file\":\"$4\",$3}" "$4 by other rules"
+        linkcheck/test/schema.py < "$work/out" > /dev/null || fail "$4 by other rules is not as schema.json says"
+        OTHER_RETURNS=$1 OTHER_VERDICT=$1 due "$status" "" "$work/other" --show "$4"
+        [ "$(tail -n 1 "$work/out")" = "$4  $2" ] || fail "--show $4 by other rules: $(cat "$work/out")"
+    }
+    bare 3 "accepted after a first internal step" '"verdict":"accepted after internal"' "$good"
+    bare 3 "accepted after a first internal step" '"verdict":"accepted after internal"' "$none"
+    bare 0 "accepted" '"verdict":"accepted"' "$after"
+    bare 0 "accepted" '"verdict":"accepted"' "$none"
+    for look in "--aut impl" "--dot impl"; do
+        # shellcheck disable=SC2086
+        OTHER_RETURNS=0 OTHER_VERDICT=0 due 3 "the library was built for other rules" "$work/other" $look "$none"
+        written "" "$look of a text that is no table"
+    done
+    OTHER_CRITERION=99 bare 2 "turned down 99" '"verdict":"turned down","number":99' "$none"
+    OTHER_CRITERION=6 bare 2 "turned down 6 (terms)" '"verdict":"turned down","number":6,"about":"terms"' "$good"
+    while read -r criterion state row sum table; do
+        export OTHER_CRITERION=$criterion OTHER_STATE=$state OTHER_ROW=$row OTHER_SUM=$sum
+        bare 1 "failed: criterion $criterion, state $state, row $row, sum value $sum" \
+            "\"verdict\":\"failed\",\"criterion\":$criterion,\"state\":$state,\"row\":$row,\"sum\":$sum" "$table"
+    done << END
+0 0 0 0 $good
+11 0 0 0 $good
+1 0 0 0 $good
+1 0 1 0 $bad
+2 0 1 0 $good
+2 12 0 0 $good
+2 0 0 1 $good
+4 0 1 0 $good
+4 4 2 0 $leads_out
+5 0 1 0 $good
+6 4 2 0 $leads_out
+8 0 3 0 $tables/P_cond_row3_true.txt
+9 0 3 0 $tables/P_cond_row3_true.txt
+4 65535 2 0 $good
+8 0 0 0 $good
+8 0 4 0 $good
+8 9 3 0 $good
+8 9 3 1 $bad
+10 0 0 0 $good
+10 0 1 0 $no_value
+8 0 2 0 $no_value
+2 0 0 0 $no_value
+10 4 0 0 $no_value
+8 9 3 0 $none
+END
+    unset OTHER_CRITERION OTHER_STATE OTHER_ROW OTHER_SUM
+    # With the right answers there are words.
     OTHER_RETURNS=3 OTHER_VERDICT=3 due 4 "" "$work/other" "$after"
     grep -q "^$after  accepted after a first internal step: " "$work/out" || fail "verdict 3 of $after: $(cat "$work/out")"
     OTHER_RETURNS=0 OTHER_VERDICT=0 due 0 "" "$work/other" "$good"
-    # A criterion that there isn't; a row where there is none, or none where there is one; 10 where nothing lacks a value, another where
-    # something does.
     while read -r criterion state row table; do
         export OTHER_RETURNS=1 OTHER_VERDICT=1 OTHER_CRITERION=$criterion OTHER_STATE=$state OTHER_ROW=$row
-        for format in "" --json; do
-            due 3 "the library was built for other rules" "$work/other" $format "$table"
-            if grep failed "$work/out" | grep -v '^0 tables'; then fail "criterion $criterion of $table"; fi
-        done
-        due 3 "the library was built for other rules" "$work/other" --show "$table"
-        written "" "--show $table by other rules"
-    done << END
-0 0 0 $good
-11 0 0 $good
-2 0 1 $good
-8 0 0 $good
-8 0 4 $good
-10 0 0 $good
-10 0 1 $no_value
-8 0 2 $no_value
-2 0 0 $no_value
-10 4 0 $no_value
-END
-    # With the right answers there is something to write.
-    while read -r criterion state row table; do
-        export OTHER_CRITERION=$criterion OTHER_STATE=$state OTHER_ROW=$row
         due 1 "" "$work/other" "$table"
         grep -q "failed: criterion $criterion (" "$work/out" || fail "criterion $criterion of $table: $(cat "$work/out")"
     done << END
-1 4 0 $no_value
-8 9 3 $good
+1 0 0 $tables/P_inv_false.txt
+3 4 2 $leads_out
+5 4 2 $loop
+8 9 3 $bad
 10 0 0 $no_value
 10 3 0 $no_value
 END
     unset OTHER_RETURNS OTHER_VERDICT OTHER_CRITERION OTHER_STATE OTHER_ROW
+    # The writers: no length, or too large a one, beside a result; a length beside a number that is none.
     while read -r returns number arguments; do
         # shellcheck disable=SC2086
         OTHER_RETURNS=$returns OTHER_VERDICT=$number due 3 "the library was built for other rules" "$work/other" $arguments
@@ -215,60 +260,98 @@ END
 0 0 --mark $good
 24661 0 --mark $good
 800 16 --mark $good
-0 8 --mark $good
-0 15 --mark $other
-0 4 --unmark $good
-800 0 --unmark $none
-800 0 --unmark $other
-800 0 --mark $full
 800 4 --mark $none
 800 15 --unmark $other
 END
-    while read -r returns number places table; do
-        for format in "" --json; do
-            OTHER_RETURNS=$returns OTHER_VERDICT=$number OTHER_PLACES=$places due 3 "the library was built for other rules" \
-                "$work/other" --measure $format "$table"
-            written "" "--measure $format $table by other rules"
-        done
-    done << END
-0 0 0 $good
-0 0 1 $good
-0 0 1 $still
-0 1 0 $still
-0 0 0 $leads_out
-0 0 0 $loop
-0 0 0 $none
-1 0 0 $good
-1 12 0 $good
-1 4294967295 0 $good
-1 0 0 $still
-1 8 0 $loop
-1 4 1 $loop
-1 4 0 $leads_out
-1 0 0 $none
-2 0 0 $good
-2 4 0 $good
-2 17 0 $good
-2 18 0 $good
-2 0 0 $none
-2 5 0 $none
-2 18 0 $none
-2 0 0 $leads_out
-2 17 0 $leads_out
-2 0 0 $no_value
-2 17 0 $no_value
-3 0 0 $still
-4294967295 0 0 $still
+    while read -r number words; do
+        OTHER_RETURNS=0 OTHER_VERDICT=$number due 2 "turned down" "$work/other" --mark "$good"
+        written "" "--mark $good by other rules"
+        [ "$(cat "$work/error")" = "linkcheck: $good: turned down $words" ] || fail "turned down $words: $(cat "$work/error")"
+    done << 'END'
+8 8
+15 15 (marks)
+4 4 (kinds of lines)
 END
-    # With the right answers there is something to write.
-    while read -r returns number table; do
-        OTHER_RETURNS=$returns OTHER_VERDICT=$number OTHER_PLACES=0 due "$returns" "" "$work/other" --measure --json "$table"
+    while read -r arguments; do
+        # shellcheck disable=SC2086
+        OTHER_RETURNS=800 OTHER_VERDICT=0 due 0 "" "$work/other" $arguments
+        [ "$(wc -c < "$work/out")" = 800 ] || fail "$arguments by other rules: $(wc -c < "$work/out") bytes"
     done << END
+--unmark $none
+--unmark $other
+--mark $full
+END
+    OTHER_RETURNS=0 OTHER_VERDICT=15 due 2 "line 13: the formula of row 2 is not 10" "$work/other" --unmark "$other"
+    # measured RETURNS NUMBER PLACES TABLE WORDS: a measure by other rules stands alone.
+    measured() {
+        local returns=$1 number=$2 table=$4 words=$5 members
+        export OTHER_RETURNS=$returns OTHER_VERDICT=$number OTHER_PLACES=$3
+        due "$returns" "$([ "$returns" != 2 ] || echo "linkcheck: $table: $words")" "$work/other" --measure "$table"
+        written "$([ "$returns" = 2 ] || echo "$table  $words")" "--measure $table by other rules"
+        case $returns in
+        0) members='"measure":"filled"' ;;
+        1) members="\"measure\":\"loop\",\"state\":$number" ;;
+        2) members="\"measure\":\"turned down\",\"number\":$number" ;;
+        esac
+        due "$returns" "" "$work/other" --measure --json "$table"
+        written "{\"file\":\"$table\",$members}" "--measure --json $table by other rules"
+        linkcheck/test/schema.py < "$work/out" > /dev/null || fail "--measure --json $table by other rules is not as schema.json says"
+        unset OTHER_RETURNS OTHER_VERDICT OTHER_PLACES
+    }
+    while read -r number places table; do
+        measured 0 "$number" "$places" "$table" "there is a measure that meets criterion 5"
+    done << END
+0 0 $good
+0 1 $good
+0 1 $still
+1 0 $still
+0 0 $leads_out
+0 0 $loop
+0 0 $none
+END
+    while read -r number places table; do
+        measured 1 "$number" "$places" "$table" "no measure meets criterion 5: state $number is on a loop"
+    done << END
+0 0 $good
+12 0 $good
+4294967295 0 $good
 0 0 $still
-1 7 $loop
-2 18 $leads_out
-2 18 $no_value
-2 4 $none
+8 0 $loop
+4 1 $loop
+4 0 $leads_out
+0 0 $none
+END
+    while read -r number table; do measured 2 "$number" 0 "$table" "turned down $number"; done << END
+0 $good
+4 $good
+17 $good
+18 $good
+0 $none
+5 $none
+18 $none
+0 $leads_out
+17 $leads_out
+0 $no_value
+17 $no_value
+END
+    for returns in 3 4294967295; do
+        export OTHER_RETURNS=$returns OTHER_VERDICT=0 OTHER_PLACES=0
+        due 3 "the library was built for other rules" "$work/other" --measure "$still"
+        written "" "--measure by other rules"
+        due 3 "the library was built for other rules" "$work/other" --measure --json "$still"
+        linkcheck/test/schema.py < "$work/out" > /dev/null || fail "--measure --json by other rules is not as schema.json says"
+        unset OTHER_RETURNS OTHER_VERDICT OTHER_PLACES
+    done
+    # With the right answers there are words.
+    while read -r returns number table words; do
+        OTHER_RETURNS=$returns OTHER_VERDICT=$number OTHER_PLACES=0 due "$returns" "" "$work/other" --measure --json "$table"
+        grep -q "$words" "$work/out" || fail "--measure --json $table: $(cat "$work/out")"
+    done << END
+0 0 $still "largest":0
+1 7 $loop "loop":
+2 18 $leads_out "about":"criterion 3"
+2 18 $no_value "about":"criterion 10"
+2 4 $none "about":"kinds of lines"
 END
 fi
 
@@ -279,11 +362,12 @@ for look in --show --mark --unmark --measure; do
     due 3 "linkcheck: cannot write: Input/output error" faulty close 1 $EIO "$linkcheck" $look - < "$good"
 done
 if [ -c /dev/full ]; then
-    for arguments in "$good" "-j 2 $good $bad" "--report $good" "--json $good" "--show $good" "--aut $good" "--dot $good" \
-        "--columns $good" "--mark $good" "--unmark $marked" "--measure $good" "--measure --json $good" "--measure $loop" "--help"; do
+    for arguments in "$good" "-j 2 $good $bad" "--report $good" "--json $good" "--show $good" "--aut impl $good" "--dot $good" \
+        "--aut-states impl $good" "--typed $good" "--typed --json $good" "--columns $good" "--walk $good" "--mark $good" \
+        "--unmark $marked" "--measure $good" "--measure --json $good" "--measure $loop" "--help"; do
         got=0
         # shellcheck disable=SC2086
-        "$linkcheck" $arguments > /dev/full 2> "$work/error" || got=$?
+        "$linkcheck" $arguments > /dev/full 2> "$work/error" < /dev/null || got=$?
         [ "$got" = 3 ] || fail "$arguments on a full disk: status $got"
         said "linkcheck: cannot write: No space left on device" "$arguments on a full disk"
     done
@@ -305,19 +389,27 @@ named error 64 "linkcheck: unknown option: --$shown" "--$odd"
 named error 64 "linkcheck: -j takes a number from 1 to 256: $shown" -j "$odd" "$good"
 named error 64 "linkcheck: impl or spec is due, not: $shown" --aut "$odd" "$good"
 named error 64 "linkcheck: too many arguments: $shown" --show "$good" "$odd"
-for look in "" --json --report --show --columns --aut --dot --mark --unmark --measure; do
+for look in "" --json --report --show --columns "--aut impl" "--aut-states impl" --dot --mark --unmark --measure --typed; do
+    # shellcheck disable=SC2086
     named error 3 "linkcheck: $work/$shown: No such file or directory" $look "$work/$odd"
 done
 escaped="\\u001b[31m\\u000a\\ufffd\\u009b\\u007f"$'\303\251\342\202\254'"\\ufffd\\ufffd\\ufffd"
 named out 3 "{\"file\":\"$work/$escaped\",\"verdict\":\"unreadable\",\"why\":\"No such file or directory\"}" --json "$work/$odd"
 named out 3 "{\"file\":\"$work/$escaped\",\"measure\":\"unreadable\",\"why\":\"No such file or directory\"}" --measure --json "$work/$odd"
 echo x > "$work/$odd"
-named error 2 "linkcheck: $work/$shown: line 1, field 1: not a number from 0 to 65535" --columns "$work/$odd"
-for look in --aut --dot --mark --unmark --measure; do
-    named error 2 "linkcheck: $work/$shown: turned down 2 (columns), line 1: 1 bytes are not whole fields of six columns" $look "$work/$odd"
+no_number="turned down (typed numbers), line 1, column 1: \`x\` is no number from 0 to 65535"
+no_columns="turned down 2 (columns), line 1: 1 byte, \`x\`, is not whole fields of six columns"
+named error 2 "linkcheck: $work/$shown: $no_number" --columns "$work/$odd"
+for look in "--aut impl" "--aut-states impl" --dot --mark --unmark --measure; do
+    # shellcheck disable=SC2086
+    named error 2 "linkcheck: $work/$shown: $no_columns" $look "$work/$odd"
+    # shellcheck disable=SC2086
+    named error 2 "linkcheck: $work/$shown: $no_number" --typed $look "$work/$odd"
 done
-named out 2 "$work/$shown  turned down 2 (columns), line 1: 1 bytes are not whole fields of six columns" "$work/$odd"
-named out 2 "$work/$shown  turned down 2 (columns), line 1: 1 bytes are not whole fields of six columns" --show "$work/$odd"
+for look in "" --show; do
+    named out 2 "$work/$shown  $no_columns" $look "$work/$odd"
+    named out 2 "$work/$shown  $no_number" --typed $look "$work/$odd"
+done
 
 # ---- a fault at every call ----
 
@@ -331,12 +423,13 @@ right_line() {
     [ -n "${known["x$1"]:-}" ] || [[ $1 =~ $summary_line ]] || [ "$1" = "     9 not read               " ] ||
         [[ $1 == '{"file":"'*'","'@(verdict|measure)'":"unreadable","why":"'*'"}' ]]
 }
-summary_line='^([0-9]+) tables?: ([0-9]+) accepted, (([0-9]+) accepted after a first internal step, )?([0-9]+) failed, ([0-9]+) turned down'
-summary_line+='(; ([0-9]+) not read)?$'
+summary_line='^([0-9]+) tables?: ([0-9]+) accepted, (([0-9]+) accepted after a first internal step, )?([0-9]+) failed, '
+summary_line+='([0-9]+) turned down(, ([0-9]+) with another duty)?(, ([0-9]+) not finished)?(; ([0-9]+) not read)?$'
 # The summary of such a run counts as many tables as have their line, and all, unless a folder could not be looked at.
 counts_are_right() {
     [[ $2 =~ $summary_line ]] || return 0
-    local read=$((BASH_REMATCH[2] + ${BASH_REMATCH[4]:-0} + BASH_REMATCH[5] + BASH_REMATCH[6])) unread=${BASH_REMATCH[8]:-0}
+    local read=$((BASH_REMATCH[2] + ${BASH_REMATCH[4]:-0} + BASH_REMATCH[5] + BASH_REMATCH[6])) unread=${BASH_REMATCH[12]:-0}
+    read=$((read + ${BASH_REMATCH[8]:-0} + ${BASH_REMATCH[10]:-0}))
     [ "$read" = "${BASH_REMATCH[1]}" ] && [ "$read" = $((${#lines[@]} - 1)) ] && [ "$unread" -gt 0 ] || return 1
     [ $((read + unread)) = "$in_all" ] || { [[ $1 =~ ^(scandir|stat|lstat|.*alloc)$ ]] && [ $((read + unread)) -lt "$in_all" ]; }
 }
@@ -372,7 +465,7 @@ at_every_call() {
 }
 calls=("read $EIO" "read $EAGAIN" "read $EINTR" "read short" "write $ENOSPC" "write $EINTR" "write short" "close $EIO" "close $EINTR"
     "malloc $ENOMEM" "calloc $ENOMEM" "realloc $ENOMEM" "open $EMFILE" "open $EINTR" "stat $EACCES" "lstat $EIO" "scandir $ENOMEM"
-    "fcntl $EINTR" "pipe $EMFILE" "fork $EAGAIN" "waitpid $EINTR" "waitpid $ECHILD" "read kill" "write kill" "close kill" "malloc kill")
+    "fcntl $EINTR" "pipe $EMFILE" "mmap $ENOMEM" "rename $EACCES" "fsync $EIO" "fork $EAGAIN" "waitpid $EINTR" "waitpid $ECHILD" "read kill" "write kill" "close kill" "malloc kill")
 # Each fault with these arguments.
 with_every_fault() {
     local line
@@ -384,7 +477,7 @@ with_every_fault() {
     known=() in_all=0
     while IFS= read -r line; do
         known["x$line"]=1
-        if [[ $line =~ $summary_line ]]; then in_all=$((BASH_REMATCH[1] + ${BASH_REMATCH[8]:-0})); fi
+        if [[ $line =~ $summary_line ]]; then in_all=$((BASH_REMATCH[1] + ${BASH_REMATCH[12]:-0})); fi
     done < "$work/out"
     for line in "${calls[@]}"; do
         # shellcheck disable=SC2086
@@ -393,8 +486,11 @@ with_every_fault() {
 }
 export FAULT_REACHED=$work/reached MALLOC_PERTURB_=165
 mkdir -p "$work/store/within"
-for i in 1 2 3 4 5 6; do cp "$good" "$work/store/good$i"; done
-cp "$bad" "$work/store/within/bad"
+for i in 1 2 3 4 5 6; do cp "$good" "$work/store/good$i.txt"; done
+cp "$bad" "$work/store/within/bad.txt"
+# Typed: a table with several faults, and a file with other words than numbers.
+sed 's/1$//; s/^     5.*/5 2 # a comment/' "$good" > "$work/several"
+sed 's/1$/x/' "$good" > "$work/words"
 input=/dev/null
 with_every_fault "$work/store"
 with_every_fault -j 3 "$work/store"
@@ -408,9 +504,19 @@ input=$good with_every_fault --columns
 with_every_fault --columns README.md
 with_every_fault --show "$bad"
 with_every_fault --show "$after"
-with_every_fault --aut "$good"
+printf '%s\n' 1 1 b 'g 9' 7 x '' > "$work/commands"
+input=$work/commands with_every_fault --walk "$bad"
+with_every_fault --walk "$none"
+with_every_fault --aut impl "$good"
+with_every_fault --aut-states spec "$good"
 with_every_fault --dot spec "$good"
-with_every_fault --aut "$none"
+with_every_fault --dot "$bad"
+with_every_fault --dot --around 9 "$bad"
+with_every_fault --aut impl "$none"
+with_every_fault --typed -j 2 "$good" "$work/several" "$work/words"
+with_every_fault --typed --json "$work/several" "$work/words"
+with_every_fault --typed --show "$work/several"
+with_every_fault --typed --dot "$work/words"
 with_every_fault --mark "$good"
 input=$marked with_every_fault --unmark -
 with_every_fault --unmark "$other"
@@ -423,6 +529,12 @@ with_every_fault --measure --json "$tables/s_0_256_256.txt"
 input=$loop with_every_fault --measure --json -
 with_every_fault --measure --json "$leads_out"
 with_every_fault --json -j 2 "$no_value" "$good" "$after"
+with_every_fault --duty "$good" -j 2 "$work/store" "$other" "$none"
+with_every_fault --duty "$good" --show "$other"
+with_every_fault --duty "$none" "$good"
+with_every_fault --timeout 50 -j 2 "$good" "$bad" "$good"
+with_every_fault --junit "$work/suite.xml" "$good" "$bad" "$work/missing"
+with_every_fault --junit "$work/suite.xml" -j 2 "$good" "$bad" "$none"
 with_every_fault --measure --json "$work/missing"
 sanitized="no sanitizer"
 export ASAN_OPTIONS=exitcode=99:verify_asan_link_order=0 UBSAN_OPTIONS=print_stacktrace=1
@@ -432,6 +544,7 @@ if [ $# = 0 ] && linkcheck/build.sh "$work/sanitized" -g -fsanitize=address,unde
     with_every_fault --json -j 2 "$good" "$work/missing" "$work/store/within"
     input=$good with_every_fault --columns
     with_every_fault --dot spec "$good"
+    input=$work/commands with_every_fault --walk "$bad"
     with_every_fault --mark "$good"
     with_every_fault --measure "$loop"
     with_every_fault --measure --json "$good"
@@ -441,7 +554,7 @@ unset FAULT_REACHED MALLOC_PERTURB_
 for line in "${calls[@]}"; do [ "${seen[${line% *}]:-0}" -gt 0 ] || fail "no call of ${line% *} was reached"; done
 [ "$runs" -ge 1000 ] || fail "only $runs runs with a fault"
 # What linkcheck calls is either tried above or can't go wrong: poll is asked again, and strdup needs malloc.
-can_not='alarm|alphasort|clock_gettime|_?exit|free|isatty|mem.*|poll|qsort|sig.*|str.*|v?sn?printf'
+can_not='alarm|alphasort|clock_gettime|_?exit|fnmatch|free|getenv|getpid|isatty|mem.*|munmap|poll|qsort|sig.*|str.*|unlink|v?sn?printf'
 can_not+='|_ITM_.*|__(assert|ctype|cxa|errno|gmon|libc|stack)_.*'
 if [ $# = 0 ] && imported=$(nm -D --undefined-only "$linkcheck" 2> /dev/null); then
     while read -r _ call; do

@@ -15,8 +15,10 @@
 #include <errno.h>
 #include <fcntl.h>
 #include <signal.h>
+#include <stdarg.h>
 #include <stdatomic.h>
 #include <stdbool.h>
+#include <stdio.h>
 #include <stdlib.h>
 #include <string.h>
 #include <sys/mman.h>
@@ -149,7 +151,23 @@ void *realloc(void *memory, size_t size) {
 /* ---- files and processes ---- */
 
 int open(const char *path, int flags, ...) {
-    return struck("open") ? -1 : THE_REAL(open)(path, flags);
+    va_list more;
+    va_start(more, flags);
+    const mode_t mode = flags & O_CREAT ? va_arg(more, mode_t) : 0;
+    va_end(more);
+    return struck("open") ? -1 : THE_REAL(open)(path, flags, mode);
+}
+
+int rename(const char *from, const char *to) {
+    return struck("rename") ? -1 : THE_REAL(rename)(from, to);
+}
+
+int fsync(int file) {
+    return struck("fsync") ? -1 : THE_REAL(fsync)(file);
+}
+
+void *mmap(void *at, size_t length, int protection, int flags, int file, off_t offset) {
+    return struck("mmap") ? MAP_FAILED : THE_REAL(mmap)(at, length, protection, flags, file, offset);
 }
 
 int fcntl(int file, int command, ...) {

@@ -20,10 +20,11 @@ def due_of(t):
     if first is None: return {'verdict': 'accepted'}, 'accepted'
     row, s = first
     state, marked = t.number[t.initial], t.rows[row - 1].mark(t.initial, s)
-    due = {'verdict': 'accepted after internal', 'state': state, 'values': list(t.initial), 'row': row, 'sum': s}
+    due = {'verdict': 'accepted after internal', 'state': state, 'values': list(t.initial), 'row': row, 'sum': s,
+           'line': t.line(3, row)}
     if 8 in t.kinds: due['marked'] = marked
-    words = 'accepted after a first internal step: row %d (internal), sum value %d, enabled in the initial state %d = (%s)%s' % (
-        row, s, state, ', '.join(map(str, t.initial)), '' if marked else ' but not marked')
+    words = 'accepted after a first internal step: row %d (internal, line %d), sum value %d, enabled in the initial state %d = (%s)%s' % (
+        row, due['line'], s, state, ', '.join(map(str, t.initial)), '' if marked else ' but not marked')
     return due, words
 
 

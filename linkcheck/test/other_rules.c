@@ -1,5 +1,5 @@
 /* Functions by other rules, in place of the library's. check_design accepts every text, but returns OTHER_RETURNS and has OTHER_VERDICT in
- * the report's first field, and if they are set OTHER_CRITERION, OTHER_STATE and OTHER_ROW in the next ones. The others return
+ * the report's first field, and if they are set OTHER_CRITERION, OTHER_STATE, OTHER_ROW and OTHER_SUM in the next ones. The others return
  * OTHER_RETURNS and give the number OTHER_VERDICT; mark_design and unmark_design write nothing, measure_design writes OTHER_PLACES to every
  * place. */
 #include "../../include/checker.h"
@@ -15,7 +15,8 @@ static const char *set(const char *name) {
 uint32_t check_design(const uint8_t *text, size_t text_len, uint8_t *report, size_t report_len) {
     char made[64];
     (void)text, (void)text_len;
-    snprintf(made, sizeof made, "%6s%6s%6s%6s     0\n", set("OTHER_VERDICT"), set("OTHER_CRITERION"), set("OTHER_STATE"), set("OTHER_ROW"));
+    snprintf(made, sizeof made, "%6s%6s%6s%6s%6s\n", set("OTHER_VERDICT"), set("OTHER_CRITERION"), set("OTHER_STATE"), set("OTHER_ROW"),
+             set("OTHER_SUM"));
     memcpy(report, made, report_len < CHECK_REPORT_BYTES ? report_len : CHECK_REPORT_BYTES);
     return (uint32_t)atoi(getenv("OTHER_RETURNS"));
 }

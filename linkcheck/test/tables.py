@@ -26,6 +26,13 @@ def function(body):
     return value
 
 
+def conjuncts(fields):
+    """the formulas that the one which comes next joins by and"""
+    mark = next(fields)
+    if mark == 15: return conjuncts(fields) + conjuncts(fields)
+    return [function(term(itertools.chain([mark], fields)))]
+
+
 def place(missing):
     """where a value is missing, of the members that are told of it"""
     return {member: missing[member] for member in missing if member not in ('term', 'dividend')}
@@ -48,6 +55,7 @@ class Table:
     def __init__(self, name):
         with open(name) as file:
             lines = [[int(line[i:i + 6]) for i in range(0, len(line) - 1, 6)] for line in file]
+        self.lines = lines
         self.kinds = [line[0] for line in lines]
         self.sizes, self.our_sizes = ([line[1] for line in lines if line[0] == kind] for kind in (1, 2))
         self.initial = tuple(line[2] for line in lines if line[0] == 1)
