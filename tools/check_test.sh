@@ -10,8 +10,10 @@ tree=$work/tree
 program=$tree/target/bin/check_table
 mkdir -p "$tree/tools" "$tree/crates" "$tree/target/bin" "$work/bin"
 cp "$check" "$tree/check"
-cp tools/rt.sh "$tree/tools/"
-touch "$tree/crates/source" "$tree/crates.txt"
+cp tools/rt.sh tools/progress.sh "$tree/tools/"
+touch "$tree/crates/source"
+printf '%s\n' "# Five crates, and one that is not wanted." low: "middle: low libc" "upper: middle" "side: low" "check_table: upper side # no more" \
+    "other: low" > "$tree/crates.txt"
 echo "a table" > "$work/table"
 path=$PATH
 tried=0
@@ -43,11 +45,26 @@ stand_in() {
     chmod +x "$program"
 }
 
-# Verdicts: the report's bytes as they are.
-for report in "     0     0     0     0     0" "     1     8 65535    32   255" "     2     7     0     0     0" "     3     0     0     0     0"; do
+# Verdicts: the report's bytes as they are, and words on standard error.
+while IFS=: read -r report words; do
     stand_in "printf '%s\n' '$report'"
-    due "${report:5:1}" "" "$work/table"
+    due "${report:5:1}" "check: ${words# }" "$work/table"
     printf '%s\n' "$report" | cmp - "$work/out"
+    printf 'check: %s\n' "${words# }" | cmp - "$work/error"
+done << END
+     0     0     0     0     0: accepted as it is
+     1     8 65535    32   255: failed: criterion 8 (data), state 65535, row 32, sum value 255
+     1     1     7     0     0: failed: criterion 1 (start), state 7
+     1    10    33     0     0: failed: criterion 10 (values), state 33
+     1     3     0     1     0: failed: criterion 3 (invariant), state 0, row 1, sum value 0
+     2     4     0     0     0: turned down by 4 (kinds of lines)
+     2     7     0     0     0: turned down by 7 (actions)
+     3     0     0     0     0: accepted after a first internal step
+END
+for closed in '2>&-' '2> /dev/full'; do
+    got=0
+    eval "\"$tree/check\" \"$work/table\" > \"$work/out\" $closed" || got=$?
+    if [ "$got" != 3 ] || [ "$(wc -c < "$work/out")" != 31 ]; then fail "words that can't be written, $closed: status $got"; fi
 done
 
 # No report: nothing, too little, too much, other bytes, other verdicts, a program that fails or is killed.
@@ -94,7 +111,7 @@ for closed in '2>&-' '2> /dev/full' '<&- >&- 2>&-'; do
 done
 
 # Building: without rt; with one that fails, that makes nothing, and that makes the program; and only where that is needed.
-for tool in bash cat dirname env find mktemp rm sed tail tee touch tr; do ln -s "$(command -v $tool)" "$work/bin/$tool"; done
+for tool in bash cat dirname env find mktemp rm sed sleep tail tee touch tr; do ln -s "$(command -v $tool)" "$work/bin/$tool"; done
 path=$work/bin
 as_rt() {
     printf '#!/usr/bin/env bash\n%s\n' "$1" > "$work/bin/rt"
@@ -111,11 +128,27 @@ as_rt "kill -KILL \$\$"
 due 70 "check: the program can't be built" "$work/table"
 as_rt "exit 0"
 due 70 "check: the program can't be built" "$work/table"
+# How far it has come, by rt's lines: those of crates that are wanted go, the others are shown.
+as_rt "echo 'rt: low proved (2 s)'; sleep 0.3; echo 'rt: middle proved (1 s)'; echo 'rt: side proved (1 s)'; sleep 0.3
+    echo 'rt: upper NOT PROVED (exit 1, 2 s)'; echo 'error: why'; exit 1"
+due 70 "check: proving, 5 of 5 crates left, some minutes" "$work/table"
+due 70 "check: proving, 4 of 5 crates left, some minutes" "$work/table"
+due 70 "check: proving, 2 of 5 crates left, about " "$work/table"
+due 70 "rt: upper NOT PROVED (exit 1, 2 s)" "$work/table"
+due 70 "error: why" "$work/table"
+if grep -q "rt: low proved" "$work/error"; then fail "lines on crates that are proved are shown: $(cat "$work/error")"; fi
+as_rt "echo 'rt: low proved (unchanged since it was last proved)'; sleep 0.3; echo 'rt: other proved (1 s)'; exit 1"
+due 70 "rt: other proved (1 s)" "$work/table"
+due 70 "check: proving, 4 of 5 crates left, some minutes" "$work/table"
+mv "$tree/tools/progress.sh" "$work/"
+due 70 "rt: low proved (unchanged since it was last proved)" "$work/table"
+mv "$work/progress.sh" "$tree/tools/"
 as_rt "[ \"\$*\" = 'check check_table' ] && cat '$work/program' > '$program' && '$(command -v chmod)' +x '$program' && echo built >> '$work/built'"
-due 0 "" "$work/table"
-due 0 "" "$work/table"
+due 0 "check: proving, 5 of 5 crates left, some minutes" "$work/table"
+due 0 "check: accepted as it is" "$work/table"
+if grep -q proving "$work/error"; then fail "proved again"; fi
 touch -t 200001010000 "$program"
-due 0 "" "$work/table"
+due 0 "check: proving" "$work/table"
 [ "$(wc -l < "$work/built")" = 2 ] || fail "built $(wc -l < "$work/built") times, not twice"
 rm -r "$tree/crates"
 due 70 "the sources of the program can't be looked at" "$work/table"

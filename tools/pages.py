@@ -11,7 +11,7 @@ HISTORY = HERE / "docs" / "LANDINGS.md"  # it names what was there
 LINK = re.compile(r"\[[^\]]*\]\(([^)#\s]+)(?:#[^)]*)?\)")
 # A file of specs/ or proofs/, with the crate before it or in the crate at hand; the endings are left out.
 PART = re.compile(r"(?<![\w/.-])(?:(?:crates/)?(\w+)/)?(specs|proofs)/([A-Z]\w*)\b")
-PLAIN = re.compile(r"(?<![\w/.-])((?:tools|compare|bench|linkcheck|examples|include|docs)/[\w./-]*\w\.(?:sh|py|c|h|md|txt|tsv))\b")
+PLAIN = re.compile(r"(?<![\w/.-])((?:tools|compare|bench|linkcheck|examples|include|docs|store)/[\w./-]*\w\.(?:sh|py|c|h|md|txt|tsv))\b")
 COMMENT = {".rt": re.compile(r"//(.*)"), ".antt": re.compile(r"--(.*)")}
 missing = []
 
