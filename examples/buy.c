@@ -11,7 +11,7 @@ static const char *advice(uint32_t verdict)
 
 int main(int words, char **word)
 {
-    static uint8_t text[28673]; /* one byte more than a text may have: a longer one is turned down by it */
+    static uint8_t text[CHECK_TEXT_BYTES + 1]; /* one byte more than a text may have: a longer one is turned down by it */
     uint8_t report[CHECK_REPORT_BYTES];
     FILE *file = words == 2 ? fopen(word[1], "rb") : NULL;
     if (!file) {

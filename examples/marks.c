@@ -5,7 +5,7 @@
 
 int main(int words, char **word)
 {
-    static uint8_t text[28673]; /* one byte more than a text may have: a longer one is turned down by it */
+    static uint8_t text[CHECK_TEXT_BYTES + 1]; /* one byte more than a text may have: a longer one is turned down by it */
     static uint8_t marked[MARK_RESULT_BYTES], back[MARK_RESULT_BYTES]; /* a result is never longer */
     uint8_t report[CHECK_REPORT_BYTES], with_marks[CHECK_REPORT_BYTES];
     uint32_t number;

@@ -4,7 +4,7 @@
 
 int main(int words, char **word)
 {
-    static uint8_t text[28673]; /* one byte more than a text may have: a longer one is turned down by it */
+    static uint8_t text[CHECK_TEXT_BYTES + 1]; /* one byte more than a text may have: a longer one is turned down by it */
     static uint16_t slice[MEASURE_PLACES]; /* a table never has more states; what is not written stays 0 */
     uint32_t number;
     FILE *file = words == 2 ? fopen(word[1], "rb") : NULL;

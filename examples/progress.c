@@ -1,5 +1,5 @@
 /* progress FILE: checks a table by advances on a desk, and shows how far it has come. An interrupt (Ctrl-C) ends it between two advances,
- * without a verdict. The exit status is the verdict; 65 for an error, 130 if it was interrupted. */
+ * without a verdict. The exit status is the verdict; 64 without a file that can be opened, 65 for another error, 130 if it was interrupted. */
 #include <signal.h>
 #include <stdio.h>
 #include "checker.h"

@@ -7,7 +7,7 @@
  *   libmeasuring.a   measure_design: the smallest measure
  *   liblooking.a     hold_design, look_.., fault_line: what a design says at a state, and where a text is at fault, to explain a verdict
  *
- * Of read_report, and of what is inline here, nothing has to be linked. */
+ * read_report and CHECK_IS_ACCEPTED are inline here, and need no library. */
 #ifndef CHECKER_H
 #define CHECKER_H
 
@@ -18,8 +18,8 @@
 extern "C" {
 #endif
 
-/* The version, as in the file VERSION: the first number changes if a call that there was answers otherwise, the second if calls or kinds
- * of lines are added, the third if neither. */
+/* The version, as in the file VERSION: the first number changes if a call that there was, or linkcheck, answers otherwise, the second if
+ * calls or kinds of lines are added, the third if neither. */
 #define CHECKER_VERSION "4.0.0"
 
 /* What check_design returns. */
@@ -226,16 +226,16 @@ struct held_design {
 #define LOOK_ROW_PLACES 11
 
 /*
- * The functions on a text that is taken apart have no state, allocate nothing, make no system call and always return; threads may call them at
- * the same time, each with places of its own to be written. Areas must not overlap, must be aligned as their types are, and must not be NULL but
- * for a text of length 0. They use less than 64 KiB of stack: hold_design 32,824 bytes, fault_line 33,016, measured as above. Whatever the places
- * hold, the functions answer; but what they tell is about a text only after hold_design took it apart there.
+ * The functions on a text that is taken apart have no state, allocate nothing, make no system call and always return; threads may call them
+ * at the same time, each with places of its own to be written. Areas must not overlap, must be aligned as their types are, and must not be
+ * NULL but for a text of length 0. They use less than 64 KiB of stack; of hold_design 32,824 bytes and of fault_line 33,016 were measured as
+ * above. Whatever the places hold, the functions answer; but what they tell is about a text only after hold_design took it apart there.
  */
 
 /*
  * Takes a design text apart, so that it can be looked at. Returns 0 and writes its lines to fields, starts and counts, which have LOOK_FIELDS,
- * LOOK_STARTS and LOOK_COUNTS places; or returns the number of the text's lowest fault, 1 to 7, and writes 0 to every place. In the places
- * after the last line is 0.
+ * LOOK_STARTS and LOOK_COUNTS places; or returns the number of the text's lowest fault, 1 to 7, and writes 0 to every place. The places
+ * after those of the last line hold 0.
  */
 uint32_t hold_design(const uint8_t *text, size_t text_len, uint16_t *fields, uint16_t *starts, size_t *counts);
 
@@ -248,8 +248,8 @@ size_t fault_line(const uint8_t *text, size_t text_len, size_t from);
 
 /*
  * The value term, or the formula, that begins at place `at` of the fields, in the state with these LOOK_VALUES values, 0 after the last
- * parameter's, and for this sum value: its value, or LOOK_NO_VALUE; LOOK_FAILS, LOOK_HOLDS or LOOK_NO_TRUTH. Where no such term begins there
- * is no value.
+ * parameter's, and for this sum value: its value, or LOOK_NO_VALUE; LOOK_FAILS, LOOK_HOLDS or LOOK_NO_TRUTH. Where the field there is no mark
+ * of such a term there is no value; where the fields are otherwise no well-formed term, what is told says nothing.
  */
 uint32_t look_value(const uint16_t *fields, size_t at, const uint16_t *values, uint16_t sum);
 uint32_t look_formula(const uint16_t *fields, size_t at, const uint16_t *values, uint16_t sum);
@@ -263,16 +263,17 @@ void look_state(const uint16_t *fields, const uint16_t *starts, const size_t *co
 /*
  * A row of one of the two processes, counted from 1, at a state of that process and for a sum value. Writes LOOK_ROW_PLACES places: whether
  * the condition holds; whether the mark does, if the row is an internal one of the implementation, and LOOK_HOLDS otherwise or without a line of
- * kind 8; the data; and from LOOK_NEXT on the eight values of the next state. The row is enabled if its condition holds and the sum value is
- * below its span.
+ * kind 8; the data; and from LOOK_NEXT on the eight values of the next state, 0 after the last parameter's. The row is enabled if its condition
+ * holds and the sum value is below its span. Where there is no such row every place is 0. Any side but LOOK_IMPLEMENTATION is the
+ * specification.
  */
 void look_row(const uint16_t *fields, const uint16_t *starts, const size_t *counts, uint32_t side, uint16_t row, const uint16_t *values,
               uint16_t sum, uint32_t *told);
 
 /*
  * Whether a criterion, 2 to 9, holds at a state of the implementation, for a row, of the specification in criterion 7, and a sum value below
- * its span; row and sum value do not matter in criterion 2. It is asked where the invariant holds, and nothing there is without a value
- * (criterion 10).
+ * its span; row and sum value do not matter in criterion 2. Returns LOOK_HOLDS or LOOK_FAILS. It is asked where the invariant holds, and
+ * nothing there is without a value (criterion 10).
  */
 uint32_t look_criterion(const uint16_t *fields, const uint16_t *starts, const size_t *counts, const uint16_t *values, uint16_t criterion,
                         uint16_t row, uint16_t sum);
@@ -290,7 +291,8 @@ uint32_t look_criterion(const uint16_t *fields, const uint16_t *starts, const si
  *   1  something differs
  *   2  the text is no design text
  *   3  the duty is no design text; the text is one
- * The texts are only read, and may be the same. The function has no state, allocates nothing, makes no system call and always returns; it uses
+ * The texts are only read, and may be the same; one of length 0 may have any address, NULL among them. Threads may call it at the same time.
+ * The function has no state, allocates nothing, makes no system call and always returns; it uses
  * less than 128 KiB of stack: 49,576 bytes, measured as above. Link with libduty.a.
  */
 uint32_t same_duty(const uint8_t *text, size_t text_len, const uint8_t *duty, size_t duty_len);
@@ -371,9 +373,9 @@ static inline uint32_t desk_drop(struct check_desk *d)
 
 /*
  * A call that is turned down leaves the desk as it was. Any memory is some desk: one that desk_new did not make, or that was written to
- * otherwise, is no danger, but what it answers says nothing about a text. Threads may use desks of their own at the same time. A call copies
- * the desk. The functions have no state, allocate nothing, make no system call and always return; they use less than 128 KiB of stack: 68,616
- * bytes, measured as above.
+ * otherwise, is no danger, but what it answers says nothing about a text. Neither it nor a number may be NULL. Threads may use desks of their
+ * own at the same time. A call copies the desk. The functions have no state, allocate nothing, make no system call and always return; they
+ * use less than 128 KiB of stack: 68,616 bytes, measured as above.
  */
 
 #ifdef __cplusplus

@@ -1,5 +1,5 @@
-/* A verdict in words: the place of a failure with its values, and what differs there. "The board" is the implementation, "ours" is the
- * specification. */
+/* A verdict in words: the place of a failure with its values, and what differs there. "The board" is the implementation; in the code "ours"
+ * is the specification. */
 #define _POSIX_C_SOURCE 200809L
 #include "explain.h"
 #include "state.h"
@@ -7,8 +7,8 @@
 #include <stdlib.h>
 
 static const char *const criteria[] = {
-    "", "start", "mapped values", "invariant", "mapping", "measure", "allowed by the specification", "offered by the board", "data", "next state",
-    "values",
+    "", "start", "mapped values", "invariant", "mapping", "measure", "allowed by the specification", "offered by the board", "data",
+    "next state", "values",
 };
 
 const char *criterion_word(unsigned criterion) {
@@ -155,7 +155,8 @@ static void print_mapped_values(struct output *out, const struct here *h) {
     unsigned i = outside(&h->t->spec, &h->mapped);
     put(out, "it is mapped to ");
     print_state(out, &h->t->spec, &h->mapped);
-    if (i < h->t->spec.parameters) print(out, ", and %u is not below the size %u of the specification's parameter %u", h->mapped.value[i], h->t->spec.size[i], i);
+    if (i == h->t->spec.parameters) return;
+    print(out, ", and %u is not below the size %u of the specification's parameter %u", h->mapped.value[i], h->t->spec.size[i], i);
 }
 
 static void print_invariant(struct output *out, const struct here *h) {
@@ -238,7 +239,8 @@ static void print_offered(struct output *out, const struct here *h) {
 
 static void print_data(struct output *out, const struct here *h) {
     if (!h->other) return;
-    print(out, "the board's data %u, the specification's %u", data_number(h->row, &h->state, h->f->sum), data_number(h->other, &h->mapped, h->f->sum));
+    print(out, "the board's data %u, ", data_number(h->row, &h->state, h->f->sum));
+    print(out, "the specification's %u", data_number(h->other, &h->mapped, h->f->sum));
 }
 
 static void print_next(struct output *out, const struct here *h) {

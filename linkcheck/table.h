@@ -10,7 +10,7 @@
 #include <stdint.h>
 
 enum {
-    MAX_TEXT = 28672,
+    MAX_TEXT = CHECK_TEXT_BYTES,
     MAX_FIELDS = 4096,
     MAX_LINE_FIELDS = 256,
     MAX_PARAMETERS = 8,

@@ -5,6 +5,7 @@ use mathlib.Core.Logic.{_↔_}
 use mathlib.Core.Bool.{Bool, cond}
 use mathlib.Core.List.{List, []}
 use native.Mathlib.Omega.{arith}
+use lib.ListN.{drop}
 use denote.Ref.{now}
 use Rattle.foundation.specs.Reflects.{Reflects, so, not-so}
 use Rattle.criteria.specs.Design.{Design, Row, State, RowIs, Admitted}
@@ -14,6 +15,7 @@ use Rattle.criteria.proofs.Rows.{is-row-at}
 use Rattle.design.specs.Faults.{LowestFault}
 use Rattle.decision.specs.Tests.{holds3, holds4, holds5, holds6, holds7, holds8, holds9}
 use Rattle.decision.proofs.Tests.{by-2, by-3, by-4, by-5, by-6, by-7, by-8, by-9}
+use Rattle.design.specs.Line.{valueIn, formulaIn}
 use Rattle.design.specs.Lines.{designText}
 use Rattle.design.specs.Loaded.{designAt}
 use Rattle.layout.specs.Sizes.{shapeOf}
@@ -23,9 +25,10 @@ use Rattle.loader.proofs.Passed.{admitted}
 use Rattle.lowest_failure.specs.Search.{criterionFor, holdsFor, atImpl, atImplBy, atSpec}
 use Rattle.fault_lines.specs.Shows.{Tells}
 use Rattle.fault_lines.proofs.Explained.{explains}
-use Rattle.looking.specs.Told.{countsTold, countsIn, stateTold, rowTold, criterionTold}
+use Rattle.looking.specs.Told.{valueTold, formulaTold, countsTold, countsIn, stateTold, rowTold, criterionTold}
 use Rattle.looking.proofs.Held.{held-design}
-use Rattle.claims.specs.Looks.{Holds, holds, Names, names, SeesState, SeesRow, SeesCriterion, Asks, second, third, fourth, fifth, sixth, seventh, eighth, ninth, Looks}
+use Rattle.looking.proofs.Laws.{value-at-state, formula-at-state}
+use Rattle.claims.specs.Looks.{Holds, holds, Names, names, SeesValue, SeesFormula, SeesState, SeesRow, SeesCriterion, Asks, second, third, fourth, fifth, sixth, seventh, eighth, ninth, Looks}
 use Rattle.claims.specs.Looks as looks-specs
 use Rattle.claims.proofs.Lists.{lent}
 
@@ -43,6 +46,12 @@ design-told (holds κs text f₀ s₀ c₀ f s c r p) =
 
 line-told : {text : List ℕ} {from r : ℕ} → Names text from r → Tells text from r
 line-told (names κs text from r p) = p
+
+value-told : {f v : List ℕ} {at e r : ℕ} → SeesValue f at v e r → r ≡ valueTold (valueIn (drop at f) .tree) v e
+value-told (looks-specs.SeesValue.sees κs f at v e r p) = p
+
+formula-told : {f v : List ℕ} {at e r : ℕ} → SeesFormula f at v e r → r ≡ formulaTold (formulaIn (drop at f) .tree) v e
+formula-told (looks-specs.SeesFormula.sees κs f at v e r p) = p
 
 state-told : {f s c v told : List ℕ} → SeesState f s c v told → told ≡ stateTold (designAt f s (shapeOf (countsIn c))) v
 state-told (looks-specs.SeesState.sees κs f s c v before told p) = p
@@ -98,6 +107,15 @@ looks = record {
       asked (designText text) (admitted text (sym (number-told h))) v have asks (criterion-told t ∙ ap (λ d. criterionTold d v n k e) (design-told h));
   hold-asks = λ κs text f s c. tt;
   line-asks = λ κs text from. tt;
+  value = value-told;
+  formula = formula-told;
+  value-at-state = λ s l t e. value-at-state s l e t;
+  formula-at-state = λ s l t e. formula-at-state s l e t;
+  value-asks = λ κs f at v e. tt;
+  formula-asks = λ κs f at v e. tt;
+  value-there = λ f at v e. (valueTold (valueIn (drop at f) .tree) v e, looks-specs.SeesValue.sees ([], ([], tt)) (lent f) at (lent v) e _ refl);
+  formula-there = λ f at v e.
+      (formulaTold (formulaIn (drop at f) .tree) v e, looks-specs.SeesFormula.sees ([], ([], tt)) (lent f) at (lent v) e _ refl);
   state-asks = λ κs f s c v told. tt;
   row-asks = λ κs f s c side k v e told. tt;
   criterion-asks = λ κs f s c v n k e. tt;

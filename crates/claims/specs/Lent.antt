@@ -67,6 +67,8 @@ pub record Lent : Type 0 where
       → (a : AfterAdvance) × Advances (deskOf m) n a × (r ≡ advanceResult (a .answer)) × (now number ≡ advanceTold (a .answer)) × (deskOf m′ ≡ a .desk)
   pub verdict : (m : Memory) (before numbers : RefT (List ℕ)) → TellsIn m before numbers
       → (a : AfterVerdict) × Tells (deskOf m) a × (now numbers ≡ numbersTold (verdictNumbers (a .answer))) × (a .desk ≡ deskOf m)
+  pub drop : (m m′ : Memory) (r : ℕ) → DropsIn m r m′
+      → (a : AfterDrop) × Drops (deskOf m) a × (r ≡ doneNumber (a .answer)) × (deskOf m′ ≡ a .desk)
   -- nothing is asked of a caller
   pub new-asks : (κs : Lfts 6) (m : Memory) → new-reads.Pre κs (m .fields, (m .starts, (m .counts, (m .plan, (m .next, (m .phase, tt))))))
   pub load-asks : (κs : Lfts 7) (m : Memory) (text : RefT (List ℕ))
@@ -75,5 +77,3 @@ pub record Lent : Type 0 where
       → advance-reads.Pre κs (m .fields, (m .starts, (m .counts, (m .plan, (m .next, (m .phase, (n, (number, tt))))))))
   pub verdict-asks : (κs : Lfts 2) (m : Memory) (numbers : RefT (List ℕ)) → tell-reads.Pre κs (m .phase, (numbers, tt))
   pub drop-asks : (κs : Lfts 6) (m : Memory) → drop-reads.Pre κs (m .fields, (m .starts, (m .counts, (m .plan, (m .next, (m .phase, tt))))))
-  pub drop : (m m′ : Memory) (r : ℕ) → DropsIn m r m′
-      → (a : AfterDrop) × Drops (deskOf m) a × (r ≡ doneNumber (a .answer)) × (deskOf m′ ≡ a .desk)

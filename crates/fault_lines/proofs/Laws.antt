@@ -168,9 +168,6 @@ module _ (line : List ℕ) (q : Ask) (n x : ℕ) (ex : x ≡ getD (fieldsOf line
 -- ---- the tests of a line
 
 module _ (line : List ℕ) (last : Bool) (n : ℕ) (en : n ≡ length (fieldsOf line)) where
-  pub second-fits : Fits w64 (length line) → Fits w64 (6 * n)
-  second-fits h = let w = fields-within line in let f = h .fits in record { fits = omega arith }
-
   pub second-none : n ≡ 0 → true ≡ tests.shows2 last line
   unfolding isLine
   second-none h = rw (← en, h, and-false (eqb (6 * 0) (length line)))

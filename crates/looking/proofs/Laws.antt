@@ -33,7 +33,8 @@ use Rattle.marks.specs.Marks.{markPlace}
 use Rattle.marks.proofs.Held.{mark-none, mark-held}
 use Rattle.steps.specs.Arrays.{padded, firstValues, lineOf}
 use Rattle.steps.proofs.Arrays.{row-there, sets-out}
-use Rattle.steps.proofs.States.{first-all, rows-count}
+use Rattle.steps.proofs.States.{same-values, first-all, rows-count}
+use Rattle.decision.proofs.Alike.{value-alike, formula-alike, has-value-alike, has-formula-alike}
 use Rattle.loader.specs.declared.Loaded.{Loaded}
 use Rattle.loader.specs.Load.{faultOf, loadedOf}
 use Rattle.loader.proofs.Passed.{fault-kept}
@@ -71,6 +72,20 @@ value-is t v e = sym (ap numberTold (meant-v t v e) ∙ number-given (hasV t v e
 pub formula-is : (f : Formula) (v : List ℕ) (e : ℕ) → cond (hasF f v e) (cond (evalF f v e) 1 0) 2 ≡ formulaTold f v e
 unfolding formulaTold
 formula-is f v e = sym (ap truthTold (meant-f f v e) ∙ truth-given (hasF f v e) (evalF f v e))
+
+-- at eight values that hold a state it is what it is at the state
+module _ (s : List ℕ) (short : length s ≤ 8) (e : ℕ) where
+  pub value-at-state : (t : Value) → valueTold t (padded s) e ≡ valueTold t s e
+  value-at-state t =
+      sym (value-is t (padded s) e)
+      ∙ rw (has-value-alike (padded s) s (same-values s short) t e, value-alike (padded s) s (same-values s short) t e)
+      (value-is t s e)
+
+  pub formula-at-state : (t : Formula) → formulaTold t (padded s) e ≡ formulaTold t s e
+  formula-at-state t =
+      sym (formula-is t (padded s) e)
+      ∙ rw (has-formula-alike (padded s) s (same-values s short) t e, formula-alike (padded s) s (same-values s short) t e)
+      (formula-is t s e)
 
 module _ (f v : List ℕ) (at e : ℕ) where
   pub value-told : (x : Valued) (r : ℕ) → x ≡ answerV at v e (readV 32 (drop at f)) → r ≡ numberOf x → r ≡ valueTold (readV 32 (drop at f) .tree) v e

@@ -75,15 +75,16 @@ countsTold c = c .kind1 ∷ c .kind2 ∷ c .kind3 ∷ c .kind4 ∷ c .kind8 ∷ 
 abbrev pub countsIn : List ℕ → Counts
 countsIn l = record { kind1 = getD l 0 0; kind2 = getD l 1 0; kind3 = getD l 2 0; kind4 = getD l 3 0; kind8 = getD l 4 0 }
 
--- ---- as the evaluator answers
+-- ---- the process of a side by its lines, and that it has a row k
 
--- the process of a side by its lines, and that it has a row k
 abbrev pub sideOf : Shape → ℕ → lines.Process
 sideOf h side = cond (eqb side 0) (h .implementation) (h .specification)
 
 pub record RowThere (h : Shape) (side k : ℕ) : Type 0 where
   pub first : 1 ≤ k
   pub last : k ≤ sideOf h side .rows .count
+
+-- ---- as the evaluator answers
 
 abbrev pub numberOf : Valued → ℕ
 numberOf x = cond (x .has) (x .value) 65536

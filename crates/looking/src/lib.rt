@@ -28,7 +28,7 @@ const NO_VALUE: u32 = 65536;
 // The counts of lines of kinds 1 to 4 and 8, as C holds them.
 type Tally = [usize; 5];
 
-// The values of a state, and what is told of a state and of a row with those behind it.
+// Eight values as they are told; and these behind what else is told of a state, and of a row.
 type Places = [u32; limits::MAX_PARAMETERS];
 
 type StatePlaces = [u32; 2 + limits::MAX_PARAMETERS];
