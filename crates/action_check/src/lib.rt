@@ -2,6 +2,8 @@
 //
 // A row is named by the number of its line. Each function answers any content of the arrays. What is tested is in
 // specs/ActionsFit; that it is the absence of fault 7, in proofs/ActionsFit.
+#![tactic(auto)]
+
 ghost use Rattle.std.specs.Prelude.{◌≡◌, ◌<◌, get_or};
 ghost use Rattle.design.specs.Loaded.{line_from};
 ghost use Rattle.action_check.specs.ActionsFit.{actions_fit_in};

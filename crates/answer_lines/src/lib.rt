@@ -3,6 +3,8 @@
 // Each is put at the start of what is lent, and its length is answered; the lines are in specs/Answers, one equation for every answer. The
 // line of a measure may be long, and is put in pieces: its head, then places, as many as there is room for, until there are no more, then
 // byte 10.
+#![tactic(auto)]
+
 ghost use Rattle.std.specs.Prelude.{◌+◌, ◌≤◌, ◌≡◌, [], ◌∷◌, ◌++◌, length, take};
 ghost use Rattle.io.specs.Counts.{IsPrefixLen};
 ghost use Rattle.call_lines.specs.Number.{decimal_of};
@@ -18,7 +20,7 @@ pub const ROOM: usize = 4096;
 const LAST: usize = ROOM - 21;
 
 // Why a list of calls ends before its input does.
-#[derive(Drop)]
+#[derive(Clone, Copy)]
 pub enum Stop {
     NoCall,
     TextMissing,
@@ -27,14 +29,14 @@ pub enum Stop {
 }
 
 // The length of a measure's head, and whether the places follow.
-#[derive(Drop)]
+#[derive(Clone, Copy)]
 pub struct Head {
     pub length: usize,
     pub places: bool,
 }
 
 // The length of a piece, and the first place that is not in it.
-#[derive(Drop)]
+#[derive(Clone, Copy)]
 pub struct Piece {
     pub length: usize,
     pub next: usize,

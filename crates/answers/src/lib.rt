@@ -1,5 +1,7 @@
 // What a desk call answers, by the phase of its desk, or the phase that it leaves it in; the crate desk has the arrays. The paper's numbers
 // for each answer are in specs/Answers (01, "The desk", "Turned down by the input" 8, "Turned down by the state"; 02, order 6).
+#![tactic(auto)]
+
 ghost use Rattle.std.specs.Prelude.{◌≡◌};
 ghost use Rattle.verdicts.specs.Report.{report, accepted_number};
 ghost use Rattle.answers.specs.Answers.{verdict_numbers, load_number_by, advance_number, empty_number, told_by, advanced_to};
@@ -7,7 +9,7 @@ ghost use Rattle.answers.specs.Answers.{verdict_numbers, load_number_by, advance
 use verdicts::{Acceptance, Failure, Report};
 
 // What a desk is: empty, open or decided.
-#[derive(Drop)]
+#[derive(Clone, Copy)]
 pub enum Phase {
     Empty,
     Open,
@@ -16,14 +18,14 @@ pub enum Phase {
 }
 
 // The answer of a load or a drop: done, or the number by which it is turned down.
-#[derive(Drop)]
+#[derive(Clone, Copy)]
 pub enum Done {
     Done,
     TurnedDown(u16),
 }
 
 // The answer of an advance, with how many states it examined; or the number by which it is turned down.
-#[derive(Drop)]
+#[derive(Clone, Copy)]
 pub enum Advance {
     Open(usize),
     Accepted(Acceptance, usize),
@@ -32,7 +34,7 @@ pub enum Advance {
 }
 
 // The answer of a verdict; or the number by which it is turned down.
-#[derive(Drop)]
+#[derive(Clone, Copy)]
 pub enum Verdict {
     Accepted(Acceptance),
     Failed(Failure),
@@ -40,7 +42,7 @@ pub enum Verdict {
 }
 
 // The answer of a measure: the slice holds it; or there is none, as this state is on a loop; or the number by which it is turned down.
-#[derive(Drop)]
+#[derive(Clone, Copy)]
 pub enum Measured {
     Filled,
     Loop(u16),

@@ -1,6 +1,8 @@
 // Which states after one are ruled out by the same part of the invariant. A part that fails and reads no parameter after the j-th fails until
 // one of the first j changes: in all states whose numbers have the same quotient by the product of the sizes of the others, the first
 // parameter being the most significant. A walk need not look at these.
+#![tactic(auto)]
+
 ghost use Rattle.std.specs.Prelude.{◌≡◌, false, ◌+◌, ◌*◌, ◌/◌, ◌≤◌, ◌<◌, drop};
 ghost use Rattle.foundation.specs.Radix.{product};
 ghost use Rattle.criteria.specs.Design.{sizes, states};
@@ -15,7 +17,7 @@ use design::{Process, Shape};
 const AND: u16 = 15;
 
 // Whether a formula holds; where the next term stands if it does, and what its first part that fails reads if not.
-#[derive(Drop)]
+#[derive(Clone, Copy)]
 struct Tried {
     holds: bool,
     reads: u16,

@@ -1,5 +1,7 @@
 // The lines and texts of a list of desk calls, read from standard input byte by byte. What is read is the system's to say: these functions
 // are safe and end.
+#![tactic(auto)]
+
 ghost use Rattle.std.specs.Prelude.{◌≤◌};
 
 use streams::{Ahead, Byte};
@@ -10,7 +12,7 @@ const LINE_END: u8 = 10;
 pub const ROOM: usize = limits::MAX_BYTES + 1;
 
 // A line of input: its length where it is no longer than a call may be; else nothing is kept of it.
-#[derive(Drop)]
+#[derive(Clone, Copy)]
 pub enum Line {
     Short(usize),
     Long,
@@ -18,14 +20,14 @@ pub enum Line {
     Failed,
 }
 
-#[derive(Drop)]
+#[derive(Clone, Copy)]
 pub struct LineRead {
     pub line: Line,
     pub ahead: Ahead,
 }
 
 // Whether bytes that are due were there.
-#[derive(Drop)]
+#[derive(Clone, Copy)]
 pub enum Due {
     There,
     Missing,
@@ -33,14 +35,14 @@ pub enum Due {
     Failed,
 }
 
-#[derive(Drop)]
+#[derive(Clone, Copy)]
 pub struct DueRead {
     pub due: Due,
     pub ahead: Ahead,
 }
 
 // What is then ahead, and how many bytes are still to be passed over.
-#[derive(Drop)]
+#[derive(Clone, Copy)]
 struct Skipped {
     ahead: Ahead,
     left: u64,

@@ -1,11 +1,13 @@
 // The line of a desk call: `load N`, `advance N`, `verdict`, `measure N` or `drop`, where N is decimal, 1 to 20 digits, up to the largest
 // u64. What a line says is in specs/Calls, one equation for every line.
+#![tactic(auto)]
+
 ghost use Rattle.std.specs.Prelude.{◌<◌, ◌≡◌};
 ghost use Rattle.columns.specs.Columns.{bytes_agree};
 ghost use Rattle.call_lines.specs.Number.{with_digit, number_of};
 ghost use Rattle.call_lines.specs.Calls.{number_behind, call_of};
 
-#[derive(Drop)]
+#[derive(Clone, Copy)]
 pub enum Call {
     Load(u64),
     Advance(u64),
@@ -15,7 +17,7 @@ pub enum Call {
     NoCall,
 }
 
-#[derive(Drop)]
+#[derive(Clone, Copy)]
 pub enum Number {
     Is(u64),
     None,

@@ -1,5 +1,7 @@
 // A desk call made on the desk, and the line of its answer put at the start of what is lent: the next desk and the line are those of
 // specs/Calls, for every desk and every argument. Of a measure's line it is the head; the places follow in pieces (answer_lines).
+#![tactic(auto)]
+
 ghost use Rattle.std.specs.Prelude.{ℕ, min, ◌≡◌, List, length, take, replicate};
 ghost use Rattle.io.specs.Counts.{IsPrefixLen};
 ghost use Rattle.desk.specs.Desk.{load_of, advance_of, tell_of, drop_of};
@@ -16,14 +18,14 @@ pub const ENOUGH: usize = limits::MAX_BYTES + 1;
 pub const PLACES: usize = 2 * limits::MAX_STATES;
 
 // The desk after a call, and the length of its answer's line.
-#[derive(Drop)]
+#[derive(Clone, Copy)]
 pub struct Answered {
     pub desk: Desk,
     pub length: usize,
 }
 
 // The desk after a measure, and the head of its answer's line.
-#[derive(Drop)]
+#[derive(Clone, Copy)]
 pub struct AnsweredMeasure {
     pub desk: Desk,
     pub head: Head,

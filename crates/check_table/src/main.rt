@@ -2,6 +2,8 @@
 // Standard input is read until its end is told, or until more cannot change the report. Where it can't be read there is no report, and
 // where the report can't be written it may not be there in full: a line on standard error says so.
 
+#![tactic(auto)]
+
 fn main() {
     let mut room = [0u8; table_input::ENOUGH];
     let input = streams::read_input(libc::STDIN_FILENO, &mut room);

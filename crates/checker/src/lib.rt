@@ -1,6 +1,8 @@
 // The one-call check: a text is loaded, all its states are examined and the report is written (01, "The desk"). What it answers and
 // writes is in specs/OneCall, one equation for every text and every buffer. There is no desk in it, so that no arrays move; that a desk
 // comes to the same is claim 2.
+#![tactic(auto)]
+
 ghost use Rattle.std.specs.Prelude.{◌≡◌};
 ghost use Rattle.checker.specs.OneCall.{refused_report, judged_of, answer_of, buffer_written};
 

@@ -1,12 +1,14 @@
 // The columns of a field: which six bytes are a field, and of which number (specs/Columns). A field is found as blanks, counted on a word of
 // eight bytes (specs/Word), and digits behind them (specs/Scan); that this finds the same is proved in proofs/Scan.
+#![tactic(auto)]
+
 ghost use Rattle.std.specs.Prelude.{◌≡◌, ◌+◌, ◌*◌, ◌≤◌, min, [], ◌∷◌, length, take, drop};
 ghost use Rattle.columns.specs.Columns.{field_of};
 ghost use Rattle.columns.specs.Scan.{blanks_of, digits_from};
 ghost use Rattle.columns.specs.Word.{bytes_of, word_of};
 
 // What six columns are.
-#[derive(Drop)]
+#[derive(Clone, Copy)]
 pub enum Field {
     Number(u16),
     Malformed,

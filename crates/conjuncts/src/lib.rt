@@ -1,13 +1,15 @@
 // The conjuncts in front of a formula: of `15 f g` f is one, and those in front of g are more. They are evaluated one after the other up
 // to the first that fails, so that a state which the first of them rules out costs no more than that one. What each function computes
 // is in specs/Conjuncts; every function answers any fields.
+#![tactic(auto)]
+
 ghost use Rattle.std.specs.Prelude.{◌≡◌, drop};
 ghost use Rattle.terms.specs.Tree.{eval_f};
 ghost use Rattle.terms.specs.Read.{read_f};
 ghost use Rattle.conjuncts.specs.Conjuncts.{front_of, conjunct_in, no_conjunct, guard_in};
 
 // The conjunct in front of a formula, if there is one: whether it holds; where the rest stands, and how deep that may be.
-#[derive(Drop)]
+#[derive(Clone, Copy)]
 pub struct Conjunct {
     pub there: bool,
     pub holds: bool,
@@ -16,7 +18,7 @@ pub struct Conjunct {
 }
 
 // Whether the conjuncts in front of a condition hold; where the rest of it stands, and how deep that may be.
-#[derive(Drop)]
+#[derive(Clone, Copy)]
 pub struct Guarded {
     pub holds: bool,
     pub at: usize,

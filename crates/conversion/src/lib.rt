@@ -1,6 +1,8 @@
 // Unmarked texts to marked and back (02, order 2). A text is loaded into a desk's arrays; there a line of marks is added behind the others,
 // or left out, and the lines are written as a text into the lent buffer. What each writer answers and writes is in specs/Answer, one
 // equation for every text and every buffer; nothing is written before it is known that all of it fits.
+#![tactic(auto)]
+
 ghost use Rattle.std.specs.Prelude.{◌≡◌, ◌<◌};
 ghost use Rattle.limits.specs.Limits.{max_lines};
 ghost use Rattle.reader.specs.Text.{text_of};
@@ -13,7 +15,7 @@ ghost use Rattle.conversion.specs.Lines.{refused_by, done_with, marked_answer, m
 use loader::Loaded;
 
 // The number by which a call is turned down, or 0, and the length of its result, or 0.
-#[derive(Drop)]
+#[derive(Clone, Copy)]
 pub struct Written {
     pub number: u16,
     pub length: usize,

@@ -1,5 +1,7 @@
 // Whether terms have values in a state: the invariant, the mapping, the measure, a row with its mark. It asks the terms themselves,
 // whatever a plan says of them. Every function answers any arrays. What each computes is in specs/Defined.
+#![tactic(auto)]
+
 ghost use Rattle.std.specs.Prelude.{◌≡◌};
 ghost use Rattle.marks.specs.Marks.{mark_has_in};
 ghost use Rattle.defined.specs.Defined.{have_in, formula_has_in, values_have_in, value_has_in, has_invariant_in, has_mapping_in, has_measure_in, row_at_in, row_has_in, mark_free_in, asks_in};

@@ -2,6 +2,8 @@
 // made for it (02, order 4). Each call takes the desk and gives the next one back beside its answer; a call turned down gives it back as it
 // was. What each call answers is in specs/Desk and specs/Measure, for every desk and every argument; the paper's numbers for it are in
 // specs/Answers and in the crate answers.
+#![tactic(auto)]
+
 ghost use Rattle.std.specs.Prelude.{◌≡◌, length};
 ghost use Rattle.loader.specs.Load.{loaded_of};
 ghost use Rattle.answers.specs.Answers.{done_number, refusal_number, count_said, verdict_numbers, measured_number, advance_number, verdict_numbers_by, empty_number};

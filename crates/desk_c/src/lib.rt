@@ -1,4 +1,6 @@
 // The desk for C programs, each time from a new one: a load, and a load with advances to the end. The benchmark in bench/ links this.
+#![tactic(auto)]
+
 ghost use Rattle.std.specs.Prelude.{◌≡◌};
 ghost use Rattle.loader.specs.Load.{fault_of};
 ghost use Rattle.desk.specs.Desk.{empty_desk, load_of};

@@ -8,6 +8,8 @@
 // answer can't be written the program ends with a line on standard error, and makes no more calls.
 //
 // A line and a text are read by call_input; what a line says is in call_lines, what a call answers in calls and its line in answer_lines.
+#![tactic(auto)]
+
 use answer_lines::Stop;
 use call_input::{Due, Line};
 use call_lines::Call;
@@ -15,7 +17,7 @@ use desk::Desk;
 use streams::Ahead;
 
 // The desk after a call, what is read ahead, and whether another call may follow.
-#[derive(Drop)]
+#[derive(Clone, Copy)]
 struct Step {
     desk: Desk,
     ahead: Ahead,

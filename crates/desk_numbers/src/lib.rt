@@ -1,4 +1,6 @@
 // A desk's counts, phase and answers as numbers, as C holds them and is told of them. Any five numbers are some phase and some counts.
+#![tactic(auto)]
+
 ghost use Rattle.std.specs.Prelude.{◌≡◌};
 ghost use Rattle.answers.specs.Answers.{done_number};
 ghost use Rattle.verdicts.specs.Report.{accepted_number};

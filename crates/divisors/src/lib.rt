@@ -9,6 +9,8 @@
 // The look is made at every term when a text is loaded. So `value_divides` and `formula_divides` answer leaves themselves, as in the crate
 // eval, and functions behind them answer every term; and what is known of a divisor (`value_known`) and what a formula says of a parameter
 // (`formula_guards`) is asked only where there is a divisor, or a branch that could lack a value. The remaining depth falls with every call.
+#![tactic(auto)]
+
 ghost use Rattle.std.specs.Prelude.{◌≡◌, cond, ◌^◌, ◌+◌, ◌<◌, ◌≤◌, max, drop};
 ghost use Rattle.terms.specs.Tree.{no_value, num, par};
 ghost use Rattle.terms.specs.Read.{read_v, read_f};
@@ -51,7 +53,7 @@ const LEAST_LARGE: u16 = 32768;
 const UNKNOWN: u32 = 65536;
 
 // What could leave a term without a value, and where the next term stands.
-#[derive(Drop)]
+#[derive(Clone, Copy)]
 pub struct Looked {
     pub divides: u32,
     pub next: usize,
@@ -59,7 +61,7 @@ pub struct Looked {
 
 // What is known of a value: what could make it 0; the largest that it can be where no parameter is large; the set of its being 0, where it
 // has one; its number as a leaf of a term; and where the next term stands.
-#[derive(Drop)]
+#[derive(Clone, Copy)]
 struct Known {
     zero: u32,
     most: u32,
@@ -69,7 +71,7 @@ struct Known {
 }
 
 // What is not so where a formula holds, and where it fails, and no parameter is large; and where the next term stands.
-#[derive(Drop)]
+#[derive(Clone, Copy)]
 struct Guards {
     yes: u32,
     no: u32,

@@ -1,6 +1,8 @@
 // Whether the specification in a design text is that of another text, the duty, for C: the lines of kinds 2 and 4, field by field. Nothing
 // else of the two is compared. What is told is in specs/Duty, of any two texts; what is compared on the arrays that hold them, in specs/Arrays,
 // of any arrays; that the one is the other, in proofs/Loaded.
+#![tactic(auto)]
+
 ghost use Rattle.std.specs.Prelude.{◌≡◌, ◌+◌};
 ghost use Rattle.layout.specs.Sizes.{shape_of};
 ghost use Rattle.duty.specs.Arrays.{length_at, same_from, same_line, same_lines_from, same_section, same_process};

@@ -4,6 +4,8 @@
 // (tools/inlined.sh notices when it no longer does). Behind them `value_by_mark` and `formula_by_mark` answer every term. A
 // function that calls itself is never put into another, and each of these two calls itself in one arm: that keeps the front small.
 // What a term's value is, and how a term is read from fields, is in the crate terms.
+#![tactic(auto)]
+
 ghost use Rattle.std.specs.Prelude.{◌≡◌, drop};
 ghost use Rattle.terms.specs.Read.{read_v, read_f};
 ghost use Rattle.eval.specs.Answer.{answer_v, answer_f};
@@ -11,14 +13,14 @@ ghost use Rattle.eval.specs.Answer.{answer_v, answer_f};
 use terms::{FormulaMark, ValueMark};
 
 // A term's value, and where the next term stands.
-#[derive(Drop)]
+#[derive(Clone, Copy)]
 pub struct Valued {
     pub value: u16,
     pub next: usize,
 }
 
 // Whether a formula holds, and where the next term stands.
-#[derive(Drop)]
+#[derive(Clone, Copy)]
 pub struct Held {
     pub holds: bool,
     pub next: usize,

@@ -1,5 +1,7 @@
 // The evaluator for C, so that bench/terms.sh can time it and tools/inlined.sh can look at what the compiler made of it. No part of the
 // product stands on it.
+#![tactic(auto)]
+
 ghost use Rattle.std.specs.Prelude.{◌≡◌, drop};
 ghost use Rattle.terms.specs.Tree.{eval_v, eval_f};
 ghost use Rattle.terms.specs.Read.{read_v, read_f};

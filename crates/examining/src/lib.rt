@@ -1,5 +1,7 @@
 // The states that an advance on an open desk examines, on the desk's arrays: the phase that they leave, the next state, and how many there were
 // (01, "The desk"). It answers any arrays, any counts, any plan and any place; what it computes is in specs/Examined.
+#![tactic(auto)]
+
 ghost use Rattle.std.specs.Prelude.{◌≡◌};
 ghost use Rattle.examining.specs.Examined.{ahead, examined_next, examined_from};
 
@@ -7,7 +9,7 @@ use answers::Phase;
 use design::Counts;
 
 // The phase after the states, the number of the next one, and how many were examined.
-#[derive(Drop)]
+#[derive(Clone, Copy)]
 pub struct Examined {
     pub phase: Phase,
     pub next: usize,

@@ -1,5 +1,7 @@
 // Which lines of a text show the fault by which it is turned down, for explanations to people. What a line shows is in specs/Shows; the tests of
 // a line are in line_faults, and that they decide it in proofs/Decides.
+#![tactic(auto)]
+
 ghost use Rattle.std.specs.Prelude.{◌≤◌, ◌≡◌, length};
 ghost use Rattle.limits.specs.Limits.{max_bytes};
 ghost use Rattle.loader.specs.Load.{fault_of};

@@ -4,6 +4,8 @@
 // `value` and `formula` are the front: they answer leaves themselves, and are small enough for the compiler to put them into their callers.
 // Behind them `value_by_mark` and `formula_by_mark` answer every term; each calls itself in one arm, so that it is never put into another.
 // What a term's value is, and when it has one, is in the crate terms.
+#![tactic(auto)]
+
 ghost use Rattle.std.specs.Prelude.{◌≡◌, drop};
 ghost use Rattle.terms.specs.Read.{read_v, read_f};
 ghost use Rattle.has_value.specs.Answer.{answer_v, answer_f};
@@ -11,7 +13,7 @@ ghost use Rattle.has_value.specs.Answer.{answer_v, answer_f};
 use terms::{FormulaMark, ValueMark};
 
 // A term's value, whether it has one, and where the next term stands. Where it has none, nothing is said with the number.
-#[derive(Drop)]
+#[derive(Clone, Copy)]
 pub struct Valued {
     pub value: u16,
     pub has: bool,
@@ -19,7 +21,7 @@ pub struct Valued {
 }
 
 // Whether a formula holds, whether it has a value, and where the next term stands.
-#[derive(Drop)]
+#[derive(Clone, Copy)]
 pub struct Held {
     pub holds: bool,
     pub has: bool,

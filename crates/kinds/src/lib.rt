@@ -1,5 +1,7 @@
 // The table of kinds (01, "Design text"; 02, order 1): each entry stands here once for code, and once in specs/Kinds for definitions. Code
 // is proved against definitions, so an entry that moves on one side alone is refused.
+#![tactic(auto)]
+
 ghost use Rattle.std.specs.Prelude.{◌≡◌};
 ghost use Rattle.limits.specs.Limits.{max_parameters, max_rows};
 ghost use Rattle.kinds.specs.Kinds.{entry, whole_text, no_entry, entry_in, has_terms, own_of};
@@ -9,7 +11,7 @@ ghost use Rattle.kinds.specs.declared.Side.TheVariants.{Implementation};
 
 // What a kind of line is: its rank in the order of kinds, the fewest and the most lines of that rank, how many fields stand before the
 // terms, the kind included, what these say, what terms follow, and whose parameters they read.
-#[derive(Drop)]
+#[derive(Clone, Copy)]
 pub struct Entry {
     pub rank: usize,
     pub fewest: usize,
@@ -21,7 +23,7 @@ pub struct Entry {
 }
 
 // What the fields before the terms say: size and initial value, action and span, or nothing but the kind.
-#[derive(Drop)]
+#[derive(Clone, Copy)]
 pub enum Role {
     Parameter,
     Row,
@@ -30,7 +32,7 @@ pub enum Role {
 
 // What terms follow: none; condition, data and a next value for each parameter; a formula; a value for each kind 2 line; a value; a
 // formula for each internal row.
-#[derive(Drop)]
+#[derive(Clone, Copy)]
 pub enum Follow {
     Nothing,
     RowTerms,
@@ -41,7 +43,7 @@ pub enum Follow {
 }
 
 // Whose parameters the terms read.
-#[derive(Drop)]
+#[derive(Clone, Copy)]
 pub enum Side {
     Implementation,
     Specification,

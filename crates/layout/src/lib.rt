@@ -1,6 +1,8 @@
 // What is read off a desk's arrays before any state is looked at: whether the counts of lines fit, where the lines of a design stand
 // (`Shape`), where a line starts, the sizes and initial values of parameters, how many states there are, and the number of the initial
 // state. Every function answers any arrays and any counts. Which design the arrays hold is in the crate design.
+#![tactic(auto)]
+
 ghost use Rattle.std.specs.Prelude.{◌≡◌, ◌+◌, ◌*◌, ◌≤◌, ◌<◌, min, get_or, drop};
 ghost use Rattle.design.specs.Loaded.{line_from};
 ghost use Rattle.layout.specs.Sizes.{counts_fit, sections_of, shape_of, product_up_to, state_count_in, number_up_to, initial_number_in};

@@ -1,6 +1,8 @@
 // The desk for C, in memory that the caller lends: made new, loaded, advanced, asked for its verdict, dropped. Each function reads the desk
 // that stands there, makes the desk's own call, and writes the next desk back. Any memory is some desk (specs/Lent), and what a call does to
 // it is what the crate desk promises of that desk.
+#![tactic(auto)]
+
 ghost use Rattle.std.specs.Prelude.{◌≡◌};
 ghost use Rattle.answers.specs.Answers.{done_number, verdict_numbers_by};
 ghost use Rattle.desk.specs.Desk.{empty_desk, load_of, advance_of, drop_of};

@@ -1,6 +1,8 @@
 // The limits of a design text (01, "Design text", "Turned down by the input"): each number stands here once for code, and once in
 // specs/Limits for definitions. Code is proved against definitions, so a number that moves on one side alone is refused.
 
+#![tactic(auto)]
+
 // A text's bytes, a line's fields and a text's fields.
 pub const MAX_BYTES: usize = 28672;
 

@@ -2,6 +2,8 @@
 //
 // Each term is checked where it starts (crate term_check), and the rest of the line after it is handed on as a part. Every function
 // answers any bytes. What is tested is in specs/LineFits; that it is the absence of fault 6, in proofs/LineFits.
+#![tactic(auto)]
+
 ghost use Rattle.std.specs.Prelude.{◌≡◌, ◌∷◌, drop};
 ghost use Rattle.reader.specs.Line.{fields_of};
 ghost use Rattle.kinds.specs.Kinds.{formula, n_values, n_formulas, sorts_of, reads_sum};

@@ -1,5 +1,7 @@
 // Whether a line of a text shows a fault, by the bytes of the text and of what is before the line: for explanations to people, called rarely,
 // so each question goes over the bytes again. The tests are in specs/Tests; what they decide is in fault_lines/specs/Shows.
+#![tactic(auto)]
+
 ghost use Rattle.std.specs.Prelude.{◌≡◌, ◌&&◌, leb, ◌+◌, ◌-◌, ◌*◌, ◌≤◌, min, suc, length, get_or, take, drop};
 ghost use Rattle.reader.specs.Line.{fields_of};
 ghost use Rattle.reader.specs.Text.{fields_by_line};
@@ -19,7 +21,7 @@ const CAP: usize = limits::MAX_STATES + 1;
 
 // What is gathered of lines: how many fields they have; how many are of a rank; the rank of the last; the product of the kind 1 sizes; how
 // many are internal rows; how many are rows of a kind with an action; how many are kind 3 lines with an action and another span.
-#[derive(Drop)]
+#[derive(Clone, Copy)]
 pub enum Ask {
     Fields,
     Rank(usize),

@@ -1,6 +1,8 @@
 // From a text to a desk's arrays, or the lowest fault of the text. Without a heap, on the lent text: the columns, the fields into
 // the arrays, then kinds and counts, bounds, terms and actions, each ending the search. What a fault is, is in design/specs/Faults;
 // that the first one found so is the lowest anywhere in the text is in proofs/Lowest.
+#![tactic(auto)]
+
 ghost use Rattle.std.specs.Prelude.{◌≡◌, ◌+◌, ◌<◌, ◌≤◌, length};
 ghost use Rattle.std.proofs.lemmas.List.Edits.{sets};
 ghost use Rattle.reader.specs.Line.{fields_of};
@@ -16,7 +18,7 @@ use design::Counts;
 use reader::LineReader;
 
 // A text's fault, or 0; then the arrays hold the text's lines.
-#[derive(Drop)]
+#[derive(Clone, Copy)]
 pub struct Loaded {
     pub fault: u16,
     pub fields: limits::Fields,

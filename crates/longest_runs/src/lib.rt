@@ -1,6 +1,8 @@
 // The length of the longest run of marked steps from each state in which the invariant holds, or a state on a loop of them: depth first, with
 // one look at each state, internal row and sum value, and at most one more for each state. What is written is in specs/Runs, for any steps by
 // number; which steps those are is in the crate marked_edges.
+#![tactic(auto)]
+
 ghost use Rattle.std.specs.Prelude.{◌≡◌, ℕ, ◌+◌, ◌≤◌, ◌<◌, max, length};
 ghost use Rattle.layout.specs.Sizes.{Fits};
 ghost use Rattle.plan.specs.Plan.{plan_in};
@@ -11,7 +13,7 @@ ghost use Rattle.longest_runs.specs.Search.{Cleared, ReadyIn, SeenIn, all_seen, 
 use design::Shape;
 
 // What was written: the lengths, or zeros for a loop, on which this state is.
-#[derive(Drop)]
+#[derive(Clone, Copy)]
 pub enum Lengths {
     Longest,
     Loop(u16),
@@ -25,7 +27,7 @@ const DONE: u16 = marked_edges::EDGES as u16 + 1;
 
 // How far a state's steps are settled: those before `edge`, the longest run by which has length `best`; `edge` leads to the state `to`, which
 // is not done, or is EDGES, and no step is left.
-#[derive(Drop)]
+#[derive(Clone, Copy)]
 struct Sight {
     edge: usize,
     best: u16,

@@ -2,6 +2,8 @@
 // a row or a criterion is asked for. Every function answers any memory. What each tells is in specs/Told, of terms and rows in
 // told_terms/specs/Terms and told_rows/specs/Rows, of the design that the arrays hold (design/specs/Loaded): after a text was held, its own
 // (proofs/Held).
+#![tactic(auto)]
+
 ghost use Rattle.std.specs.Prelude.{◌≡◌, ◌∷◌, drop};
 ghost use Rattle.design.specs.Line.{value_in, formula_in, invariant_of, mapping_of, measure_value};
 ghost use Rattle.design.specs.Loaded.{line_from, design_at};

@@ -1,6 +1,8 @@
 // The lowest failure at a state: criteria 2 to 9 as tests of a row and a sum value, and the search through criteria, rows and sum values in
 // 01's order. Every function answers any arrays, and what it answers is said in the words of the crate decision: of the design in the
 // arrays, at the array of a state, of which no test reads more than the state's values (decision/proofs/Alike).
+#![tactic(auto)]
+
 ghost use Rattle.std.specs.Prelude.{◌≡◌};
 ghost use Rattle.decision.specs.Tests as tests;
 ghost use Rattle.decision.specs.Examine.{first_failing};
@@ -11,14 +13,14 @@ ghost use Rattle.lowest_failure.specs.Search.{Known, told_place, at_impl, at_imp
 use design::Shape;
 use verdicts::Place;
 
-#[derive(Drop)]
+#[derive(Clone, Copy)]
 pub enum Finding {
     Nothing,
     Found(Place),
 }
 
 // What is known of a state: its values, its mapped state, and whether it is a focus point.
-#[derive(Drop)]
+#[derive(Clone, Copy)]
 pub struct Here {
     state: limits::Values,
     mapped: limits::Values,

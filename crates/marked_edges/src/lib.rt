@@ -1,5 +1,7 @@
 // The marked steps from a state of the implementation, one after the other: a step has a number, by its row and its sum value, and `next`
 // finds the first from a number on. What a number stands for is in specs/Edges.
+#![tactic(auto)]
+
 ghost use Rattle.std.specs.Prelude.{◌≡◌, ◌&&◌, ltb, ◌≤◌};
 ghost use Rattle.layout.specs.Sizes.{Fits};
 ghost use Rattle.plan.specs.Plan.{plan_in};
@@ -14,7 +16,7 @@ pub const SUMS: usize = limits::MAX_SPAN as usize;
 pub const EDGES: usize = limits::MAX_ROWS * SUMS;
 
 // A step: its number, EDGES where there is none, and the number of the state that it leads to.
-#[derive(Drop)]
+#[derive(Clone, Copy)]
 pub struct Edge {
     pub edge: usize,
     pub to: usize,

@@ -1,5 +1,7 @@
 // Marks, from a desk's arrays: how many rows are internal, where the mark of one stands in the line of marks, and whether it holds. Every
 // public function answers any arrays. What each computes is in specs/Marks; that this is the mark of the design in the arrays is in proofs/Held.
+#![tactic(auto)]
+
 ghost use Rattle.std.specs.Prelude.{◌≡◌, ◌-◌, ◌<◌};
 ghost use Rattle.marks.specs.Marks.{internal_in, counted_if, after_formulas, mark_place, marked_in, place_from, mark_holds};
 

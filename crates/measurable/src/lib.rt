@@ -1,6 +1,8 @@
 // Whether a measure can be made: criterion 10, the measure apart, holds in every state, and criterion 3 in every state in which the
 // invariant does: all rows, all sum values, up to the first missing value or step that leads elsewhere. What is promised is in
 // specs/Measurable, in the words of the design in the arrays.
+#![tactic(auto)]
+
 ghost use Rattle.std.specs.Prelude.{◌≡◌, ◌≤◌, ◌<◌};
 ghost use Rattle.criteria.specs.Design.{states};
 ghost use Rattle.design.specs.Loaded.{design_at};

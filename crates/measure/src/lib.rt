@@ -2,6 +2,8 @@
 // invariant holds, written in a lent slice, or zeros and a state on a loop; turned down where the slice has not a place for each state, and
 // where criterion 3 fails in some state, or a value is missing there, the measure's own apart. What is answered and written is in
 // specs/Answer, for any arrays and any slice.
+#![tactic(auto)]
+
 ghost use Rattle.std.specs.Prelude.{◌≡◌};
 ghost use Rattle.foundation.specs.Reflects.{Reflects};
 ghost use Rattle.marked_edges.specs.Edges.{SumsNumbered};

@@ -1,5 +1,7 @@
 // A measure for a design text in one call, for C (02, order 4): the text is loaded, and the measure is made as on a desk. What is answered and
 // written is in specs/Measured, for every text and every slice.
+#![tactic(auto)]
+
 ghost use Rattle.std.specs.Prelude.{◌≡◌};
 ghost use Rattle.measuring.specs.Measured.{MeasureText, Tells, result_of, number_told};
 

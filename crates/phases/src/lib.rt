@@ -1,5 +1,7 @@
 // The phase that a walk over states leaves a check in: failed, open while states are left, or accepted, one way or the other, by a look at the
 // initial state. It answers any arrays and any counts; what it computes is in specs/Phases.
+#![tactic(auto)]
+
 ghost use Rattle.std.specs.Prelude.{◌≡◌};
 ghost use Rattle.start.specs.Start.{acceptance_in};
 ghost use Rattle.phases.specs.Phases.{phase_after};

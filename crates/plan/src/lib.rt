@@ -4,6 +4,8 @@
 // costs no more; where its mark stands, and whether that reads the sum value; and its risk, what could leave it without a value. Then the
 // risk of invariant, mapping and measure together, and whether all risks are nothing. What each function computes is in specs/Plan. Every
 // function answers any arrays.
+#![tactic(auto)]
+
 ghost use Rattle.std.specs.Prelude.{◌≡◌, ◌<◌, length, drop};
 ghost use Rattle.design.specs.Line.{row_of};
 ghost use Rattle.row_plan.specs.RowPlan.{no_mark, risk_stored, stored, Blank};
@@ -38,7 +40,7 @@ fn values_free(fields: &limits::Fields, at: usize, n: u8) -> bool
 }
 
 // Whether a row's condition does not read it, and whether nothing does of what is asked for.
-#[derive(Drop)]
+#[derive(Clone, Copy)]
 struct Free {
     condition: bool,
     all: bool,

@@ -3,5 +3,3 @@ pub mod Line
 pub mod Text
 pub mod Faults
 pub mod Written
-pub mod Look
-pub mod Made

@@ -3,27 +3,29 @@
 // Every field is read through a `LineReader`, which goes over a line field by field. `field_at` and `rest` have plain parameters: a
 // function that has a reader in its hands is proved step by step, and a caller of theirs is not. Every public function answers any
 // bytes. The definitions are in specs/Line.
+#![tactic(auto)]
+
 ghost use Rattle.std.specs.Prelude.{◌≡◌, ◌*◌, length, drop};
 ghost use Rattle.reader.specs.Line.{field_there, fields_of, reader_at, next_of, step_at};
 
 use columns::Field;
 
 // A read-only look at one line of the lent text, or at a part of one: its bytes, and the number of the field that is next.
-#[derive(Drop)]
+#[derive(Clone, Copy)]
 pub struct LineReader<'a> {
     pub line: &'a [u8],
     pub at: usize,
 }
 
 // A field, and the reader moved on: to the field after it, and where it was if there is no field.
-#[derive(Drop)]
+#[derive(Clone, Copy)]
 pub struct Next<'a> {
     pub field: Field,
     pub reader: LineReader<'a>,
 }
 
 // The same with the reader's place alone.
-#[derive(Drop)]
+#[derive(Clone, Copy)]
 struct Step {
     field: Field,
     at: usize,

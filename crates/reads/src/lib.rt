@@ -3,6 +3,8 @@
 //
 // As in the crate eval, `value_reads` and `formula_reads` answer leaves themselves, and functions behind them answer every term. The
 // remaining depth falls with every call.
+#![tactic(auto)]
+
 ghost use Rattle.std.specs.Prelude.{◌≡◌, cond, drop};
 ghost use Rattle.terms.specs.Read.{read_v, read_f};
 ghost use Rattle.reads.specs.Reads.{only, seen_v, seen_f, differ, is_par};
@@ -15,7 +17,7 @@ const PARAMETERS: u16 = limits::MAX_PARAMETERS as u16;
 const PARAMETER: u16 = 1;
 
 // What a term reads, and where the next term stands.
-#[derive(Drop)]
+#[derive(Clone, Copy)]
 pub struct Seen {
     pub reads: u16,
     pub next: usize,

@@ -1,6 +1,8 @@
 // Whether a state passes, by what is known from the states before it and by a look at what may have changed: a row that kept its criteria in the
 // last state of the invariant keeps them until something that they watch differs (crate watched). A state that is said to pass passes;
 // of one that isn't nothing is said. It is for designs in which nothing lacks a value. What is known is said in specs/Recall.
+#![tactic(auto)]
+
 ghost use Rattle.std.specs.Prelude.{◌≡◌, ◌+◌, ◌<◌, ◌≤◌, length};
 ghost use Rattle.watched.specs.Watched.{map_reads};
 ghost use Rattle.design.specs.Loaded.{design_at};
@@ -11,7 +13,7 @@ ghost use Rattle.recall.specs.Recall.{When, SetsAre, SetsTo, since, Task, idle_i
 use design::{Process, Shape};
 
 // What was seen of a row: whether it keeps its criteria, whether it has no marked step, and what that depends on.
-#[derive(Drop)]
+#[derive(Clone, Copy)]
 pub struct Look {
     pub holds: bool,
     pub quiet: bool,
@@ -212,7 +214,7 @@ fn row_passes<'a>(
 }
 
 // What the rows of the implementation come to: whether all hold, and, if so, whether none is known to have a marked step.
-#[derive(Drop)]
+#[derive(Clone, Copy)]
 pub struct Rows {
     pub holds: bool,
     pub quiet: bool,

@@ -1,6 +1,8 @@
 // A row of the implementation at a state: for which sum values it has to be looked at, for which it is enabled, and where it leads. It goes by
 // the plan, so that what does not read the sum value is evaluated once. What is promised of a row is in specs/Looks, in the words of the
 // design in the arrays.
+#![tactic(auto)]
+
 ghost use Rattle.std.specs.Prelude.{◌≡◌, ◌<◌};
 ghost use Rattle.layout.specs.Sizes.{Fits};
 ghost use Rattle.plan.specs.Plan.{plan_in};
@@ -11,7 +13,7 @@ use design::Shape;
 use row_plan::RowPlan;
 
 // A row at a state.
-#[derive(Drop)]
+#[derive(Clone, Copy)]
 pub struct Row {
     pub internal: bool,
     // where its condition, or what is left of it, stands, and how deep that may be
@@ -24,7 +26,7 @@ pub struct Row {
 }
 
 // The first sum value from one on for which a row is enabled, and where its data stand; from `looks` on there is none.
-#[derive(Drop)]
+#[derive(Clone, Copy)]
 pub struct Look {
     pub sum: u16,
     pub at: usize,

@@ -1,10 +1,12 @@
 // What is known of a row before a walk, and how a plan keeps it: four numbers for each row, and behind them the risks, what could leave a
 // row without a value, each told by a number as in the crate divisors.
+#![tactic(auto)]
+
 ghost use Rattle.std.specs.Prelude.{◌≡◌, cond, ◌+◌, ◌*◌, ◌/◌, ◌%◌, ◌<◌};
 ghost use Rattle.row_plan.specs.RowPlan.{flags_of, two_flags, pack_of, packed_of, row_plan_at, risk_at, unsure_at};
 
 // What a plan has of a row.
-#[derive(Drop)]
+#[derive(Clone, Copy)]
 pub struct RowPlan {
     // the number of its partner, 0 if there is none
     pub partner: u16,
@@ -20,7 +22,7 @@ pub struct RowPlan {
 
 // The mark of a row: its place in the line of marks, and whether it does not read the sum value. At place 0 stands the line's kind: it says
 // that there is no mark, and all steps of the row are marked.
-#[derive(Drop)]
+#[derive(Clone, Copy)]
 pub struct Mark {
     pub at: u16,
     pub free: bool,

@@ -1,5 +1,7 @@
 // The initial state of the design in a desk's arrays: criterion 1, its failure, and whether an internal step may be the first. Every
 // function answers any arrays and any counts. What each computes is in specs/Start.
+#![tactic(auto)]
+
 ghost use Rattle.std.specs.Prelude.{◌≡◌};
 ghost use Rattle.decision.specs.Tests.{no_internal_b};
 ghost use Rattle.design.specs.Loaded.{design_at};

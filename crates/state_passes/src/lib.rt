@@ -3,6 +3,8 @@
 //
 // What does not change from state to state is worked out before (crate plan). What each function computes is in specs/Passes; that it
 // is the quick test of the crate decision is in proofs/Decided.
+#![tactic(auto)]
+
 ghost use Rattle.std.specs.Prelude.{◌≡◌, ◌+◌, ◌<◌, ◌≤◌};
 ghost use Rattle.layout.specs.Sizes.{Fits};
 ghost use Rattle.row_plan.specs.RowPlan.{row_plan_at, risk_at};
@@ -14,14 +16,14 @@ use eval::Held;
 use row_plan::RowPlan;
 
 // What was seen of rows: whether each holds, and, if so, whether none has a marked step.
-#[derive(Drop)]
+#[derive(Clone, Copy)]
 pub struct Seen {
     pub holds: bool,
     pub quiet: bool,
 }
 
 // A row that is looked at.
-#[derive(Drop)]
+#[derive(Clone, Copy)]
 pub struct Row {
     // where its condition, or what is left of it, stands, and how deep that may be
     pub at: usize,
@@ -41,7 +43,7 @@ pub struct Row {
 }
 
 // What is known of a row for the sum value 0: whether its condition holds, and whether its mark does.
-#[derive(Drop)]
+#[derive(Clone, Copy)]
 pub struct First {
     pub on: Held,
     pub marked: bool,

@@ -2,6 +2,8 @@
 // the state, t its mapped state, m its measure. Where the step leads invariant, mapping and measure have to have values: by their risk, a
 // number of the crate divisors, that is seen without asking them. What each function computes is in specs/Steps; that it is the test of the
 // crate decision is in state_passes/proofs/Decided. Every function answers any arrays.
+#![tactic(auto)]
+
 ghost use Rattle.std.specs.Prelude.{◌≡◌, false};
 ghost use Rattle.step_passes.specs.Steps.{asked_in, has_values_in, kept_in, answered_in, internal_step, visible_step};
 

@@ -3,6 +3,8 @@
 //
 // A state, of either process, is an array of eight values of which those past the last parameter are 0. What each function computes
 // is in specs/Arrays; that this is what the design in the arrays says is in proofs/States.
+#![tactic(auto)]
+
 ghost use Rattle.std.specs.Prelude.{◌≡◌, ◌-◌, ◌%◌, ◌/◌, min, length, drop};
 ghost use Rattle.std.proofs.lemmas.List.Edits.{sets};
 ghost use Rattle.criteria.specs.Design.{mapped};
@@ -13,7 +15,7 @@ ghost use Rattle.steps.specs.Arrays.{padded, values_at, step_of, no_step_there, 
 use design::{Process, Shape};
 
 // What a row does at a state for a sum value: its action, whether it is enabled, the data number, and the state that it leads to.
-#[derive(Drop)]
+#[derive(Clone, Copy)]
 pub struct Step {
     pub action: u16,
     pub enabled: bool,

@@ -1,6 +1,8 @@
 // Reading from a descriptor until its end is told, and writing to one, over the C library's calls. An error is told apart from the end
 // of the input. A call that a signal interrupts is made again. Which bytes are read and written no contract can say: they are the
 // operating system's.
+#![tactic(auto)]
+
 ghost use Rattle.std.specs.Prelude.{◌≤◌, ◌≡◌, length};
 ghost use Rattle.streams.specs.Reading.{Some, Within, IsAhead, next_of};
 
@@ -8,7 +10,7 @@ ghost use Rattle.streams.specs.Reading.{Some, Within, IsAhead, next_of};
 const TRIES: u32 = 1000000;
 
 // What one read gave: so many bytes, at least one; the end of the input; or an error, of which errno has the number.
-#[derive(Drop)]
+#[derive(Clone, Copy)]
 pub enum Read {
     Bytes(usize),
     End,
@@ -16,7 +18,7 @@ pub enum Read {
 }
 
 // How the reading of an input ended: its end was told after so many bytes; the room was full before that; or an error.
-#[derive(Drop)]
+#[derive(Clone, Copy)]
 pub enum Input {
     Ended(usize),
     Full,
@@ -24,13 +26,13 @@ pub enum Input {
 }
 
 // What was read into a room ahead of its use: the bytes from one place up to another.
-#[derive(Drop)]
+#[derive(Clone, Copy)]
 pub struct Ahead {
     pub at: usize,
     pub end: usize,
 }
 
-#[derive(Drop)]
+#[derive(Clone, Copy)]
 pub enum Byte {
     Is(u8),
     End,
@@ -38,7 +40,7 @@ pub enum Byte {
 }
 
 // The next byte of an input, and what is then ahead.
-#[derive(Drop)]
+#[derive(Clone, Copy)]
 pub struct NextByte {
     pub byte: Byte,
     pub ahead: Ahead,

@@ -3,6 +3,8 @@
 //
 // As in the crate eval, `value_sum_free` and `formula_sum_free` answer leaves themselves, and functions behind them answer every term. The
 // remaining depth falls with every call.
+#![tactic(auto)]
+
 ghost use Rattle.std.specs.Prelude.{◌≡◌, drop};
 ghost use Rattle.terms.specs.Read.{read_v, read_f};
 ghost use Rattle.sum_free.specs.SumFree.{found_v, found_f};
@@ -10,7 +12,7 @@ ghost use Rattle.sum_free.specs.SumFree.{found_v, found_f};
 use terms::{FormulaMark, ValueMark};
 
 // Whether a term is sum-free, and where the next term stands.
-#[derive(Drop)]
+#[derive(Clone, Copy)]
 pub struct Found {
     pub free: bool,
     pub next: usize,

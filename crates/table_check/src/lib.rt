@@ -1,6 +1,8 @@
 // Faults 4 and 5 of the lines that a desk's arrays hold: kinds and counts, fields and their bounds, by the table of kinds (crate kinds).
 // Every function answers any arrays. What is tested is in design/specs/Tests; that it is the absence of the faults, in design/proofs.
 // The product of sizes, the last of fault 5, is counted in the crate layout.
+#![tactic(auto)]
+
 ghost use Rattle.std.specs.Prelude.{◌≡◌, length, get_or, replicate};
 ghost use Rattle.kinds.specs.Kinds.{whole_text, ranks};
 ghost use Rattle.design.specs.Lines.{counts_of};

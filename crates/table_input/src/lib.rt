@@ -1,5 +1,7 @@
 // The report on a text that was read from an input: from the bytes read and how reading ended to the bytes to write. What they are is
 // in specs/Output, for every input that may have been read so.
+#![tactic(auto)]
+
 ghost use Rattle.std.specs.Prelude.{ℕ, ◌≡◌, List, take};
 ghost use Rattle.io.specs.Counts.{IsPrefixLen};
 ghost use Rattle.writer.specs.Report.{report_bytes};

@@ -2,6 +2,8 @@
 // values. It goes by the plan: what is safe by its risk is not asked, and of a table in which nothing could lack a value one number says
 // so. Every function answers any arrays and any plan. What each computes is in specs/Tenth; that it is the test of the crate decision is in
 // proofs/Decided.
+#![tactic(auto)]
+
 ghost use Rattle.std.specs.Prelude.{◌≡◌, ◌+◌, ◌<◌, ◌≤◌};
 ghost use Rattle.divisors.specs.Divisors.{so_at};
 ghost use Rattle.layout.specs.Sizes.{Fits};

@@ -2,6 +2,8 @@
 //
 // Each works on the part of the line that starts at its term. The rest of the line after a term is handed on as a part that starts in
 // the middle of the line's bytes. What a term is and which are well formed is in the crate terms, what a field is in reader.
+#![tactic(auto)]
+
 ghost use Rattle.std.specs.Prelude.{◌≡◌};
 ghost use Rattle.terms.specs.Read.{read_v, read_f};
 ghost use Rattle.reader.specs.Line.{fields_of};
@@ -11,7 +13,7 @@ use columns::Field;
 use terms::{FormulaMark, ValueMark};
 
 // How many fields a well-formed term takes, so that what comes next starts after them; or that it is no such term (fault 6).
-#[derive(Drop)]
+#[derive(Clone, Copy)]
 pub enum Checked {
     Next(usize),
     Wrong,

@@ -2,12 +2,14 @@
 //
 // What a term is, how it is read from fields and what it evaluates to are definitions, in specs/. The evaluation of a term is in the
 // crates eval and has_value, the check of one in term_check.
+#![tactic(auto)]
+
 ghost use Rattle.std.specs.Prelude.{◌≡◌, slice_index};
 ghost use Rattle.terms.specs.Mark.{value_mark, formula_mark};
 ghost use Rattle.terms.specs.Tree.{arith_of, arith_has, compare_of, join_of};
 
 // The operations of the value marks 3, 4 and 5.
-#[derive(Drop)]
+#[derive(Clone, Copy)]
 pub enum Arith {
     Sum,
     Difference,
@@ -15,21 +17,21 @@ pub enum Arith {
 }
 
 // The comparisons of the formula marks 12 and 13.
-#[derive(Drop)]
+#[derive(Clone, Copy)]
 pub enum Compare {
     Equal,
     Less,
 }
 
 // The connectives of the formula marks 15 and 16.
-#[derive(Drop)]
+#[derive(Clone, Copy)]
 pub enum Join {
     And,
     Or,
 }
 
 // What a value begins with.
-#[derive(Drop)]
+#[derive(Clone, Copy)]
 pub enum ValueMark {
     Number,
     Parameter,
@@ -40,7 +42,7 @@ pub enum ValueMark {
 }
 
 // What a formula begins with.
-#[derive(Drop)]
+#[derive(Clone, Copy)]
 pub enum FormulaMark {
     Constant(bool),
     Comparison(Compare),

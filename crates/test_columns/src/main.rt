@@ -3,6 +3,8 @@
 // First the cases of standard input: words, and bytes in brackets. The bytes are taken as a text, whose fault is written, and as a part
 // of a line: how many fields it begins with, the first and the second field, and what is left after the first. Then texts at the
 // limits, numbers that are written and read back, and reports, both among dots.
+#![tactic(auto)]
+
 ghost use Rattle.std.specs.Prelude.{◌≤◌, length};
 
 use columns::Field;

@@ -2,6 +2,8 @@
 // arrays hold, a check number over all fields and one over all starts of lines, and of each line its kind and how many fields it has.
 //
 // The texts are in data/, with the expected output made by tools/loading_texts.py, which says what each is and which fault it has.
+#![tactic(auto)]
+
 use loader::Loaded;
 
 // The check number's modulus and factor.

@@ -8,6 +8,8 @@
 // 12 and 13 on all pairs of 0, 1 and 65,535; 67 to 70 other remainders; 71 to 86 choices and formulas; 87 to 105 wrong marks; 106 to
 // 126 lines that end early or go on; 127 to 131 six columns that are no field; 132 to 184 depths 32 and 33 through each mark, and
 // small depths; 185 to 202 terms of 255 fields within depth 32, and what is just over.
+#![tactic(auto)]
+
 ghost use Rattle.std.specs.Prelude.{◌≤◌, length};
 
 use columns::Field;

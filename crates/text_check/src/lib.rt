@@ -1,4 +1,6 @@
 // Whether a text's columns are at fault: 1, 2 and 3 of 01, "Turned down by the input". The definitions are in reader/specs/Text.
+#![tactic(auto)]
+
 ghost use Rattle.std.specs.Prelude.{◌≡◌};
 ghost use Rattle.reader.specs.Text.{columns_fault, lines_fault};
 

@@ -1,6 +1,8 @@
 // The lines that a desk's arrays hold, written as a text into a lent buffer. Which lines these are is `held_lines` in design/specs/Loaded, the
 // text that has them `text_of` in reader/specs/Text. Its length is found before anything is written, so that a text that does not fit leaves
 // every byte as it was. Any arrays are written, and any number of lines.
+#![tactic(auto)]
+
 ghost use Rattle.std.specs.Prelude.{◌≡◌, ◌+◌, ◌≤◌, length};
 ghost use Rattle.std.proofs.lemmas.List.Edits.{sets};
 ghost use Rattle.limits.specs.Limits.{max_fields};

@@ -1,5 +1,7 @@
 // What C is told of a row of either process: its condition, mark, data and next values at a state, for a sum value. What is meant is in
 // specs/Rows, of the design that the arrays hold.
+#![tactic(auto)]
+
 ghost use Rattle.std.specs.Prelude.{◌≡◌, ◌∷◌, drop};
 ghost use Rattle.design.specs.Line.{row_of};
 ghost use Rattle.design.specs.Loaded.{design_at};

@@ -1,5 +1,7 @@
 // What C is told of terms: the number of a value, or that it has none; the truth of a formula, or that it has none; the numbers of values
 // one after the other. What is meant is in specs/Terms.
+#![tactic(auto)]
+
 ghost use Rattle.std.specs.Prelude.{◌≡◌, drop};
 ghost use Rattle.design.specs.Line.{value_in, formula_in, values_in};
 ghost use Rattle.told_terms.specs.Terms.{value_told, formula_told, values_told, number_of, truth_of};

@@ -1,6 +1,8 @@
 // The walk over the states of the design in a desk's arrays: criteria 2 to 10 at n states from a place on, by a plan that is made once for
 // the design; and the whole check, criterion 1 before all states. Every public function answers any arrays, any counts and any numbers.
 // What a walk is, and what the examination of a state, is in the crates foundation and decision.
+#![tactic(auto)]
+
 ghost use Rattle.std.specs.Prelude.{◌≡◌, ◌+◌, ◌≤◌, ◌<◌, min};
 ghost use Rattle.layout.specs.Sizes.{Fits, state_count_in};
 ghost use Rattle.walk.specs.Told.{told, told_walked, no_walk, named_by, lacking_at};
@@ -172,7 +174,7 @@ fn walk_on<'a>(
 
 // What a turn comes to: no failure, and which number is the next to look at; or the failure of the state that it began with. And whether a
 // block was looked for in vain.
-#[derive(Drop)]
+#[derive(Clone, Copy)]
 pub struct Turn {
     pub outcome: Outcome,
     pub next: usize,

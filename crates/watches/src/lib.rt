@@ -1,5 +1,7 @@
 // Which parameters decide whether a row keeps its criteria, from a desk's arrays: the sets of watched/specs/Watched. They are worked out once
 // for a walk. What the mapped values read is asked for first and handed on, so that the line of the mapping is read once.
+#![tactic(auto)]
+
 ghost use Rattle.std.specs.Prelude.{◌≡◌, map, ◌-◌, ◌<◌, ◌≤◌, get_or, drop};
 ghost use Rattle.std.specs.Int.Bits.{bit_and};
 ghost use Rattle.terms.specs.Tree.{Value};
@@ -21,7 +23,7 @@ use reads::Seen;
 const AND: u16 = 15;
 
 // A row: its action, what its condition and its data read, where its next values stand, and how many these are.
-#[derive(Drop)]
+#[derive(Clone, Copy)]
 struct Parts {
     action: u16,
     condition: u16,
@@ -31,7 +33,7 @@ struct Parts {
 }
 
 // Which parameters a row's next values may change, and what those read that do.
-#[derive(Drop)]
+#[derive(Clone, Copy)]
 struct Changed {
     changes: u16,
     by: u16,

@@ -1,6 +1,8 @@
 // A number as six columns of a lent buffer, and the report in its first 31 bytes. What is written is what the reader reads:
 // `columns_of` and `text_of` are the reader's definitions. Each function answers its result's length, or 0 where the buffer is too short
 // for it, and then writes nothing. Every byte of the buffer at exit is determined; its length stays.
+#![tactic(auto)]
+
 ghost use Rattle.std.specs.Prelude.{◌≡◌, ◌+◌, ◌<◌, ◌≤◌, length};
 ghost use Rattle.std.proofs.lemmas.List.Edits.{sets};
 ghost use Rattle.columns.specs.Columns.{column_of, columns_of};
