@@ -55,6 +55,7 @@ pub const LAST_KIND: u16 = 8;
 pub const RANKS: usize = 9;
 
 // The entry of a kind.
+#[tactic(auto, unfolding(crate::specs::Kinds::entry_in))]
 pub fn entry_at(kind: u16) -> Entry
     ensures { result ≡ entry_in whole_text kind }
 {
