@@ -2,7 +2,7 @@
 -- run in each state where the invariant holds meets criterion 5 and is nowhere larger than any measure that does; a loop rules every such
 -- measure out.
 use mathlib.Core.Path.{◌≡◌, ◌∙◌, subst}
-use Prim.Native.Nat.{ℕ, zero, suc, ◌+◌, ◌≤◌, ◌<◌}
+use Prim.Native.Nat.{ℕ, suc, ◌+◌, ◌≤◌, ◌<◌}
 use native.Mathlib.Omega.{arith}
 use Rattle.foundation.specs.Nth.{Nth, first}
 use Rattle.foundation.proofs.Nth.{nth_nil, nth_cons}

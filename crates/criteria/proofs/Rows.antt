@@ -13,7 +13,6 @@ use lib.Dec.{eqb}
 use Rattle.foundation.specs.First.{Outcome, pass, fail}
 use Rattle.foundation.proofs.Trial.{place_pass, place_fail}
 use Rattle.terms.specs.Tree.{Formula, no_formula, eval_f, has_f}
-use Rattle.terms.specs.Meaning.{meant_f, Has, Holds}
 use Rattle.terms.proofs.Meaning.{holds_says, says_holds, has_says_f, says_has_f, says_value, has_says_v}
 use Rattle.criteria.specs.Design.{Design, Row, State, RowIs}
 use Rattle.foundation.specs.Nth.{Nth, first, later}

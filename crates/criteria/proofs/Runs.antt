@@ -1,6 +1,6 @@
 -- Where the criteria hold: steps stay inside, internal steps keep the mapped state, and marked ones lower the measure; so runs end, and
 -- some run reaches a focus point, whichever marked steps it takes.
-use mathlib.Core.Path.{◌≡◌, refl, sym, ◌∙◌, subst}
+use mathlib.Core.Path.{◌≡◌, refl, ◌∙◌, subst}
 use mathlib.Core.Logic.{◌⊎◌, inl, inr}
 use Prim.Native.Nat.{ℕ, zero, suc, ◌+◌, ◌≤◌, ◌<◌}
 use native.Mathlib.Omega.{arith}

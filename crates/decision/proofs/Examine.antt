@@ -1,6 +1,6 @@
 -- At a state the places that fail by the tests are those that fail by the criteria. So the search finds the lowest of them, and a
 -- state passes exactly if criterion 10 holds there, and criteria 2 to 9 do or the invariant does not.
-use mathlib.Core.Path.{◌≡◌, refl, sym, ◌∙◌, subst}
+use mathlib.Core.Path.{◌≡◌, refl, subst}
 use mathlib.Core.Logic.{◌↔◌, ◌≢◌}
 use mathlib.Core.Bool.{Bool, true, not, cond}
 use mathlib.Core.List.{List}

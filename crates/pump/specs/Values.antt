@@ -4,9 +4,9 @@
 use Rattle.std.specs.Prelude.{true, false, List, [], ◌∷◌, ◌++◌, ℕ}
 use Rattle.terms.specs.Tree.{Value, Formula, num, par, arith, choice, const, compare, join}
 use Rattle.terms.specs.declared.Arith.TheVariants.{Sum, Difference, Remainder}
-use Rattle.terms.specs.declared.Compare.TheVariants.{Equal, Less}
+use Rattle.terms.specs.declared.Compare.TheVariants.{Equal}
 use Rattle.terms.specs.declared.Join.TheVariants.{And}
-use Rattle.criteria.specs.Design.{Design, Row}
+use Rattle.criteria.specs.Design.{Design}
 use Rattle.pump.specs.Table.{is, row, design, done, busy, Case, case}
 use Rattle.pump.specs.Retry.{marked, sum_is, try, astray, retry}
 
