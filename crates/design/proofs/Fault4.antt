@@ -72,7 +72,7 @@ module _ (table : Table) where
       let second = climbs_parts first.1.1 in
       let le = second.1.0 in
       omega arith
-  rising (later f) c = rising f (climbs_parts c).1.1
+  rising {p = p} (later {a = a} {lines = lines} f) c = rising {p = (entry_of table a).rank} f (climbs_parts c).1.1
 
   climb : (lines : List (List ℕ)) → EachLine (λ line. 1 ≤ (entry_of table line).most) lines → (Falls table lines → ⊥) → Climbs table 0 lines
   climb [] each f = none
