@@ -3,7 +3,7 @@ use mathlib.Core.Path.{◌≡◌, refl}
 use mathlib.Core.Bool.{true, ◌&&◌}
 use mathlib.Core.List.{List}
 use Prim.Native.Nat.{ℕ}
-use Rattle.terms.specs.Tree.{Value, Formula, num, par, sum_value, arith, choice, const, compare, negation, join, no_value, no_formula, eval_v, eval_f, has_v, has_f, arith_has}
+use Rattle.terms.specs.Tree.{Value, Formula, num, par, sum_value, arith, choice, const, compare, negation, join, no_value, no_formula, eval_v, eval_f, has_v, has_f}
 use Rattle.terms.proofs.And.{and_left, and_right}
 use Rattle.sum_free.specs.SumFree.{sum_free_v, sum_free_f}
 
