@@ -62,8 +62,7 @@ pub fn to_unmarked(text: &[u8], buffer: &mut [u8]) -> Written
 
 // For C: writes a text with a line of marks, one that has it as it is. Returns the result's length and tells 0; turned down, it returns 0 and
 // tells the number.
-#[unsafe(no_mangle)]
-pub extern "C" fn mark_design(text: &[u8], buffer: &mut [u8], number: &mut u32) -> usize
+pub fn mark_design(text: &[u8], buffer: &mut [u8], number: &mut u32) -> usize
     ensures value { result ≡ (answer_of there text.now buffer.old).length }
     ensures buffer_after { buffer.new ≡ buffer_written there text.now buffer.old }
     ensures number_after { number.new ≡ (answer_of there text.now buffer.old).number }
@@ -74,8 +73,7 @@ pub extern "C" fn mark_design(text: &[u8], buffer: &mut [u8], number: &mut u32) 
 }
 
 // For C: writes a text without its line of marks, each formula of which has to be `10`; returns and tells the same.
-#[unsafe(no_mangle)]
-pub extern "C" fn unmark_design(text: &[u8], buffer: &mut [u8], number: &mut u32) -> usize
+pub fn unmark_design(text: &[u8], buffer: &mut [u8], number: &mut u32) -> usize
     ensures value { result ≡ (answer_of back text.now buffer.old).length }
     ensures buffer_after { buffer.new ≡ buffer_written back text.now buffer.old }
     ensures number_after { number.new ≡ (answer_of back text.now buffer.old).number }

@@ -20,8 +20,7 @@ const NO_DESIGN: u32 = 2;
 const NO_DUTY: u32 = 3;
 
 // For C: whether the text's specification is the duty's, or which of the two is no design text.
-#[unsafe(no_mangle)]
-pub extern "C" fn same_duty(text: &[u8], duty: &[u8]) -> u32
+pub fn same_duty(text: &[u8], duty: &[u8]) -> u32
     ensures { result ≡ duty_told text.now duty.now }
 {
     let own = loader::load(text);

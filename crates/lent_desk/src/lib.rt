@@ -65,8 +65,7 @@ fn put(
 // ---- calls
 
 // For C: a new desk.
-#[unsafe(no_mangle)]
-pub extern "C" fn new_desk(
+pub fn new_desk(
     fields: &mut limits::Fields,
     starts: &mut limits::Starts,
     counts: &mut Tally,
@@ -80,8 +79,7 @@ pub extern "C" fn new_desk(
 }
 
 // For C: loads a text. Returns 0, or the number by which the load is turned down.
-#[unsafe(no_mangle)]
-pub extern "C" fn load_desk(
+pub fn load_desk(
     fields: &mut limits::Fields,
     starts: &mut limits::Starts,
     counts: &mut Tally,
@@ -102,8 +100,7 @@ pub extern "C" fn load_desk(
 
 // For C: examines the next n states, or those that remain. Returns 4 while the desk is open, the report's verdict when it is decided, and
 // tells how many states were examined; or returns 2 and tells the number by which the advance is turned down.
-#[unsafe(no_mangle)]
-pub extern "C" fn advance_desk(
+pub fn advance_desk(
     fields: &mut limits::Fields,
     starts: &mut limits::Starts,
     counts: &mut Tally,
@@ -126,8 +123,7 @@ pub extern "C" fn advance_desk(
 }
 
 // For C: the report's numbers; or the number by which the verdict is turned down, and zeros. The desk stays as it is.
-#[unsafe(no_mangle)]
-pub extern "C" fn tell_desk(phase: &Standing, numbers: &mut Standing)
+pub fn tell_desk(phase: &Standing, numbers: &mut Standing)
     ensures { numbers.new ≡ numbers_told (verdict_numbers_by (phase_in phase.now)) }
 {
     let told = answers::verdict_numbers(answers::verdict_of(desk_numbers::phase_in(*phase)));
@@ -135,8 +131,7 @@ pub extern "C" fn tell_desk(phase: &Standing, numbers: &mut Standing)
 }
 
 // For C: empties the desk, open or decided. Returns 0, or the number by which the drop is turned down.
-#[unsafe(no_mangle)]
-pub extern "C" fn drop_desk(
+pub fn drop_desk(
     fields: &mut limits::Fields,
     starts: &mut limits::Starts,
     counts: &mut Tally,

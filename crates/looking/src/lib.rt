@@ -25,8 +25,7 @@ type StatePlaces = [u32; 2 + limits::MAX_PARAMETERS];
 // ---- a text taken apart
 
 // For C: the number of a text's lowest fault, or 0; and the arrays that hold it.
-#[unsafe(no_mangle)]
-pub extern "C" fn hold_design(
+pub fn hold_design(
     text: &[u8],
     fields: &mut limits::Fields,
     starts: &mut limits::Starts,
@@ -48,8 +47,7 @@ pub extern "C" fn hold_design(
 }
 
 // For C: the first line from one on that shows the fault by which a text is turned down, counted from 1; 0 if there is none.
-#[unsafe(no_mangle)]
-pub extern "C" fn fault_line(text: &[u8], from: usize) -> usize
+pub fn fault_line(text: &[u8], from: usize) -> usize
     ensures { Tells text.now from result }
 {
     fault_lines::next(text, from)
@@ -58,26 +56,14 @@ pub extern "C" fn fault_line(text: &[u8], from: usize) -> usize
 // ---- terms
 
 // For C: the value term at a place of the fields.
-#[unsafe(no_mangle)]
-pub extern "C" fn look_value(
-    fields: &limits::Fields,
-    at: usize,
-    values: &limits::Values,
-    sum: u16,
-) -> u32
+pub fn look_value(fields: &limits::Fields, at: usize, values: &limits::Values, sum: u16) -> u32
     ensures { result ≡ value_told (value_in (drop at fields.now)).tree values.now sum }
 {
     told_terms::value(fields, at, values, sum)
 }
 
 // For C: the formula there.
-#[unsafe(no_mangle)]
-pub extern "C" fn look_formula(
-    fields: &limits::Fields,
-    at: usize,
-    values: &limits::Values,
-    sum: u16,
-) -> u32
+pub fn look_formula(fields: &limits::Fields, at: usize, values: &limits::Values, sum: u16) -> u32
     ensures { result ≡ formula_told (formula_in (drop at fields.now)).tree values.now sum }
 {
     told_terms::formula(fields, at, values, sum)
@@ -124,8 +110,7 @@ fn values_in_line<'a>(
 }
 
 // For C: invariant, measure and mapped values at a state of the implementation.
-#[unsafe(no_mangle)]
-pub extern "C" fn look_state<'a>(
+pub fn look_state<'a>(
     fields: &'a limits::Fields,
     starts: &'a limits::Starts,
     counts: &Tally,
@@ -154,8 +139,7 @@ fn state_places(invariant: u32, measure: u32, mapped: Places) -> StatePlaces
 // ---- a row
 
 // For C: condition, mark, data and next values of a row at a state of its process, for a sum value.
-#[unsafe(no_mangle)]
-pub extern "C" fn look_row<'a>(
+pub fn look_row<'a>(
     fields: &'a limits::Fields,
     starts: &'a limits::Starts,
     counts: &Tally,
@@ -174,8 +158,7 @@ pub extern "C" fn look_row<'a>(
 // ---- a criterion
 
 // For C: whether criterion n, 2 to 9, holds at a state of the implementation, for a row and a sum value.
-#[unsafe(no_mangle)]
-pub extern "C" fn look_criterion<'a>(
+pub fn look_criterion<'a>(
     fields: &'a limits::Fields,
     starts: &'a limits::Starts,
     counts: &Tally,

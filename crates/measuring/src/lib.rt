@@ -16,8 +16,7 @@ const TURNED_DOWN: u32 = 2;
 
 // For C: makes a measure for a text in the slice. Returns 0 and tells 0; or, for a loop, 1 and tells a state on it; turned down, it returns 2
 // and tells the number.
-#[unsafe(no_mangle)]
-pub extern "C" fn measure_design(text: &[u8], slice: &mut [u16], number: &mut u32) -> u32
+pub fn measure_design(text: &[u8], slice: &mut [u16], number: &mut u32) -> u32
     ensures { Tells text.now slice.old slice.new result number.new }
 {
     let measured = measure_text(text, slice);
