@@ -1,0 +1,72 @@
+-- Each return is a law of Laws.
+use Rattle.has_value.proofs.Laws as laws
+use Rattle.has_value.proofs.+formula_formula_by_mark_value_value_by_mark.Goals as goal
+
+pub formula-returns-then-mark-eq10 : goal.formula-returns-then-mark-eq10
+formula-returns-then-mark-eq10 t c = search laws.front_true
+
+pub formula-returns-then-mark-eq11 : goal.formula-returns-then-mark-eq11
+formula-returns-then-mark-eq11 t c = search laws.front_false
+
+pub formula_by_mark-returns-then-depth-eq0 : goal.formula_by_mark-returns-then-depth-eq0
+formula_by_mark-returns-then-depth-eq0 t c = search laws.shallow_f
+
+pub formula_by_mark-returns-then-fields-at : goal.formula_by_mark-returns-then-fields-at
+formula_by_mark-returns-then-fields-at t c = search laws.ended_f
+
+pub formula_by_mark-returns-in-Constant : goal.formula_by_mark-returns-in-Constant
+formula_by_mark-returns-in-Constant t c = search laws.constant
+
+pub formula_by_mark-returns-in-Comparison : goal.formula_by_mark-returns-in-Comparison
+formula_by_mark-returns-in-Comparison t c = search laws.comparison
+
+pub formula_by_mark-returns-in-Negation : goal.formula_by_mark-returns-in-Negation
+formula_by_mark-returns-in-Negation t c = search laws.negation
+
+pub formula_by_mark-returns-in-Connective : goal.formula_by_mark-returns-in-Connective
+formula_by_mark-returns-in-Connective t c = search laws.connective
+
+pub formula_by_mark-returns-in-Wrong : goal.formula_by_mark-returns-in-Wrong
+formula_by_mark-returns-in-Wrong t c = search laws.wrong_f
+
+pub value-returns-then-mark-eq0 : goal.value-returns-then-mark-eq0
+value-returns-then-mark-eq0 t c = search laws.front_number
+
+pub value-returns-then-mark-eq1 : goal.value-returns-then-mark-eq1
+value-returns-then-mark-eq1 t c = search laws.front_parameter
+
+pub value-returns-then-mark-eq2 : goal.value-returns-then-mark-eq2
+value-returns-then-mark-eq2 t c = search laws.front_sum
+
+pub value_by_mark-returns-then-depth-eq0 : goal.value_by_mark-returns-then-depth-eq0
+value_by_mark-returns-then-depth-eq0 t c = search laws.shallow_v
+
+pub value_by_mark-returns-then-fields-at : goal.value_by_mark-returns-then-fields-at
+value_by_mark-returns-then-fields-at t c = search laws.ended_v
+
+pub value_by_mark-returns-then-at-fields : goal.value_by_mark-returns-then-at-fields
+value_by_mark-returns-then-at-fields t c = search laws.number
+
+pub value_by_mark-returns-else-at-fields : goal.value_by_mark-returns-else-at-fields
+value_by_mark-returns-else-at-fields t c = search laws.no_number
+
+pub value_by_mark-returns-then-at-fields-2 : goal.value_by_mark-returns-then-at-fields-2
+value_by_mark-returns-then-at-fields-2 t c = search laws.parameter
+
+pub value_by_mark-returns-else-at-fields-2 : goal.value_by_mark-returns-else-at-fields-2
+value_by_mark-returns-else-at-fields-2 t c = search laws.no_parameter
+
+pub value_by_mark-returns-in-SumValue : goal.value_by_mark-returns-in-SumValue
+value_by_mark-returns-in-SumValue t c = search laws.sum_value_lem
+
+pub value_by_mark-returns-in-Arithmetic : goal.value_by_mark-returns-in-Arithmetic
+value_by_mark-returns-in-Arithmetic t c = search laws.arithmetic
+
+pub value_by_mark-returns-then-f : goal.value_by_mark-returns-then-f
+value_by_mark-returns-then-f t c = search laws.choice_true
+
+pub value_by_mark-returns-else-f : goal.value_by_mark-returns-else-f
+value_by_mark-returns-else-f t c = search laws.choice_false
+
+pub value_by_mark-returns-in-Wrong : goal.value_by_mark-returns-in-Wrong
+value_by_mark-returns-in-Wrong t c = search laws.wrong_v
