@@ -1,20 +1,24 @@
-// Reading from a descriptor until its end is told, and writing to one, over the C library's calls. An error is told apart from the end
-// of the input. A call that a signal interrupts is made again. Which bytes are read and written no contract can say: they are the
-// operating system's.
+// Reading from a reader until its end is told, and writing to a writer, over the library's calls. An error is told apart from the end
+// of the input. A call that a signal interrupts is made again. Which bytes the operating system's streams give and take no contract can
+// say; of a reader and a writer whose bytes are known they are said.
 #![tactic(auto)]
 
-ghost use Rattle.std.specs.Prelude.{◌≤◌, ◌≡◌, length};
-ghost use Rattle.streams.specs.Reading.{Some, Within, IsAhead, next_of};
+ghost use Rattle.std.specs.Prelude.{◌≤◌, ◌≡◌, length, IfOk, OnOk};
+ghost use Rattle.std.specs.Io.KnownBytes.{Appends, WriteAppends};
+ghost use Rattle.streams.specs.Reading.{Some, Within, IsAhead, next_of, Gave, Given};
+
+use std::io;
+use std::io::ErrorKind;
 
 // How often a call that is interrupted is made.
 const TRIES: u32 = 1000000;
 
-// What one read gave: so many bytes, at least one; the end of the input; or an error, of which errno has the number.
+// What one read gave: so many bytes, at least one; the end of the input; or an error.
 #[derive(Clone, Copy)]
 pub enum Read {
     Bytes(usize),
     End,
-    Failed,
+    Failed(io::Error),
 }
 
 // How the reading of an input ended: its end was told after so many bytes; the room was full before that; or an error.
@@ -22,7 +26,7 @@ pub enum Read {
 pub enum Input {
     Ended(usize),
     Full,
-    Failed,
+    Failed(io::Error),
 }
 
 // What was read into a room ahead of its use: the bytes from one place up to another.
@@ -36,7 +40,7 @@ pub struct Ahead {
 pub enum Byte {
     Is(u8),
     End,
-    Failed,
+    Failed(io::Error),
 }
 
 // The next byte of an input, and what is then ahead.
@@ -50,12 +54,13 @@ pub struct NextByte {
 pub const BLOCK: usize = 4096;
 
 // Reads until the end is told or the room is full; what was read stands at the start of the room.
-pub fn read_input(fd: i32, room: &mut [u8]) -> Input
-    ensures { Within (length room.old) result }
+pub fn read_input<R: io::Read>(reader: &mut R, room: &mut [u8]) -> Input
+    ensures within { Within (length room.old) result }
+    ensures bytes { Given (R.remaining reader.old) (R.remaining reader.new) room.new result }
 {
     let mut n = 0;
     while n < room.len() {
-        let read = read_some(fd, &mut room[n..]);
+        let read = read_some(reader, &mut room[n..]);
         match read {
             Read::Bytes(k) => {
                 n += k;
@@ -63,8 +68,8 @@ pub fn read_input(fd: i32, room: &mut [u8]) -> Input
             Read::End => {
                 return Input::Ended(n);
             }
-            Read::Failed => {
-                return Input::Failed;
+            Read::Failed(error) => {
+                return Input::Failed(error);
             }
         }
     }
@@ -72,42 +77,45 @@ pub fn read_input(fd: i32, room: &mut [u8]) -> Input
 }
 
 // Reads once. Into no room nothing can be read: that is an error too.
-pub fn read_some(fd: i32, room: &mut [u8]) -> Read
-    ensures { Some (length room.old) result }
+pub fn read_some<R: io::Read>(reader: &mut R, room: &mut [u8]) -> Read
+    ensures some { Some (length room.old) result }
+    ensures bytes { Gave (R.remaining reader.old) (R.remaining reader.new) room.new result }
 {
     if room.len() == 0 {
-        return Read::Failed;
+        return Read::Failed(io::Error::from(ErrorKind::InvalidInput));
     }
     let mut tries = TRIES;
     while 0 < tries {
-        let got = libc::read(fd, room);
-        let k = io::count(got, room);
-        if 0 < k {
-            return Read::Bytes(k);
-        }
-        if got == 0 {
-            return Read::End;
-        }
-        if os::errno() != libc::EINTR {
-            return Read::Failed;
+        match reader.read(room) {
+            Ok(k) => {
+                if 0 < k {
+                    return Read::Bytes(k);
+                }
+                return Read::End;
+            }
+            Err(error) => {
+                if error.kind() != ErrorKind::Interrupted {
+                    return Read::Failed(error);
+                }
+            }
         }
         tries -= 1;
     }
-    Read::Failed
+    Read::Failed(io::Error::from(ErrorKind::Interrupted))
 }
 
 // The next byte: the first one ahead, and where there is none, of what one read gives.
-pub fn next_byte(fd: i32, room: &mut [u8; BLOCK], ahead: Ahead) -> NextByte
+pub fn next_byte<R: io::Read>(reader: &mut R, room: &mut [u8; BLOCK], ahead: Ahead) -> NextByte
     ensures value { IsAhead ahead → result ≡ next_of room.old ahead }
     ensures room_unchanged { IsAhead ahead → room.new ≡ room.old }
 {
     let at = ahead.at;
     let end = ahead.end;
     if end <= at {
-        return read_next(fd, room);
+        return read_next(reader, room);
     }
     if BLOCK < end {
-        return read_next(fd, room);
+        return read_next(reader, room);
     }
     NextByte {
         byte: Byte::Is(room[at]),
@@ -116,9 +124,9 @@ pub fn next_byte(fd: i32, room: &mut [u8; BLOCK], ahead: Ahead) -> NextByte
 }
 
 // The next byte of what one read gives.
-fn read_next(fd: i32, room: &mut [u8; BLOCK]) -> NextByte {
+fn read_next<R: io::Read>(reader: &mut R, room: &mut [u8; BLOCK]) -> NextByte {
     let none = Ahead { at: 0, end: 0 };
-    let read = read_some(fd, room);
+    let read = read_some(reader, room);
     match read {
         Read::Bytes(k) => NextByte {
             byte: Byte::Is(room[0]),
@@ -128,40 +136,46 @@ fn read_next(fd: i32, room: &mut [u8; BLOCK]) -> NextByte {
             byte: Byte::End,
             ahead: none,
         },
-        Read::Failed => NextByte {
-            byte: Byte::Failed,
+        Read::Failed(error) => NextByte {
+            byte: Byte::Failed(error),
             ahead: none,
         },
     }
 }
 
-// Writes all of the bytes; false where a write takes nothing or fails, and errno has the number.
-pub fn write_all(fd: i32, bytes: &[u8]) -> bool {
+// Writes all of the bytes; an error where a write takes nothing or fails.
+pub fn write_all<W: io::Write>(writer: &mut W, bytes: &[u8]) -> io::Result<()>
+    ensures { OnOk result (Appends (W.contents writer.old) (W.contents writer.new) bytes.now) }
+{
     let mut n = 0;
     while n < bytes.len() {
-        let k = write_some(fd, &bytes[n..]);
+        let k = write_some(writer, &bytes[n..])?;
         if k == 0 {
-            return false;
+            return Err(io::Error::from(ErrorKind::WriteZero));
         }
         n += k;
     }
-    true
+    Ok(())
 }
 
 // Writes once, and answers how many bytes are taken.
-fn write_some(fd: i32, bytes: &[u8]) -> usize
-    ensures { result ≤ length bytes.now }
+fn write_some<W: io::Write>(writer: &mut W, bytes: &[u8]) -> io::Result<usize>
+    ensures upper_bound { IfOk result (λ k. k ≤ length bytes.now) }
+    ensures taken { WriteAppends (W.contents writer.old) (W.contents writer.new) result bytes.now }
 {
     let mut tries = TRIES;
     while 0 < tries {
-        let put = libc::write(fd, bytes);
-        if 0 <= put {
-            return io::count(put, bytes);
-        }
-        if os::errno() != libc::EINTR {
-            return 0;
+        match writer.write(bytes) {
+            Ok(k) => {
+                return Ok(k);
+            }
+            Err(error) => {
+                if error.kind() != ErrorKind::Interrupted {
+                    return Err(error);
+                }
+            }
         }
         tries -= 1;
     }
-    0
+    Err(io::Error::from(ErrorKind::Interrupted))
 }
