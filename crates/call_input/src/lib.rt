@@ -1,9 +1,9 @@
-// The lines and texts of a list of desk calls, read from standard input byte by byte. What is read is the system's to say: these functions
-// are safe and end.
+// The lines and texts of a list of desk calls, read byte by byte. What is read is the reader's to say: these functions are safe and end.
 #![tactic(auto)]
 
 ghost use Rattle.std.specs.Prelude.{◌≤◌};
 
+use std::io;
 use streams::{Ahead, Byte};
 
 const LINE_END: u8 = 10;
@@ -17,7 +17,7 @@ pub enum Line {
     Short(usize),
     Long,
     End,
-    Failed,
+    Failed(io::Error),
 }
 
 #[derive(Clone, Copy)]
@@ -32,7 +32,7 @@ pub enum Due {
     There,
     Missing,
     NoLineEnd,
-    Failed,
+    Failed(io::Error),
 }
 
 #[derive(Clone, Copy)]
@@ -49,7 +49,8 @@ struct Skipped {
 }
 
 // Reads up to a byte 10 and puts what is before it at the start of the bytes. A last line without byte 10 counts as long.
-pub fn read_line(
+pub fn read_line<R: io::Read>(
+    reader: &mut R,
     space: &mut [u8; streams::BLOCK],
     ahead: Ahead,
     bytes: &mut [u8; call_lines::LONGEST],
@@ -57,7 +58,7 @@ pub fn read_line(
     let mut rest = ahead;
     let mut n = 0;
     while n <= call_lines::LONGEST {
-        let read = read_byte(space, rest);
+        let read = read_byte(reader, space, rest);
         let byte = read.byte;
         let then = read.ahead;
         rest = then;
@@ -79,9 +80,9 @@ pub fn read_line(
                     ahead: rest,
                 };
             }
-            Byte::Failed => {
+            Byte::Failed(error) => {
                 return LineRead {
-                    line: Line::Failed,
+                    line: Line::Failed(error),
                     ahead: rest,
                 };
             }
@@ -100,18 +101,19 @@ fn ended_after(n: usize) -> Line {
 }
 
 // Reads a text of n bytes and the byte 10 after it, and keeps what there is room for.
-pub fn read_text(
+pub fn read_text<R: io::Read>(
+    reader: &mut R,
     space: &mut [u8; streams::BLOCK],
     ahead: Ahead,
     n: u64,
     room: &mut [u8; ROOM],
 ) -> DueRead {
     let most = least(n, ROOM);
-    let kept = read_kept(space, ahead, most, room);
+    let kept = read_kept(reader, space, ahead, most, room);
     let first = kept.due;
     let rest = kept.ahead;
     if let Due::There = first {
-        return read_rest(space, rest, n - most as u64);
+        return read_rest(reader, space, rest, n - most as u64);
     }
     DueRead {
         due: first,
@@ -120,7 +122,8 @@ pub fn read_text(
 }
 
 // Reads n bytes and keeps them.
-fn read_kept(
+fn read_kept<R: io::Read>(
+    reader: &mut R,
     space: &mut [u8; streams::BLOCK],
     ahead: Ahead,
     n: usize,
@@ -131,7 +134,7 @@ fn read_kept(
     let mut rest = ahead;
     let mut i = 0;
     while i < n {
-        let read = read_byte(space, rest);
+        let read = read_byte(reader, space, rest);
         let byte = read.byte;
         let then = read.ahead;
         rest = then;
@@ -145,9 +148,9 @@ fn read_kept(
                     ahead: rest,
                 };
             }
-            Byte::Failed => {
+            Byte::Failed(error) => {
                 return DueRead {
-                    due: Due::Failed,
+                    due: Due::Failed(error),
                     ahead: rest,
                 };
             }
@@ -161,21 +164,31 @@ fn read_kept(
 }
 
 // Reads n bytes and keeps none, and a byte 10.
-fn read_rest(space: &mut [u8; streams::BLOCK], ahead: Ahead, n: u64) -> DueRead {
-    let passed = pass_over(space, ahead, n);
+fn read_rest<R: io::Read>(
+    reader: &mut R,
+    space: &mut [u8; streams::BLOCK],
+    ahead: Ahead,
+    n: u64,
+) -> DueRead {
+    let passed = pass_over(reader, space, ahead, n);
     let due = passed.due;
     let rest = passed.ahead;
     if let Due::There = due {
-        return read_line_end(space, rest);
+        return read_line_end(reader, space, rest);
     }
     DueRead { due, ahead: rest }
 }
 
-fn pass_over(space: &mut [u8; streams::BLOCK], ahead: Ahead, n: u64) -> DueRead {
+fn pass_over<R: io::Read>(
+    reader: &mut R,
+    space: &mut [u8; streams::BLOCK],
+    ahead: Ahead,
+    n: u64,
+) -> DueRead {
     let mut rest = ahead;
     let mut left = n;
     while 0 < left {
-        let read = read_byte(space, rest);
+        let read = read_byte(reader, space, rest);
         let byte = read.byte;
         let then = read.ahead;
         match byte {
@@ -191,9 +204,9 @@ fn pass_over(space: &mut [u8; streams::BLOCK], ahead: Ahead, n: u64) -> DueRead 
                     ahead: then,
                 };
             }
-            Byte::Failed => {
+            Byte::Failed(error) => {
                 return DueRead {
-                    due: Due::Failed,
+                    due: Due::Failed(error),
                     ahead: then,
                 };
             }
@@ -230,8 +243,12 @@ fn skip(ahead: Ahead, n: u64) -> Skipped
     }
 }
 
-fn read_line_end(space: &mut [u8; streams::BLOCK], ahead: Ahead) -> DueRead {
-    let read = read_byte(space, ahead);
+fn read_line_end<R: io::Read>(
+    reader: &mut R,
+    space: &mut [u8; streams::BLOCK],
+    ahead: Ahead,
+) -> DueRead {
+    let read = read_byte(reader, space, ahead);
     let byte = read.byte;
     let rest = read.ahead;
     DueRead {
@@ -250,7 +267,7 @@ fn line_end(byte: Byte) -> Due {
             }
         }
         Byte::End => Due::NoLineEnd,
-        Byte::Failed => Due::Failed,
+        Byte::Failed(error) => Due::Failed(error),
     }
 }
 
@@ -260,6 +277,10 @@ fn least(n: u64, most: usize) -> usize
     if n < most as u64 { n as usize } else { most }
 }
 
-fn read_byte(space: &mut [u8; streams::BLOCK], ahead: Ahead) -> streams::NextByte {
-    streams::next_byte(libc::STDIN_FILENO, space, ahead)
+fn read_byte<R: io::Read>(
+    reader: &mut R,
+    space: &mut [u8; streams::BLOCK],
+    ahead: Ahead,
+) -> streams::NextByte {
+    streams::next_byte(reader, space, ahead)
 }

@@ -1,0 +1,9 @@
+-- `read_kept` is safe and ends: it reads as many bytes as are due.
+use Rattle.std.proofs.Common.{◌≤◌, ◌-◌}
+use Rattle.call_input.proofs.read_kept.Given as goal
+
+abbrev pub invariant-loop-i : goal.invariant-loop-i
+invariant-loop-i g l = l.i ≤ l.n
+
+abbrev pub decreases-loop-i : goal.decreases-loop-i
+decreases-loop-i g l = l.n - l.i
