@@ -2,10 +2,10 @@
 -- that keeps its criteria at the first keeps them at the second. It is said of designs in which invariant, mapping and measure have
 -- values everywhere. Likewise that a row is not enabled, that an internal one has a marked step, and that a row of the specification is
 -- replied to.
-use mathlib.Core.Path.{◌≡◌, refl, sym, ap, ◌∙◌}
-use mathlib.Core.Bool.{Bool, true, false, not, ◌&&◌, ◌||◌, cond}
+use mathlib.Core.Path.{◌≡◌, refl, ◌∙◌}
+use mathlib.Core.Bool.{Bool, true, false, not, ◌&&◌, cond}
 use mathlib.Core.List.{List, [], ◌∷◌, map}
-use Prim.Native.Nat.{ℕ, ◌+◌, ◌≤◌, ◌<◌}
+use Prim.Native.Nat.{ℕ, ◌≤◌, ◌<◌}
 use native.Mathlib.Omega.{arith}
 use borrow.Author.Tests.{not-true}
 use lib.Bits.{bit_or}
@@ -13,7 +13,7 @@ use lib.Dec.{eqb, ltb}
 use lib.ListN.{length, get_or, length-map}
 use Rattle.foundation.specs.Reflects.{◌⇒◌}
 use Rattle.foundation.specs.Radix.{below_b, same_b}
-use Rattle.terms.specs.Tree.{Value, eval_v, eval_f}
+use Rattle.terms.specs.Tree.{Value}
 use Rattle.terms.proofs.And.{and_left, and_right, and_both}
 use Rattle.terms.proofs.Sets.{Apart, apart_either}
 use Rattle.reads.specs.Reads.{reads_v, reads_f, differ}

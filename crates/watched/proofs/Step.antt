@@ -2,16 +2,16 @@
 -- of invariant and mapping is the same after both.
 use mathlib.Core.Path.{◌≡◌, refl, sym, subst, ap, ◌∙◌}
 use mathlib.Core.Logic.{◌⊎◌, inl, inr}
-use mathlib.Core.Bool.{Bool, true, false, ◌&&◌, cond, false≢true}
+use mathlib.Core.Bool.{Bool, true, false, cond, false≢true}
 use mathlib.Core.List.{List, [], ◌∷◌, map}
-use Prim.Native.Nat.{ℕ, zero, suc, ◌+◌, ◌-◌, ◌≤◌, ◌<◌}
+use Prim.Native.Nat.{ℕ, zero, suc, ◌+◌, ◌≤◌, ◌<◌}
 use native.Mathlib.Omega.{arith}
 use native.Mathlib.Decide.{dec_lt}
 use borrow.Author.Tests.{eqb-true, eq-eqb, lt-ltb}
-use lib.Bits.{bit_and, bit_or, and_comm, and_zero_r, and_zero_l}
+use lib.Bits.{bit_and, bit_or, and_zero_l}
 use lib.Dec.{eqb, ltb}
 use lib.ListN.{length, get_or, length-map, get_or-eq_default}
-use Rattle.foundation.specs.Radix.{Below, below_b, same_b}
+use Rattle.foundation.specs.Radix.{below_b, same_b}
 use Rattle.terms.specs.Tree.{Value, Formula, num, par, sum_value, choice, no_value, const, compare, negation, join, no_formula, eval_v, eval_f}
 use Rattle.terms.specs.Tree as tree
 use Rattle.terms.specs.declared.Join.TheVariants.{And, Or}

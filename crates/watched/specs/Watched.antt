@@ -1,9 +1,9 @@
 -- Which parameters decide whether a row keeps its criteria, as sets like those of the crate reads. Where two states in which the invariant
 -- holds do not differ in these, a row that keeps its criteria at one keeps them at the other (proofs/Kept): what a step leaves as it is need
 -- not be asked again. d a design, c what a step may change, rs what each mapped value reads.
-use Rattle.std.specs.Prelude.{Bool, false, cond, List, [], ◌∷◌, map, ℕ, suc, ◌-◌, eqb}
+use Rattle.std.specs.Prelude.{cond, List, [], ◌∷◌, map, ℕ, suc, ◌-◌, eqb}
 use Rattle.std.specs.Int.Bits.{bit_and, bit_or}
-use Rattle.terms.specs.Tree.{Value, Formula, num, par, sum_value, arith, choice, no_value, const, compare, negation, join, no_formula}
+use Rattle.terms.specs.Tree.{Value, Formula, const, compare, negation, join, no_formula}
 use Rattle.terms.specs.declared.Join.TheVariants.{And, Or}
 use Rattle.reads.specs.Reads.{only, reads_v, reads_f, is_par}
 use Rattle.criteria.specs.Design.{Design, Row}
