@@ -10,7 +10,7 @@ seed=${2:-$(date +%s)}
 work=$(mktemp -d)
 trap 'rm -rf "$work"' EXIT
 tools/library.sh checker conversion measuring
-rt check desk_calls > "$work/log" 2>&1 || { tail -n 20 "$work/log"; exit 1; }
+tools/program.sh desk_calls
 compare/reference_c/build.sh
 ${CC:-cc} -std=c11 -O2 -Wall -Wextra compare/fuzz.c target/staticlib/lib{checker,conversion,measuring}.a \
     target/reference/release/libreference_c.a -lpthread -ldl -lm -o "$work/fuzz"

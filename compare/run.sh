@@ -10,7 +10,7 @@ most_calls=${1:-5000}
 
 work=$(mktemp -d)
 trap 'rm -rf "$work"' EXIT
-rt check check_table desk_calls > "$work/log" 2>&1 || { tail -n 20 "$work/log"; exit 1; }
+tools/program.sh check_table desk_calls
 
 # The one-call check: every report, and then which of them differs, if one does.
 while IFS=$'\t' read -r name _; do target/bin/check_table < "compare/tables/$name.txt"; done < compare/reports.tsv > "$work/reports"

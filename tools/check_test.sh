@@ -8,12 +8,12 @@ work=$(mktemp -d)
 trap 'rm -rf "$work"' EXIT
 tree=$work/tree
 program=$tree/target/bin/check_table
-mkdir -p "$tree/tools" "$tree/crates" "$tree/target/bin" "$work/bin"
+mkdir -p "$tree/tools" "$tree/crates/check_table/src" "$tree/target/bin" "$work/bin"
 cp "$check" "$tree/check"
 cp tools/rt.sh tools/progress.sh "$tree/tools/"
-touch "$tree/crates/source"
+touch "$tree/crates/check_table/src/source"
 printf '%s\n' "# Five crates, and one that is not wanted." low: "middle: low libc" "upper: middle" "side: low" "check_table: upper side # no more" \
-    "other: low" > "$tree/crates.txt"
+    "other staticlib: low" > "$tree/crates.txt"
 echo "a table" > "$work/table"
 path=$PATH
 tried=0
@@ -111,7 +111,7 @@ for closed in '2>&-' '2> /dev/full' '<&- >&- 2>&-'; do
 done
 
 # Building: without rt; with one that fails, that makes nothing, and that makes the program; and only where that is needed.
-for tool in bash cat dirname env find mktemp rm sed sleep tail tee touch tr; do ln -s "$(command -v $tool)" "$work/bin/$tool"; done
+for tool in bash cat cp dirname env find mkdir mktemp rm sed sleep tail tee tr; do ln -s "$(command -v $tool)" "$work/bin/$tool"; done
 path=$work/bin
 as_rt() {
     printf '#!/usr/bin/env bash\n%s\n' "$1" > "$work/bin/rt"
@@ -128,25 +128,33 @@ as_rt "kill -KILL \$\$"
 due 70 "check: the program can't be built" "$work/table"
 as_rt "exit 0"
 due 70 "check: the program can't be built" "$work/table"
-# How far it has come, by rt's lines: those of crates that are wanted go, the others are shown.
-as_rt "echo 'rt: low proved (2 s)'; sleep 0.3; echo 'rt: middle proved (1 s)'; echo 'rt: side proved (1 s)'; sleep 0.3
-    echo 'rt: upper NOT PROVED (exit 1, 2 s)'; echo 'error: why'; exit 1"
+# How far it has come, by rt's lines: those on crates that are wanted and begun go, the others are shown.
+as_rt "echo 'rt: low: begins with what a check kept in /there'; echo 'rt: chose --jobs 1 for low'; sleep 0.3; echo 'rt: chose --jobs 2 for middle'
+    sleep 0.3; echo 'rt: chose --jobs 2 for upper'; echo 'rt: chose --jobs 1 for side'; sleep 0.3
+    echo 'error: why'; echo 'rt: the library side did not build, so nothing above it was checked'; exit 1"
 due 70 "check: proving, 5 of 5 crates left, some minutes" "$work/table"
 due 70 "check: proving, 4 of 5 crates left, some minutes" "$work/table"
 due 70 "check: proving, 2 of 5 crates left, about " "$work/table"
-due 70 "rt: upper NOT PROVED (exit 1, 2 s)" "$work/table"
+due 70 "rt: the library side did not build" "$work/table"
 due 70 "error: why" "$work/table"
-if grep -q "rt: low proved" "$work/error"; then fail "lines on crates that are proved are shown: $(cat "$work/error")"; fi
-as_rt "echo 'rt: low proved (unchanged since it was last proved)'; sleep 0.3; echo 'rt: other proved (1 s)'; exit 1"
-due 70 "rt: other proved (1 s)" "$work/table"
-due 70 "check: proving, 4 of 5 crates left, some minutes" "$work/table"
+if grep -qE "rt: (chose|low: begins)" "$work/error"; then fail "lines on crates that are begun are shown: $(cat "$work/error")"; fi
+# What was proved earlier has no line.
+as_rt "echo 'rt: chose --jobs 1 for side'; sleep 0.3; echo 'rt: chose --jobs 1 for other'; exit 1"
+due 70 "rt: chose --jobs 1 for other" "$work/table"
+due 70 "check: proving, 2 of 5 crates left, some minutes" "$work/table"
 mv "$tree/tools/progress.sh" "$work/"
-due 70 "rt: low proved (unchanged since it was last proved)" "$work/table"
+due 70 "rt: chose --jobs 1 for side" "$work/table"
 mv "$work/progress.sh" "$tree/tools/"
-as_rt "[ \"\$*\" = 'check check_table' ] && cat '$work/program' > '$program' && '$(command -v chmod)' +x '$program' && echo built >> '$work/built'"
+as_rt "[ \"\$*\" = run ] && [ \"\${PWD##*/}\" = check_table ] && mkdir -p out && cat '$work/program' > out/check_table &&
+    '$(command -v chmod)' +x out/check_table && echo built >> '$work/built'"
 due 0 "check: proving, 5 of 5 crates left, some minutes" "$work/table"
 due 0 "check: accepted as it is" "$work/table"
 if grep -q proving "$work/error"; then fail "proved again"; fi
+[ -z "$(find "$tree/target" -mindepth 2 ! -name check_table)" ] || fail "more than the program is made"
+# What rt keeps is no source; a file that is newer is one.
+touch "$tree/crates/check_table/out/kept"
+due 0 "check: accepted as it is" "$work/table"
+if grep -q proving "$work/error"; then fail "proved again for what rt keeps"; fi
 touch -t 200001010000 "$program"
 due 0 "check: proving" "$work/table"
 [ "$(wc -l < "$work/built")" = 2 ] || fail "built $(wc -l < "$work/built") times, not twice"

@@ -29,7 +29,7 @@ for library in "$prefix"/lib/misogbu/*.a; do
 done
 for name in checker conversion measuring; do [ -f "$prefix/lib/misogbu/lib$name.a" ] || fail "lib$name.a is not installed"; done
 diff <(printf '%s\n' "${due[@]}" | sort) <(files "$prefix") || fail "other files than are due, <, are written, >"
-other=$(find . -path ./target -prune -o -path ./.git -prune -o -newer "$work/before" -type f -print)
+other=$(find . -path ./target -prune -o -path ./.git -prune -o -path './crates/*/out' -prune -o -newer "$work/before" -type f -print)
 [ -z "$other" ] || fail "in the repository is written: $other"
 [ -z "$(ls -A "$work/home")" ] || fail "something is written to the home folder"
 ./install.sh --destdir "$work/package" --prefix /usr

@@ -1,43 +1,88 @@
 #!/usr/bin/env bash
-# Makes target/staticlib/libNAME.a for each name, if it isn't there or is older than its sources; the crates below are proved first. As many
-# are made at once as there are processors, four at most: each in a view of the tree of its own, since rt keeps what it finds in target/log.
-# Usage: library.sh NAME...
+# Makes target/staticlib/libNAME.a for each name, if it isn't there or is older than its sources: of the crate NAME_c, or of NAME where that
+# is a static library itself. rt proves what they stand on first. With --proved they are made right after `rt ci`, over the libraries that it
+# has proved and left in a clean clone, which then aren't proved again; as many at once as there are processors, four at most.
+# Usage: library.sh [--proved] NAME...
 set -euo pipefail
 cd "$(dirname "$0")/.."
+proved=
+if [ "${1:-}" = --proved ]; then proved=1; shift; fi
+
+# What each crate of the list stands on, and which are static libraries.
+declare -A below=() static=()
+while IFS= read -r line || [ -n "$line" ]; do
+    line=${line%%#*}
+    if [[ $line =~ ^[[:blank:]]*([a-z0-9_]+)([^:]*):(.*)$ ]]; then
+        below[${BASH_REMATCH[1]}]=${BASH_REMATCH[3]}
+        if [[ " ${BASH_REMATCH[2]} " == *" staticlib "* ]]; then static[${BASH_REMATCH[1]}]=1; fi
+    fi
+done < crates.txt
+
 wanted=()
 for name in "$@"; do
     library=target/staticlib/lib$name.a
-    if [ ! -f "$library" ] || [ -n "$(find crates crates.txt -newer "$library" -print -quit)" ]; then wanted+=("$name"); fi
+    if [ ! -f "$library" ] || [ crates.txt -nt "$library" ] ||
+        [ -n "$(find crates -mindepth 2 -name out -prune -o -newer "$library" -print -quit)" ]; then wanted+=("$name"); fi
 done
 if [ ${#wanted[@]} = 0 ]; then exit 0; fi
-# make NAME: where it is the only one, in the tree itself.
-make() {
-    local tree=.
-    if [ ${#wanted[@]} != 1 ]; then
-        tree=$work/$1
-        mkdir -p "$tree/target"
-        cp crates.txt "$tree"
-        ln -s "$PWD"/{crates,tools} "$tree"
-        ln -s "$PWD"/target/{rlib,stamp,staticlib} "$tree/target"
-    fi
-    "$tree/tools/rt.sh" staticlib "$1"
-    touch "target/staticlib/lib$1.a"
+mkdir -p target/staticlib
+
+# crate_of NAME: the static library.
+crate_of() { if [ -n "${static[$1]-}" ]; then echo "$1"; else echo "$1_c"; fi; }
+# all_below CRATE: the crates of the list below it, in any order, once each.
+all_below() {
+    local -A seen=()
+    local left=("$1") crate dep
+    while [ ${#left[@]} != 0 ]; do
+        crate=${left[0]}
+        left=("${left[@]:1}")
+        for dep in ${below[$crate]}; do
+            if [ -n "${below[$dep]+listed}" ] && [ -z "${seen[$dep]-}" ]; then
+                seen[$dep]=1
+                left+=("$dep")
+                echo "$dep"
+            fi
+        done
+    done
 }
-if [ ${#wanted[@]} != 1 ]; then
-    work=$(mktemp -d)
-    trap 'rm -rf "$work"' EXIT
-    mkdir -p target/{rlib,stamp,staticlib}
-    # what they stand on, of the crates that are listed
-    mapfile -t below < <(awk -F ':' -v wanted="${wanted[*]}" '
-        { sub(/#.*/, "") }
-        NF == 2 { deps[$1] = $2 }
-        END {
-            n = split(wanted, names, " ")
-            for (i = 1; i <= n; i++) { m = split(deps[names[i]], on, " "); for (k = 1; k <= m; k++) if (on[k] in deps) print on[k] }
-        }' crates.txt | sort -u)
-    tools/rt.sh check "${below[@]}"
-fi
-most=$(nproc)
+# left_by_ci CRATE: each library below it lies as rt ci leaves it in a clean clone, without the stamp by which other commands of rt take it.
+left_by_ci() {
+    local dep
+    for dep in $(all_below "$1"); do
+        if [ ! -f "crates/$dep/out/rlib/$dep.rlib/format" ] || [ -f "crates/$dep/out/rlib/stamp" ]; then return 1; fi
+    done
+}
+# compile CRATE: proves and compiles a static library over those.
+compile() {
+    local kit crate=$1 dep words=()
+    kit=$(dirname "$(rt doc)")
+    for dep in std ${below[$crate]}; do
+        if [ -n "${below[$dep]+listed}" ]; then words+=(--extern "$dep=../$dep/out/rlib/$dep.rlib"); else words+=(--extern "$dep=$kit/rlibs/$dep.rlib"); fi
+    done
+    for dep in $(all_below "$crate"); do words+=(-L "dependency=../$dep/out/rlib"); done
+    mkdir -p "crates/$crate/out"
+    (cd "crates/$crate" && "$kit/bin/rattle" build --crate-name "$crate" src/lib.rt "${words[@]}" -L "dependency=$kit/rlibs" \
+        --antt-project "$kit/rattle/logic/antt-project.json" --logic-built "$kit/logic_built" --jobs 1 --links "$crate=" \
+        --crate-type staticlib --toolchain "$kit/toolchain" --backend llvm -o "out/lib$crate.a")
+}
+# make NAME
+make() {
+    local crate log status=0
+    crate=$(crate_of "$1")
+    if [ -n "$proved" ] && left_by_ci "$crate"; then
+        log=$(mktemp)
+        compile "$crate" > "$log" 2>&1 || { tail -n 20 "$log" >&2; status=1; }
+        rm "$log"
+        [ "$status" = 0 ] || return 1
+    else
+        tools/rt.sh "$crate" lib
+    fi
+    cp "crates/$crate/out/lib$crate.a" "target/staticlib/lib$1.a"
+    if [ -n "$proved" ]; then echo "library: target/staticlib/lib$1.a"; fi
+}
+# One after the other where rt does it, as each waits for the others.
+most=1
+if [ -n "$proved" ]; then most=$(nproc); fi
 if [ "$most" -gt 4 ]; then most=4; fi
 running=0
 for name in "${wanted[@]}"; do

@@ -28,14 +28,15 @@ def look(file, number, text, crate):
 
 
 for page in sorted(HERE.glob("**/*.md")):
-    if "target" in page.relative_to(HERE).parts:
+    if {"target", "out"} & {*page.relative_to(HERE).parts}:
         continue
     for number, line in enumerate(page.read_text().splitlines(), 1):
         look(page, number, line, None)
         for link in LINK.findall(line):
             if "://" not in link and not (page.parent / link).exists():
                 missing.append("%s:%d: the link %s leads nowhere" % (page.relative_to(HERE), number, link))
-for source in sorted(p for end in COMMENT for p in CRATES.glob("**/*" + end)):
+# What rt keeps in out/ is no source.
+for source in sorted(p for end in COMMENT for part in ("src", "specs", "proofs") for p in CRATES.glob("*/%s/**/*%s" % (part, end))):
     crate = source.relative_to(CRATES).parts[0]
     for number, line in enumerate(source.read_text().splitlines(), 1):
         for comment in COMMENT[source.suffix].findall(line):
