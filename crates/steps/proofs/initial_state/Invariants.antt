@@ -1,0 +1,14 @@
+-- What is left to store gives the whole.
+use mathlib.Core.Path.{◌≡◌}
+use Prim.Native.Nat.{◌-◌}
+use lib.ListN.{length}
+use Rattle.steps.specs.Arrays.{initial_in}
+use Rattle.steps.proofs.Arrays as laws
+use Rattle.steps.proofs.initial_state.Given as goal
+
+abbrev pub invariant-loop-i : goal.invariant-loop-i
+invariant-loop-i l =
+    (length l.out ≡ 8) × (laws.initial_left l.fields l.starts l.process l.out l.i ≡ initial_in l.fields l.starts l.process)
+
+abbrev pub decreases-loop-i : goal.decreases-loop-i
+decreases-loop-i l = l.m - l.i
