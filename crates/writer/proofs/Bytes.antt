@@ -2,14 +2,13 @@
 -- numbers (`report_read`); and what a buffer holds where they fit, and where not.
 use Prim.Native.Nat.{ℕ, ◌+◌, ◌-◌, ◌%◌, ◌<◌, ◌≤◌}
 use mathlib.Core.Path.{◌≡◌, refl, sym, ◌∙◌}
-use mathlib.Core.Logic.{◌≢◌}
 use mathlib.Core.List.{List, [], ◌∷◌, ◌++◌, nil≢cons}
 use native.Mathlib.Omega.{arith}
 use borrow.Author.Tests.{lt-ltb, le-leb, lt-leb}
 use lib.ListN.{length, set, drop}
 use lib.Seq.{sets, sets-eq}
 use Rattle.columns.specs.Columns.{column_of, columns_of}
-use Rattle.reader.specs.Line.{written, Each16, none, more}
+use Rattle.reader.specs.Line.{written, Each16}
 use Rattle.reader.specs.Text.{text_of, fields_by_line}
 use Rattle.reader.specs.Text as text
 use Rattle.reader.proofs.Written.{written_lines}
