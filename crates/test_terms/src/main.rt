@@ -13,26 +13,36 @@
 ghost use Rattle.std.specs.Prelude.{◌≤◌, length};
 
 use columns::Field;
+use std::io;
+use std::io::Print;
+use streams::Input;
 use term_check::Checked;
+
+// Room for the cases.
+const ROOM: usize = 65536;
 
 const LINE_END: u8 = 10;
 
 // The fields of a case before its term.
 const HEAD: usize = 8;
 
-fn main() {
-    let mut text = io::large_buffer();
-    let n = io::read_full(0, &mut text);
-    run_lines(&text[..n]);
+fn main(rt: HostRuntime) -> io::Result<()> {
+    let mut text = [0u8; ROOM];
+    match streams::read_input(&mut rt.stdin(), &mut text) {
+        Input::Ended(n) => run_lines(&rt, &text[..n]),
+        Input::Full => run_lines(&rt, &text),
+        Input::Failed(error) => Err(error),
+    }
 }
 
-fn run_lines(text: &[u8]) {
+fn run_lines<P: Print>(rt: &P, text: &[u8]) -> io::Result<()> {
     let mut at = 0;
     while at < text.len() {
         let end = line_end(text, at);
-        run_case(&text[at..end]);
+        run_case(rt, &text[at..end])?;
         at = end + 1;
     }
+    Ok(())
 }
 
 // The place of the first byte 10 from a place on, or the text's end.
@@ -50,24 +60,20 @@ fn line_end(text: &[u8], from: usize) -> usize
     at
 }
 
-fn run_case(line: &[u8]) {
-    io::write_all(1, b"case ");
-    io::print_decimal(1, number(line, 0) as u64);
+fn run_case<P: Print>(rt: &P, line: &[u8]) -> io::Result<()> {
+    print!(rt; "case {}", number(line, 0))?;
     let checked = check(line);
     match checked {
         Checked::Next(n) => {
-            io::write_all(1, b": takes ");
-            io::print_decimal(1, n as u64);
-            io::write_all(1, b" of ");
-            io::print_decimal(1, count_after_head(line) as u64);
-            evaluate(line, b", at the start ", 0);
-            evaluate(line, b", at the end ", place_at_end(n));
+            print!(rt; ": takes {n} of {}", count_after_head(line))?;
+            evaluate(rt, line, ", at the start ", 0)?;
+            evaluate(rt, line, ", at the end ", place_at_end(n))?;
         }
         Checked::Wrong => {
-            io::write_all(1, b": wrong");
+            print!(rt; ": wrong")?;
         }
     }
-    io::write_all(1, b"\n");
+    print!(rt; "\n")
 }
 
 fn check(line: &[u8]) -> Checked {
@@ -83,27 +89,26 @@ fn check(line: &[u8]) -> Checked {
 }
 
 // Puts the term's fields at a place, evaluates it there, and writes what it evaluates to and how many fields on the next term stands.
-fn evaluate(line: &[u8], words: &[u8], at: usize) {
+fn evaluate<P: Print>(rt: &P, line: &[u8], words: &str, at: usize) -> io::Result<()> {
     let mut fields = [0u16; limits::MAX_FIELDS];
     copy(reader::rest(line, HEAD), &mut fields, at);
     let params = [number(line, 6), number(line, 7), 0, 0, 0, 0, 0, 0];
     let sum = number(line, 5);
     let depth = number(line, 2) as usize;
-    io::write_all(1, words);
+    print!(rt; "{words}")?;
     if number(line, 1) == 0 {
         let r = eval::value(&fields, at, &params, sum, depth);
-        io::print_decimal(1, r.value as u64);
-        write_after(at, r.next);
+        print!(rt; "{}", r.value)?;
+        write_after(rt, at, r.next)
     } else {
         let r = eval::formula(&fields, at, &params, sum, depth);
-        io::print_decimal(1, r.holds as u64);
-        write_after(at, r.next);
+        print!(rt; "{}", r.holds as u64)?;
+        write_after(rt, at, r.next)
     }
 }
 
-fn write_after(at: usize, next: usize) {
-    io::write_all(1, b" after ");
-    io::print_decimal(1, std::num::wrapping_sub_usize(next, at) as u64);
+fn write_after<P: Print>(rt: &P, at: usize, next: usize) -> io::Result<()> {
+    print!(rt; " after {}", next.wrapping_sub(at))
 }
 
 // The place from which n fields reach the end.
