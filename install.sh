@@ -4,7 +4,7 @@
 #   --prefix DIR   where it will be, /usr/local if not given
 #   --destdir DIR  put before every name, for a package that is put together elsewhere
 #   --uninstall    takes away what this version installs there, and nothing else
-# Needs a C compiler; the libraries are proved and made first if they aren't there, some minutes with the Rattle toolchain.
+# Needs a C compiler; the libraries are proved and made first if they aren't there, many minutes with the Rattle toolchain.
 # Statuses: 64 wrong arguments; 1 something could not be made or written, with a message.
 # shellcheck disable=SC2016 # what pkg-config reads has names of its own
 set -euo pipefail
