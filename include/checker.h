@@ -105,8 +105,8 @@ static inline int read_report(const uint8_t report[CHECK_REPORT_BYTES], struct c
  * any address, NULL among them.
  *
  * The function has no state, allocates nothing, makes no system call and always returns; threads may call it at the same time, each with a
- * report area of its own. It uses less than 128 KiB of stack: 41,560 bytes at the deepest terms, measured on x86-64 by bench/run.sh (with the older kit
- * rattle-kit-5b-plain, as are the other sizes below).
+ * report area of its own. It uses less than 128 KiB of stack: 41,560 bytes at the deepest terms, measured on x86-64 by bench/run.sh. This
+ * size and those below were measured of libraries that the older kit rattle-kit-5b-plain had made.
  * How long it takes depends on the design, which has up to 65,536 states, 64 rows and 256 sum values for each row.
  */
 uint32_t check_design(const uint8_t *text, size_t text_len, uint8_t *report, size_t report_len);
