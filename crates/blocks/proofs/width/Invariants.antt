@@ -1,0 +1,15 @@
+-- The product of the sizes from the i-th on.
+use mathlib.Core.Path.{◌≡◌}
+use Prim.Native.Nat.{◌≤◌}
+use lib.ListN.{drop}
+use Rattle.foundation.specs.Radix.{product}
+use Rattle.criteria.specs.Design.{sizes}
+use Rattle.design.specs.Loaded.{process_in}
+use Rattle.blocks.proofs.width.Given as goal
+
+abbrev pub invariant-loop-i : goal.invariant-loop-i
+invariant-loop-i l =
+    (l.n ≤ l.i) × ((l.i ≤ l.process.parameters.count) × (l.w ≡ product (drop l.i (sizes (process_in l.fields l.starts l.process)))))
+
+abbrev pub decreases-loop-i : goal.decreases-loop-i
+decreases-loop-i l = l.i
