@@ -8,7 +8,13 @@
 ghost use Rattle.std.specs.Prelude.{◌≤◌, length};
 
 use columns::Field;
+use std::io;
+use std::io::Print;
+use streams::Input;
 use verdicts::Report;
+
+// Room for the cases of standard input.
+const CASES: usize = 65536;
 
 const FIELD: usize = 6;
 
@@ -24,25 +30,29 @@ const CLOSE: u8 = 93;
 // Room for the longest text of the cases.
 const ROOM: usize = 28680;
 
-fn main() {
-    let mut input = io::large_buffer();
-    let n = io::read_full(0, &mut input);
-    run_cases(&input[..n]);
-    run_limits();
-    run_written();
-    run_reports();
+fn main(rt: HostRuntime) -> io::Result<()> {
+    let mut input = [0u8; CASES];
+    match streams::read_input(&mut rt.stdin(), &mut input) {
+        Input::Ended(n) => run_cases(&rt, &input[..n])?,
+        Input::Full => run_cases(&rt, &input)?,
+        Input::Failed(error) => return Err(error),
+    }
+    run_limits(&rt)?;
+    run_written(&rt)?;
+    run_reports(&rt)
 }
 
 // ---- the cases of standard input
 
-fn run_cases(input: &[u8]) {
+fn run_cases<P: Print>(rt: &P, input: &[u8]) -> io::Result<()> {
     let mut at = 0;
     while at < input.len() {
         let open = find(input, at, OPEN);
         let close = find(input, open, CLOSE);
-        run_case(&input[at..open], &input[open..close]);
+        run_case(rt, &input[at..open], &input[open..close])?;
         at = close + 2;
     }
+    Ok(())
 }
 
 // The place of a byte from a place on, or the end.
@@ -61,118 +71,135 @@ fn find(input: &[u8], from: usize, byte: u8) -> usize
 }
 
 // The bytes are given with the bracket before them.
-fn run_case(words: &[u8], bytes: &[u8]) {
+fn run_case<P: Print>(rt: &P, words: &[u8], bytes: &[u8]) -> io::Result<()> {
     let from = 1;
     if from <= bytes.len() {
-        io::write_all(1, words);
-        write_case(&bytes[from..]);
+        rt.write_all(words)?;
+        write_case(rt, &bytes[from..])?;
     }
+    Ok(())
 }
 
-fn write_case(bytes: &[u8]) {
-    write_in_brackets(bytes);
-    write_fault(bytes);
-    io::write_all(1, b", fields ");
-    io::print_decimal(1, reader::count(bytes) as u64);
-    io::write_all(1, b", the first");
-    write_field(reader::field_at(bytes, 0));
-    io::write_all(1, b", the second");
-    write_field(reader::field_at(bytes, 1));
-    io::write_all(1, b", after the first ");
-    write_in_brackets(reader::rest(bytes, 1));
-    write_end();
+fn write_case<P: Print>(rt: &P, bytes: &[u8]) -> io::Result<()> {
+    write_in_brackets(rt, bytes)?;
+    write_fault(rt, bytes)?;
+    print!(rt; ", fields {}, the first", reader::count(bytes))?;
+    write_field(rt, reader::field_at(bytes, 0))?;
+    print!(rt; ", the second")?;
+    write_field(rt, reader::field_at(bytes, 1))?;
+    print!(rt; ", after the first ")?;
+    write_in_brackets(rt, reader::rest(bytes, 1))?;
+    write_end(rt)
 }
 
 // ---- texts at the limits: lines of as many fields each, and a last line
 
-fn run_limits() {
-    run_long_lines();
-    run_long_texts();
-    run_damaged_texts();
+fn run_limits<P: Print>(rt: &P) -> io::Result<()> {
+    run_long_lines(rt)?;
+    run_long_texts(rt)?;
+    run_damaged_texts(rt)
 }
 
-fn run_long_lines() {
-    limit(b"256 fields in a line", 0, 0, 256);
-    limit(b"257 fields in a line", 0, 0, 257);
-    limit(b"257 fields in the first line", 1, 257, 1);
-    limit(b"257 fields in the second line", 1, 256, 257);
-    limit(b"257 fields in the fourth line", 3, 256, 257);
+fn run_long_lines<P: Print>(rt: &P) -> io::Result<()> {
+    limit(rt, "256 fields in a line", 0, 0, 256)?;
+    limit(rt, "257 fields in a line", 0, 0, 257)?;
+    limit(rt, "257 fields in the first line", 1, 257, 1)?;
+    limit(rt, "257 fields in the second line", 1, 256, 257)?;
+    limit(rt, "257 fields in the fourth line", 3, 256, 257)
 }
 
-fn run_long_texts() {
-    limit(b"4096 fields in all", 16, 256, 0);
-    limit(b"4097 fields in all", 16, 256, 1);
-    limit(b"4096 fields in a line", 0, 0, 4096);
-    limit(b"4095 lines of a field", 4095, 1, 0);
-    limit(b"4096 lines of a field", 4096, 1, 0);
-    limit(b"4097 lines of a field", 4096, 1, 1);
+fn run_long_texts<P: Print>(rt: &P) -> io::Result<()> {
+    limit(rt, "4096 fields in all", 16, 256, 0)?;
+    limit(rt, "4097 fields in all", 16, 256, 1)?;
+    limit(rt, "4096 fields in a line", 0, 0, 4096)?;
+    limit(rt, "4095 lines of a field", 4095, 1, 0)?;
+    limit(rt, "4096 lines of a field", 4096, 1, 0)?;
+    limit(rt, "4097 lines of a field", 4096, 1, 1)
 }
 
-fn run_damaged_texts() {
-    damaged(b"257 fields, then a dot", 1, 257, DOT, 1);
-    damaged(b"257 fields, then an empty line", 1, 257, LINE_END, 1);
-    damaged(b"4097 fields, then an empty line", 17, 241, LINE_END, 1);
-    damaged(b"4095 lines, then dots", 4095, 1, DOT, 7);
-    damaged(b"4096 lines, then an empty one", 4096, 1, LINE_END, 1);
-    damaged(b"4096 lines, then a dot", 4096, 1, DOT, 1);
-    damaged(b"long lines, then 898 empty ones", 18, 257, LINE_END, 898);
-    damaged(b"long lines, then 899 empty ones", 18, 257, LINE_END, 899);
+fn run_damaged_texts<P: Print>(rt: &P) -> io::Result<()> {
+    damaged(rt, "257 fields, then a dot", 1, 257, DOT, 1)?;
+    damaged(rt, "257 fields, then an empty line", 1, 257, LINE_END, 1)?;
+    damaged(rt, "4097 fields, then an empty line", 17, 241, LINE_END, 1)?;
+    damaged(rt, "4095 lines, then dots", 4095, 1, DOT, 7)?;
+    damaged(rt, "4096 lines, then an empty one", 4096, 1, LINE_END, 1)?;
+    damaged(rt, "4096 lines, then a dot", 4096, 1, DOT, 1)?;
+    damaged(
+        rt,
+        "long lines, then 898 empty ones",
+        18,
+        257,
+        LINE_END,
+        898,
+    )?;
+    damaged(
+        rt,
+        "long lines, then 899 empty ones",
+        18,
+        257,
+        LINE_END,
+        899,
+    )
 }
 
-fn limit(words: &[u8], lines: usize, each: usize, last: usize) {
+fn limit<P: Print>(rt: &P, words: &str, lines: usize, each: usize, last: usize) -> io::Result<()> {
     let mut bytes = [0u8; ROOM];
     let at = put_lines(&mut bytes, 0, lines, each);
     let n = put_line(&mut bytes, at, last);
-    write_limit(words, &bytes, n);
+    write_limit(rt, words, &bytes, n)
 }
 
 // Lines of as many fields each, and then one byte as often as said.
-fn damaged(words: &[u8], lines: usize, each: usize, byte: u8, times: usize) {
+fn damaged<P: Print>(
+    rt: &P,
+    words: &str,
+    lines: usize,
+    each: usize,
+    byte: u8,
+    times: usize,
+) -> io::Result<()> {
     let mut bytes = [0u8; ROOM];
     let at = put_lines(&mut bytes, 0, lines, each);
     let n = put_bytes(&mut bytes, at, byte, times);
-    write_limit(words, &bytes, n);
+    write_limit(rt, words, &bytes, n)
 }
 
-fn write_limit(words: &[u8], bytes: &[u8], n: usize) {
-    io::write_all(1, words);
-    io::write_all(1, b", bytes ");
-    io::print_decimal(1, n as u64);
-    write_fault_of(bytes, n);
-    write_end();
+fn write_limit<P: Print>(rt: &P, words: &str, bytes: &[u8], n: usize) -> io::Result<()> {
+    print!(rt; "{words}, bytes {n}")?;
+    write_fault_of(rt, bytes, n)?;
+    write_end(rt)
 }
 
 // ---- numbers written and read back
 
-fn run_written() {
+fn run_written<P: Print>(rt: &P) -> io::Result<()> {
     let numbers = [
         0u16, 1, 9, 10, 11, 99, 100, 101, 999, 1000, 9999, 10000, 10001, 32768, 65534, 65535,
     ];
-    write_numbers(&numbers);
-    io::write_all(1, b"numbers read back ");
-    io::print_decimal(1, count_read_back() as u64);
-    write_end();
+    write_numbers(rt, &numbers)?;
+    print!(rt; "numbers read back {}", count_read_back())?;
+    write_end(rt)
 }
 
-fn write_numbers(numbers: &[u16]) {
+fn write_numbers<P: Print>(rt: &P, numbers: &[u16]) -> io::Result<()> {
     let mut i = 0;
     while i < numbers.len() {
-        write_number(numbers[i]);
+        write_number(rt, numbers[i])?;
         i += 1;
     }
+    Ok(())
 }
 
 // A number among dots, and what is read there.
-fn write_number(n: u16) {
+fn write_number<P: Print>(rt: &P, n: u16) -> io::Result<()> {
     let mut bytes = [DOT; 12];
     writer::put_field(&mut bytes, 3, n);
-    io::print_decimal(1, n as u64);
-    io::write_all(1, b" is written ");
-    write_in_brackets(&bytes);
-    io::write_all(1, b", which");
+    print!(rt; "{n} is written ")?;
+    write_in_brackets(rt, &bytes)?;
+    print!(rt; ", which")?;
     let at = 3;
-    write_field(reader::field_at(&bytes[at..], 0));
-    write_end();
+    write_field(rt, reader::field_at(&bytes[at..], 0))?;
+    write_end(rt)
 }
 
 // How many of all numbers are read back as they were written.
@@ -215,17 +242,24 @@ fn is_first(bytes: &[u8], n: u16) -> bool {
 
 // ---- the report, among dots
 
-fn run_reports() {
-    report(0, 0, 0, 0, 0);
-    report(1, 8, 9, 3, 0);
-    report(1, 9, 0, 1, 1);
-    report(2, 7, 0, 0, 0);
-    report(1, 6, 65535, 32, 255);
-    report(65535, 65535, 65535, 65535, 65535);
-    report(1, 12, 123, 1234, 12345);
+fn run_reports<P: Print>(rt: &P) -> io::Result<()> {
+    report(rt, 0, 0, 0, 0, 0)?;
+    report(rt, 1, 8, 9, 3, 0)?;
+    report(rt, 1, 9, 0, 1, 1)?;
+    report(rt, 2, 7, 0, 0, 0)?;
+    report(rt, 1, 6, 65535, 32, 255)?;
+    report(rt, 65535, 65535, 65535, 65535, 65535)?;
+    report(rt, 1, 12, 123, 1234, 12345)
 }
 
-fn report(verdict: u16, number: u16, state: u16, row: u16, sum: u16) {
+fn report<P: Print>(
+    rt: &P,
+    verdict: u16,
+    number: u16,
+    state: u16,
+    row: u16,
+    sum: u16,
+) -> io::Result<()> {
     let report = Report {
         verdict,
         number,
@@ -235,48 +269,43 @@ fn report(verdict: u16, number: u16, state: u16, row: u16, sum: u16) {
     };
     let mut long = [DOT; 36];
     writer::put_report(&mut long, report);
-    write_in_brackets(&long);
+    write_in_brackets(rt, &long)?;
     let mut short = [DOT; writer::REPORT_BYTES];
     writer::put_report(&mut short, report);
-    write_in_brackets(&short);
-    write_end();
+    write_in_brackets(rt, &short)?;
+    write_end(rt)
 }
 
 // ---- writing to standard output
 
-fn write_fault(text: &[u8]) {
-    io::write_all(1, b", fault ");
-    io::print_decimal(1, text_check::columns_fault(text) as u64);
+fn write_fault<P: Print>(rt: &P, text: &[u8]) -> io::Result<()> {
+    print!(rt; ", fault {}", text_check::columns_fault(text))
 }
 
 // The fault of the text in the first n bytes.
-fn write_fault_of(bytes: &[u8], n: usize) {
+fn write_fault_of<P: Print>(rt: &P, bytes: &[u8], n: usize) -> io::Result<()> {
     let from = 0;
     if n <= bytes.len() {
-        write_fault(&bytes[from..n]);
+        write_fault(rt, &bytes[from..n])?;
     }
+    Ok(())
 }
 
-fn write_field(field: Field) {
+fn write_field<P: Print>(rt: &P, field: Field) -> io::Result<()> {
     match field {
-        Field::Number(n) => {
-            io::write_all(1, b" is ");
-            io::print_decimal(1, n as u64);
-        }
-        Field::Malformed => {
-            io::write_all(1, b" is no field");
-        }
+        Field::Number(n) => print!(rt; " is {n}"),
+        Field::Malformed => print!(rt; " is no field"),
     }
 }
 
-fn write_in_brackets(bytes: &[u8]) {
-    io::write_all(1, b"[");
-    io::write_all(1, bytes);
-    io::write_all(1, b"]");
+fn write_in_brackets<P: Print>(rt: &P, bytes: &[u8]) -> io::Result<()> {
+    print!(rt; "[")?;
+    rt.write_all(bytes)?;
+    print!(rt; "]")
 }
 
-fn write_end() {
-    io::write_all(1, b"\n");
+fn write_end<P: Print>(rt: &P) -> io::Result<()> {
+    print!(rt; "\n")
 }
 
 // ---- filling a buffer, as far as there is room; each gives the place after what it has put
