@@ -7,6 +7,7 @@ ghost use Rattle.reader.specs.Text.{columns_fault, lines_fault};
 const LINE_END: u8 = 10;
 
 // The lowest of the faults 1, 2 and 3 that a text has, or 0.
+#[tactic(auto, unfolding(reader::specs::Text::columns_fault))]
 pub fn columns_fault(text: &[u8]) -> u16
     ensures { result ≡ columns_fault text.now }
 {
