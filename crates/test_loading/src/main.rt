@@ -5,54 +5,78 @@
 #![tactic(auto)]
 
 use loader::Loaded;
+use std::env::{Env, FillError};
+use std::fs::{File, Files};
+use std::io;
+use std::io::{Eprint, ErrorKind, Print};
+use streams::Input;
+
+// Room for a name, and for a text.
+const NAME: usize = 4096;
+
+const TEXT: usize = 65536;
 
 // The check number's modulus and factor.
 const MODULUS: u32 = 65521;
 
 const FACTOR: u32 = 31;
 
-fn main() {
-    let n = os::arg_count();
-    let mut i = 1;
-    while i < n {
-        run_case(i);
-        i += 1;
+fn main(rt: HostRuntime) -> io::Result<()> {
+    for i in 1..usize::MAX {
+        let mut name = [0u8; NAME];
+        match rt.arg(i, &mut name) {
+            Ok(k) => run_named(&rt, &name[..k])?,
+            Err(FillError::TooLong) => return Err(io::Error::from(ErrorKind::InvalidFilename)),
+            Err(FillError::NotPresent) => return Ok(()),
+        }
+    }
+    Ok(())
+}
+
+fn run_named<R: Files + Print + Eprint>(rt: &R, name: &[u8]) -> io::Result<()> {
+    match str::from_utf8(name) {
+        Ok(path) => run_case(rt, path),
+        Err(_) => Err(io::Error::from(ErrorKind::InvalidFilename)),
     }
 }
 
-fn run_case(i: usize) {
-    let mut name = io::buffer();
-    let k = os::arg(i, &mut name);
-    let fd = os::open_read(&name[..k]);
-    if fd < 0 {
-        os::fail(&name[..k]);
-        return;
+fn run_case<R: Files + Print + Eprint>(rt: &R, name: &str) -> io::Result<()> {
+    match File::open(rt, name) {
+        Ok(mut file) => run_text(rt, name, &mut file),
+        Err(error) => eprintln!(rt; "{name}: {error}"),
     }
-    let mut text = io::large_buffer();
-    let n = io::read_full(fd, &mut text);
-    libc::close(fd);
-    io::write_all(1, &name[..k]);
-    write_loaded(loader::load(&text[..n]));
 }
 
-fn write_loaded(loaded: Loaded) {
+fn run_text<P: Print, R: io::Read>(rt: &P, name: &str, file: &mut R) -> io::Result<()> {
+    let mut text = [0u8; TEXT];
+    match streams::read_input(file, &mut text) {
+        Input::Ended(n) => write_case(rt, name, &text[..n]),
+        Input::Full => write_case(rt, name, &text),
+        Input::Failed(error) => Err(error),
+    }
+}
+
+fn write_case<P: Print>(rt: &P, name: &str, text: &[u8]) -> io::Result<()> {
+    print!(rt; "{name}")?;
+    write_loaded(rt, loader::load(text))
+}
+
+fn write_loaded<P: Print>(rt: &P, loaded: Loaded) -> io::Result<()> {
     let fields = loaded.fields;
     let starts = loaded.starts;
-    write_number(b": fault ", loaded.fault as u64);
-    write_number(b", lines ", loaded.counts.kind1 as u64);
-    write_number(b" ", loaded.counts.kind2 as u64);
-    write_number(b" ", loaded.counts.kind3 as u64);
-    write_number(b" ", loaded.counts.kind4 as u64);
-    write_number(b" ", loaded.counts.kind8 as u64);
-    write_number(b", fields ", check_number(&fields) as u64);
-    write_number(b", starts ", check_number(&starts) as u64);
-    write_lines(&fields, &starts);
-    io::write_all(1, b"\n");
-}
-
-fn write_number(words: &[u8], n: u64) {
-    io::write_all(1, words);
-    io::print_decimal(1, n);
+    print!(rt; ": fault {}, lines ", loaded.fault)?;
+    print!(rt;
+        "{} {} {} {}",
+        loaded.counts.kind1, loaded.counts.kind2, loaded.counts.kind3, loaded.counts.kind4
+    )?;
+    print!(rt;
+        " {}, fields {}",
+        loaded.counts.kind8,
+        check_number(&fields)
+    )?;
+    print!(rt; ", starts {}", check_number(&starts))?;
+    write_lines(rt, &fields, &starts)?;
+    print!(rt; "\n")
 }
 
 // A number that tells lists apart.
@@ -70,18 +94,32 @@ fn mixed(number: u32, n: u16) -> u32 {
     (number % MODULUS * FACTOR + n as u32) % MODULUS
 }
 
-fn write_lines<'a>(fields: &'a limits::Fields, starts: &'a limits::Starts) {
+fn write_lines<P: Print>(
+    rt: &P,
+    fields: &limits::Fields,
+    starts: &limits::Starts,
+) -> io::Result<()> {
     let mut i = 0;
     while i < limits::MAX_LINES {
-        write_line(fields, terms::field(starts, i), terms::field(starts, i + 1));
+        write_line(
+            rt,
+            fields,
+            terms::field(starts, i),
+            terms::field(starts, i + 1),
+        )?;
         i += 1;
     }
+    Ok(())
 }
 
 // A line's kind and length, where it has fields.
-fn write_line(fields: &limits::Fields, start: u16, end: u16) {
+fn write_line<P: Print>(rt: &P, fields: &limits::Fields, start: u16, end: u16) -> io::Result<()> {
     if start < end {
-        write_number(b", ", terms::field(fields, start as usize) as u64);
-        write_number(b" of ", (end - start) as u64);
+        print!(rt;
+            ", {} of {}",
+            terms::field(fields, start as usize),
+            end - start
+        )?;
     }
+    Ok(())
 }
