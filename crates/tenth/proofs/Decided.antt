@@ -4,7 +4,6 @@ use mathlib.Core.Bool.{Bool, true, false, not, ◌&&◌, ◌||◌, or-true, and-
 use mathlib.Core.List.{List}
 use Prim.Native.Nat.{ℕ, ◌+◌, ◌≤◌, ◌<◌}
 use native.Mathlib.Omega.{arith}
-use borrow.Author.Tests.{eqb-true}
 use lib.Dec.{eqb}
 use lib.ListN.{length, get_or, drop}
 use Rattle.foundation.specs.First.{all_in_range}
@@ -16,16 +15,13 @@ use Rattle.criteria.specs.Design.{Design, Row, State, mapped}
 use Rattle.criteria.specs.Rows.{row_at}
 use Rattle.decision.specs.Tests.{invariant_b, has_invariant_b, has_mapping_b, has_measure_b, all_rows, has_at, has_mark_at, others_have_b, apart_b, holds10}
 use Rattle.decision.proofs.Alike.{has_at_alike}
-use Rattle.design.specs.Loaded.{process_in, design_at}
-use Rattle.design.specs.declared.Process.{Process}
+use Rattle.design.specs.Loaded.{design_at}
 use Rattle.design.specs.declared.Shape.{Shape}
 use Rattle.layout.specs.Sizes.{Fits}
 use Rattle.marks.specs.Marks.{place_from, mark_has_in}
 use Rattle.defined.specs.Defined.{has_invariant_in, has_mapping_in, has_measure_in, row_at_in, row_has_in}
 use Rattle.steps.specs.Arrays.{padded, line_of, invariant_in, mapped_in}
 use Rattle.steps.proofs.States as states
-use Rattle.row_plan.specs.RowPlan.{no_mark, row_plan_at, risk_at}
-use Rattle.row_plan.specs.declared.RowPlan.{RowPlan}
 use Rattle.plan.specs.Plan.{mark_in, row_plan_of, impl_risk, spec_risk, kinds_risk, sure_in, plan_in}
 use Rattle.plan.proofs.Planned.{impl_row_plan, spec_row_plan}
 use Rattle.plan.proofs.Held.{row_as_is, row_line_lem, row_is, numbered}

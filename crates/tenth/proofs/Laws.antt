@@ -1,9 +1,8 @@
 -- What the functions return, as specs/Tenth says it, and the turns of the loop over the rows.
-use mathlib.Core.Path.{◌≡◌, refl, sym, ◌∙◌, ap}
-use mathlib.Core.Bool.{Bool, true, false, not, ◌&&◌, ◌||◌, and-true}
+use mathlib.Core.Path.{◌≡◌, sym, ◌∙◌}
+use mathlib.Core.Bool.{Bool, true, false, not}
 use mathlib.Core.List.{List}
 use Prim.Native.Nat.{ℕ, ◌+◌, ◌-◌, ◌≤◌, ◌<◌}
-use native.Mathlib.Omega.{arith}
 use borrow.Author.Tests.{not-true, not-false}
 use lib.Dec.{eqb}
 use lib.ListN.{get_or, drop}
@@ -12,7 +11,6 @@ use Rattle.foundation.proofs.All.{all_begin, all_turn, all_fail, all_end}
 use Rattle.divisors.specs.Divisors.{safe_at}
 use Rattle.design.specs.declared.Process.{Process}
 use Rattle.design.specs.declared.Shape.{Shape}
-use Rattle.layout.specs.Sizes.{Fits}
 use Rattle.marks.specs.Marks.{place_from}
 use Rattle.defined.specs.Defined.{has_invariant_in, has_mapping_in, has_measure_in, row_has_in}
 use Rattle.steps.specs.Arrays.{line_of, invariant_in, mapped_in}
