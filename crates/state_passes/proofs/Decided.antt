@@ -6,14 +6,13 @@ use mathlib.Core.Bool.{Bool, true, false, not, ◌&&◌, ◌||◌, true≢false,
 use mathlib.Core.List.{List}
 use Prim.Native.Nat.{ℕ, zero, suc, ◌+◌, ◌-◌, ◌≤◌, ◌<◌, min}
 use native.Mathlib.Omega.{arith}
-use native.Mathlib.Numerals.{add-one}
 use borrow.Author.Tests.{eqb-true}
 use lib.Dec.{eqb, ltb, eqb-suc-zero}
 use lib.ListN.{length, get_or, drop, length-map}
 use Rattle.foundation.specs.First.{all_in_range}
 use Rattle.foundation.specs.Radix.{same_b}
 use Rattle.foundation.specs.Reflects.{◌⇒◌}
-use Rattle.foundation.proofs.First.{all_alike, all_both, all_from}
+use Rattle.foundation.proofs.First.{all_alike, all_both}
 use Rattle.foundation.proofs.All.{all_in, all_yes}
 use Rattle.terms.specs.Tree.{eval_f}
 use Rattle.terms.specs.Read.{read_f}
