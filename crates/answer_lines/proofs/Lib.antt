@@ -1,4 +1,3 @@
 pub mod Lines
 pub mod Decimal
-pub mod Answers
 pub mod Pieces

@@ -1,13 +1,11 @@
--- Lines are put together from the left: the laws of `put`'s loop, and what its parts come to.
-use Prim.Native.Nat.{ℕ, suc, ◌+◌, ◌-◌, ◌<◌, ◌≤◌}
+-- The laws of `put`'s loop.
+use Prim.Native.Nat.{ℕ, suc, ◌+◌, ◌<◌, ◌≤◌}
 use mathlib.Core.Path.{◌≡◌, sym, ap, ◌∙◌}
-use mathlib.Core.List.{List, [], ◌∷◌, ◌++◌, append_assoc}
+use mathlib.Core.List.{List, ◌∷◌, ◌++◌}
 use native.Mathlib.Numerals.{add-one}
 use native.Mathlib.Omega.{arith}
 use lib.ListN.{length, set, take, drop, get_or, length-append, length-take, drop_of_length-le}
 use lib.Seq.{sets, sets-eq, length-sets, drop-cons, take_at}
-
--- ---- bytes put one after the other
 
 module _ (at : ℕ) (bytes before : List ℕ) where
   pub starts : sets before (at + 0) (drop 0 bytes) ≡ sets before at bytes
@@ -54,20 +52,3 @@ module _ (at : ℕ) (bytes before : List ℕ) where
           let b : length l ≡ length (sets before at bytes) = ap length (ends i l done e) in
           let s = length-sets before at bytes in
           omega arith
-
--- ---- a line from its parts
-
--- a blank and a number
-pub blank : (p x₁ x₂ digits : List ℕ) → x₁ ≡ p ++ (32 ∷ []) → x₂ ≡ x₁ ++ digits → x₂ ≡ p ++ (32 ∷ digits)
-blank p x₁ x₂ digits e₁ e₂ = e₂ ∙ (ap (λ x. x ++ digits) e₁ ∙ append_assoc p (32 ∷ []) digits)
-
-module _ (e a b x₁ x₂ : List ℕ) (e₁ : x₁ ≡ take 0 e ++ a) (e₂ : x₂ ≡ x₁ ++ b) where
-  pub two : x₂ ≡ a ++ b
-  two = e₂ ∙ ap (λ x. x ++ b) e₁
-
-  pub three : (x₃ z : List ℕ) → x₃ ≡ x₂ ++ z → x₃ ≡ a ++ (b ++ z)
-  three x₃ z e₃ = e₃ ∙ (ap (λ x. x ++ z) two ∙ append_assoc a b z)
-
-  pub seven : (c d f g z x₃ x₄ x₅ x₆ x₇ : List ℕ) → x₃ ≡ x₂ ++ c → x₄ ≡ x₃ ++ d → x₅ ≡ x₄ ++ f → x₆ ≡ x₅ ++ g → x₇ ≡ x₆ ++ z
-      → x₇ ≡ a ++ (b ++ (c ++ (d ++ (f ++ (g ++ z)))))
-  seven c d f g z x₃ x₄ x₅ x₆ x₇ e₃ e₄ e₅ e₆ e₇ = rw (e₇, e₆, e₅, e₄, e₃, two) (simp append_assoc)

@@ -1,38 +1,15 @@
--- The line of a measure in pieces: the laws of `put_measured` and of `put_places`' loop, and that the pieces joined are the line.
+-- The line of a measure in pieces: the laws of `put_places`' loop, and that the pieces joined are the line.
 use Prim.Native.Nat.{ℕ, ◌+◌, ◌-◌, ◌*◌, ◌<◌, ◌≤◌}
 use mathlib.Core.Path.{◌≡◌, sym, ap, ◌∙◌}
-use mathlib.Core.Bool.{true, false, cond}
+use mathlib.Core.Bool.{cond}
 use mathlib.Core.List.{List, [], ◌∷◌, ◌++◌, append_assoc, append-nil}
 use native.Mathlib.Numerals.{add-one}
 use native.Mathlib.Omega.{arith}
-use lib.ListN.{length, take, drop, get_or, drop_of_length-le}
+use lib.ListN.{length, drop, get_or, drop_of_length-le}
 use lib.Seq.{drop-cons}
 use Rattle.answers.specs.declared.Measured.{Measured}
 use Rattle.answers.specs.declared.Measured.TheVariants as measured
-use Rattle.call_lines.specs.Number.{decimal_of}
-use Rattle.answer_lines.specs.Answers.{turned_down_words, measure_word, loop_word, numbered, next, places_of, measure_line, measure_head, places_follow, IsPiece}
-
--- ---- the head
-
-module _ (answer : Measured) (x : List ℕ) where
-  pub filled_head : answer ≡ measured.Filled → (e : List ℕ) → x ≡ take 0 e ++ measure_word → x ≡ measure_head answer
-  filled_head ea e h = rw ea h
-
-  pub filled_places : answer ≡ measured.Filled → true ≡ places_follow answer
-  filled_places ea = rw ea
-
-  module _ (k : ℕ) where
-    pub loop_head : answer ≡ measured.Loop k → x ≡ loop_word ++ decimal_of k → x ≡ measure_head answer
-    loop_head ea h = rw ea h
-
-    pub not_made_head : answer ≡ measured.TurnedDown k → x ≡ numbered turned_down_words k → x ≡ measure_head answer
-    not_made_head ea h = rw ea h
-
-pub loop_places : (answer : Measured) (k : ℕ) → answer ≡ measured.Loop k → true ≡ places_follow answer
-loop_places answer k ea = rw ea
-
-pub not_made_places : (answer : Measured) (k : ℕ) → answer ≡ measured.TurnedDown k → false ≡ places_follow answer
-not_made_places answer k ea = rw ea
+use Rattle.answer_lines.specs.Answers.{turned_down_words, numbered, next, places_of, measure_line, measure_head, places_follow, IsPiece}
 
 -- ---- the places
 
