@@ -15,7 +15,7 @@ use Rattle.foundation.proofs.Radix.{number_below, values_below}
 use Rattle.criteria.specs.Design.{Design, Row, State, RowIs, InSize, InvariantState, sizes, states, state_number}
 use Rattle.criteria.specs.Step.{next_state}
 use Rattle.criteria.specs.Criteria.{Each, Criterion3, MeasureApart}
-use Rattle.criteria.specs.Measure.{Measurable, third_fails, tenth_fails}
+use Rattle.criteria.specs.Measure.{third_fails, tenth_fails}
 use Rattle.criteria.proofs.Rows.{is_row_at, is_row_below, row_at_is, and-true, true_and}
 use Rattle.decision.specs.Tests.{enabled_b, invariant_b, inside_b, apart_b}
 use Rattle.decision.proofs.Tests.{by_invariant, by_apart}
@@ -32,7 +32,7 @@ use Rattle.plan.proofs.Held.{row_is, Likewise, looks_within, looks_enough}
 use Rattle.row_looks.specs.Looks.{next_from, row_of, IsAt, FirstOn}
 use Rattle.row_looks.specs.declared.Row as looks
 use Rattle.row_looks.specs.declared.Look.{Look}
-use Rattle.measurable.specs.Measurable.{LeadsInside, LeadsOut, RowStays, stays, leaves, RowsStay, stay, one_leaves, StateStays, lacks, outside, inside, CanMeasure, can, cannot}
+use Rattle.measurable.specs.Measurable.{LeadsInside, RowStays, stays, leaves, RowsStay, stay, one_leaves, StateStays, lacks, outside, inside, CanMeasure, can, cannot}
 
 -- ---- the sum values of a row
 
