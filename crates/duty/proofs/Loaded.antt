@@ -1,6 +1,6 @@
 -- What is compared on the arrays that hold two design texts is the specifications in their lines: a line with a line (`by_line`), the lines of
 -- a kind with those of the other (`by_section`), and so both kinds (`same_held`). Each test says yes exactly if the lists are equal.
-use Prim.Native.Nat.{ℕ, zero, suc, ◌+◌, ◌-◌, ◌≤◌, ◌<◌}
+use Prim.Native.Nat.{ℕ, zero, suc, ◌+◌, ◌≤◌, ◌<◌}
 use mathlib.Core.Path.{◌≡◌, refl, sym, ap, subst, ◌∙◌}
 use mathlib.Core.Bool.{Bool, true, ◌&&◌}
 use mathlib.Core.List.{List, [], ◌∷◌, ◌++◌, append_assoc}

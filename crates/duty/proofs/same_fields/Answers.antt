@@ -1,0 +1,16 @@
+use native.Mathlib.Omega.{arith}
+use borrow.Author.Rules.{rules}
+use Rattle.duty.proofs.Laws as laws
+use Rattle.duty.proofs.same_fields.Goals as goal
+
+pub loop-k-init : goal.loop-k-init
+loop-k-init c = (omega arith, laws.fields_begin _ _ _ _ _)
+
+pub loop-k-preserved : goal.loop-k-preserved
+loop-k-preserved c = (search rules, search laws.field_turn)
+
+pub returns-else-x-y : goal.returns-else-x-y
+returns-else-x-y c = search laws.field_stop
+
+pub returns : goal.returns
+returns c = search laws.fields_end
