@@ -14,7 +14,16 @@ use answer_lines::Stop;
 use call_input::{Due, Line};
 use call_lines::Call;
 use desk::Desk;
+use std::io::{Error, Stderr, Stdin, Stdout};
 use streams::Ahead;
+
+// Standard input, output and error.
+#[derive(Clone, Copy)]
+struct Standard {
+    input: Stdin,
+    output: Stdout,
+    errors: Stderr,
+}
 
 // The desk after a call, what is read ahead, and whether another call may follow.
 #[derive(Clone, Copy)]
@@ -24,17 +33,22 @@ struct Step {
     more: bool,
 }
 
-fn main() {
+fn main(rt: HostRuntime) {
+    let standard = Standard {
+        input: rt.stdin(),
+        output: rt.stdout(),
+        errors: rt.stderr(),
+    };
     let mut space = [0u8; streams::BLOCK];
-    run_calls(&mut space);
+    run_calls(standard, &mut space);
 }
 
-fn run_calls(space: &mut [u8; streams::BLOCK]) {
+fn run_calls(standard: Standard, space: &mut [u8; streams::BLOCK]) {
     let mut desk = Desk::empty();
     let mut ahead = Ahead { at: 0, end: 0 };
     let mut line = 1u64;
     while line < 18446744073709551615 {
-        let step = run_next(desk, space, ahead, line);
+        let step = run_next(standard, desk, space, ahead, line);
         let next = step.desk;
         desk = next;
         let rest = step.ahead;
@@ -47,19 +61,25 @@ fn run_calls(space: &mut [u8; streams::BLOCK]) {
 }
 
 // Reads a line and makes the call that it says.
-fn run_next(desk: Desk, space: &mut [u8; streams::BLOCK], ahead: Ahead, line: u64) -> Step {
+fn run_next(
+    standard: Standard,
+    desk: Desk,
+    space: &mut [u8; streams::BLOCK],
+    ahead: Ahead,
+    line: u64,
+) -> Step {
     let mut bytes = [0u8; call_lines::LONGEST];
-    let read = call_input::read_line(space, ahead, &mut bytes);
+    let read = call_input::read_line(&mut &standard.input, space, ahead, &mut bytes);
     let kind = read.line;
     let rest = read.ahead;
     match kind {
         Line::Short(n) => {
             let call = call_of_start(&bytes, n);
-            run_call(desk, space, rest, call, line)
+            run_call(standard, desk, space, rest, call, line)
         }
-        Line::Long => stop(desk, rest, Stop::NoCall, line),
+        Line::Long => stop(standard, desk, rest, Stop::NoCall, line),
         Line::End => end(desk, rest),
-        Line::Failed => not_read(desk, rest),
+        Line::Failed(error) => not_read(standard, desk, rest, error),
     }
 }
 
@@ -74,6 +94,7 @@ fn call_of_start(bytes: &[u8; call_lines::LONGEST], n: usize) -> Call {
 }
 
 fn run_call(
+    standard: Standard,
     desk: Desk,
     space: &mut [u8; streams::BLOCK],
     ahead: Ahead,
@@ -81,33 +102,46 @@ fn run_call(
     line: u64,
 ) -> Step {
     match call {
-        Call::Load(n) => run_load(desk, space, ahead, n, line),
-        Call::Advance(n) => run_advance(desk, ahead, n),
-        Call::Verdict => run_verdict(desk, ahead),
-        Call::Measure(n) => run_measure(desk, ahead, n, line),
-        Call::Drop => run_drop(desk, ahead),
-        Call::NoCall => stop(desk, ahead, Stop::NoCall, line),
+        Call::Load(n) => run_load(standard, desk, space, ahead, n, line),
+        Call::Advance(n) => run_advance(standard, desk, ahead, n),
+        Call::Verdict => run_verdict(standard, desk, ahead),
+        Call::Measure(n) => run_measure(standard, desk, ahead, n, line),
+        Call::Drop => run_drop(standard, desk, ahead),
+        Call::NoCall => stop(standard, desk, ahead, Stop::NoCall, line),
     }
 }
 
-fn run_load(desk: Desk, space: &mut [u8; streams::BLOCK], ahead: Ahead, n: u64, line: u64) -> Step {
+fn run_load(
+    standard: Standard,
+    desk: Desk,
+    space: &mut [u8; streams::BLOCK],
+    ahead: Ahead,
+    n: u64,
+    line: u64,
+) -> Step {
     let mut room = [0u8; calls::ENOUGH];
-    let read = call_input::read_text(space, ahead, n, &mut room);
+    let read = call_input::read_text(&mut &standard.input, space, ahead, n, &mut room);
     let due = read.due;
     let rest = read.ahead;
     match due {
-        Due::There => load_read(desk, rest, n, &room),
-        Due::Missing => stop(desk, rest, Stop::TextMissing, line),
-        Due::NoLineEnd => stop(desk, rest, Stop::NoLineEnd, line),
-        Due::Failed => not_read(desk, rest),
+        Due::There => load_read(standard, desk, rest, n, &room),
+        Due::Missing => stop(standard, desk, rest, Stop::TextMissing, line),
+        Due::NoLineEnd => stop(standard, desk, rest, Stop::NoLineEnd, line),
+        Due::Failed(error) => not_read(standard, desk, rest, error),
     }
 }
 
-fn load_read(desk: Desk, ahead: Ahead, n: u64, room: &[u8; calls::ENOUGH]) -> Step {
+fn load_read(
+    standard: Standard,
+    desk: Desk,
+    ahead: Ahead,
+    n: u64,
+    room: &[u8; calls::ENOUGH],
+) -> Step {
     let mut line = [0u8; answer_lines::ROOM];
     let answered = calls::run_load(desk, room, n, &mut line);
     let k = answered.length;
-    let more = write_line(&line[..k]);
+    let more = write_line(standard, &line[..k]);
     let next = answered.desk;
     Step {
         desk: next,
@@ -116,11 +150,11 @@ fn load_read(desk: Desk, ahead: Ahead, n: u64, room: &[u8; calls::ENOUGH]) -> St
     }
 }
 
-fn run_advance(desk: Desk, ahead: Ahead, n: u64) -> Step {
+fn run_advance(standard: Standard, desk: Desk, ahead: Ahead, n: u64) -> Step {
     let mut line = [0u8; answer_lines::ROOM];
     let answered = calls::run_advance(desk, n, &mut line);
     let k = answered.length;
-    let more = write_line(&line[..k]);
+    let more = write_line(standard, &line[..k]);
     let next = answered.desk;
     Step {
         desk: next,
@@ -129,11 +163,11 @@ fn run_advance(desk: Desk, ahead: Ahead, n: u64) -> Step {
     }
 }
 
-fn run_verdict(desk: Desk, ahead: Ahead) -> Step {
+fn run_verdict(standard: Standard, desk: Desk, ahead: Ahead) -> Step {
     let mut line = [0u8; answer_lines::ROOM];
     let answered = calls::run_verdict(desk, &mut line);
     let k = answered.length;
-    let more = write_line(&line[..k]);
+    let more = write_line(standard, &line[..k]);
     let next = answered.desk;
     Step {
         desk: next,
@@ -142,23 +176,29 @@ fn run_verdict(desk: Desk, ahead: Ahead) -> Step {
     }
 }
 
-fn run_measure(desk: Desk, ahead: Ahead, n: u64, line: u64) -> Step {
+fn run_measure(standard: Standard, desk: Desk, ahead: Ahead, n: u64, line: u64) -> Step {
     if (calls::PLACES as u64) < n {
-        return stop(desk, ahead, Stop::NoRoom, line);
+        return stop(standard, desk, ahead, Stop::NoRoom, line);
     }
     let mut places = [0u16; calls::PLACES];
-    measure_in(desk, ahead, &mut places, n)
+    measure_in(standard, desk, ahead, &mut places, n)
 }
 
-fn measure_in(desk: Desk, ahead: Ahead, places: &mut [u16; calls::PLACES], n: u64) -> Step {
+fn measure_in(
+    standard: Standard,
+    desk: Desk,
+    ahead: Ahead,
+    places: &mut [u16; calls::PLACES],
+    n: u64,
+) -> Step {
     let mut line = [0u8; answer_lines::ROOM];
     let answered = calls::run_measure(desk, places, n, &mut line);
     let head = answered.head;
     let k = head.length;
-    let mut more = write_line(&line[..k]);
+    let mut more = write_line(standard, &line[..k]);
     if more {
         if head.places {
-            more = write_first(places, n);
+            more = write_first(standard, places, n);
         }
     }
     let next = answered.desk;
@@ -170,35 +210,35 @@ fn measure_in(desk: Desk, ahead: Ahead, places: &mut [u16; calls::PLACES], n: u6
 }
 
 // Writes the numbers of the first n places, or all, and the end of the line; false if they can't be written.
-fn write_first(places: &[u16; calls::PLACES], n: u64) -> bool {
+fn write_first(standard: Standard, places: &[u16; calls::PLACES], n: u64) -> bool {
     let slice: &[u16] = places;
     if n < slice.len() as u64 {
         let k = n as usize;
-        write_places(&slice[0..k])
+        write_places(standard, &slice[0..k])
     } else {
-        write_places(slice)
+        write_places(standard, slice)
     }
 }
 
-fn write_places(slice: &[u16]) -> bool {
+fn write_places(standard: Standard, slice: &[u16]) -> bool {
     let mut piece = [0u8; answer_lines::ROOM];
     let mut from = 0;
     while from < slice.len() {
         let put = answer_lines::put_places(&mut piece, slice, from);
         let k = put.length;
-        if !write_line(&piece[..k]) {
+        if !write_line(standard, &piece[..k]) {
             return false;
         }
         from = put.next;
     }
-    write_line(b"\n")
+    write_line(standard, b"\n")
 }
 
-fn run_drop(desk: Desk, ahead: Ahead) -> Step {
+fn run_drop(standard: Standard, desk: Desk, ahead: Ahead) -> Step {
     let mut line = [0u8; answer_lines::ROOM];
     let answered = calls::run_drop(desk, &mut line);
     let k = answered.length;
-    let more = write_line(&line[..k]);
+    let more = write_line(standard, &line[..k]);
     let next = answered.desk;
     Step {
         desk: next,
@@ -218,24 +258,26 @@ fn end(desk: Desk, ahead: Ahead) -> Step {
 }
 
 // Ends the list with a line that says why.
-fn stop(desk: Desk, ahead: Ahead, why: Stop, n: u64) -> Step {
+fn stop(standard: Standard, desk: Desk, ahead: Ahead, why: Stop, n: u64) -> Step {
     let mut line = [0u8; answer_lines::ROOM];
     let k = answer_lines::put_stop(&mut line, why, n);
-    write_line(&line[..k]);
+    write_line(standard, &line[..k]);
     end(desk, ahead)
 }
 
 // Ends the list where a read failed.
-fn not_read(desk: Desk, ahead: Ahead) -> Step {
-    os::fail(b"desk_calls: standard input");
+fn not_read(standard: Standard, desk: Desk, ahead: Ahead, error: Error) -> Step {
+    let _ = streams::fail(&mut &standard.errors, b"desk_calls: standard input", error);
     end(desk, ahead)
 }
 
 // Writes a line; false if it can't be written.
-fn write_line(line: &[u8]) -> bool {
-    if streams::write_all(libc::STDOUT_FILENO, line) {
-        return true;
+fn write_line(standard: Standard, line: &[u8]) -> bool {
+    match streams::write_all(&mut &standard.output, line) {
+        Ok(()) => true,
+        Err(error) => {
+            let _ = streams::fail(&mut &standard.errors, b"desk_calls: standard output", error);
+            false
+        }
     }
-    os::fail(b"desk_calls: standard output");
-    false
 }

@@ -8,7 +8,7 @@ ghost use Rattle.std.specs.Io.KnownBytes.{Appends, WriteAppends};
 ghost use Rattle.streams.specs.Reading.{Some, Within, IsAhead, next_of, Gave, Given};
 
 use std::io;
-use std::io::ErrorKind;
+use std::io::{Cursor, ErrorKind, Write};
 
 // How often a call that is interrupted is made.
 const TRIES: u32 = 1000000;
@@ -144,7 +144,7 @@ fn read_next<R: io::Read>(reader: &mut R, room: &mut [u8; BLOCK]) -> NextByte {
 }
 
 // Writes all of the bytes; an error where a write takes nothing or fails.
-pub fn write_all<W: io::Write>(writer: &mut W, bytes: &[u8]) -> io::Result<()>
+pub fn write_all<W: Write>(writer: &mut W, bytes: &[u8]) -> io::Result<()>
     ensures { OnOk result (Appends (W.contents writer.old) (W.contents writer.new) bytes.now) }
 {
     let mut n = 0;
@@ -159,7 +159,7 @@ pub fn write_all<W: io::Write>(writer: &mut W, bytes: &[u8]) -> io::Result<()>
 }
 
 // Writes once, and answers how many bytes are taken.
-fn write_some<W: io::Write>(writer: &mut W, bytes: &[u8]) -> io::Result<usize>
+fn write_some<W: Write>(writer: &mut W, bytes: &[u8]) -> io::Result<usize>
     ensures upper_bound { IfOk result (λ k. k ≤ length bytes.now) }
     ensures taken { WriteAppends (W.contents writer.old) (W.contents writer.new) result bytes.now }
 {
@@ -178,4 +178,43 @@ fn write_some<W: io::Write>(writer: &mut W, bytes: &[u8]) -> io::Result<usize>
         tries -= 1;
     }
     Err(io::Error::from(ErrorKind::Interrupted))
+}
+
+// Room for the words of an error.
+const WORDS: usize = 256;
+
+// Writes a line: what failed, as the caller names it, a colon and the system's words for the error.
+pub fn fail<W: Write>(writer: &mut W, what: &[u8], error: io::Error) -> io::Result<()> {
+    let mut said = Cursor::new([0u8; WORDS]);
+    write!(said, "{error}")?;
+    let end = least(said.position(), WORDS);
+    let text = said.into_inner();
+    let words = match error.raw_os_error() {
+        Some(_) => before_number(&text[..end]),
+        None => end,
+    };
+    write_all(writer, what)?;
+    write_all(writer, b": ")?;
+    write_all(writer, &text[..words])?;
+    write_all(writer, b"\n")
+}
+
+fn least(n: u64, most: usize) -> usize
+    ensures { result ≤ most }
+{
+    if n < most as u64 { n as usize } else { most }
+}
+
+// Where the words end before the error's number, which the library puts in brackets after a blank.
+fn before_number(text: &[u8]) -> usize
+    ensures { result ≤ length text.now }
+{
+    let mut i = text.len();
+    while 0 < i {
+        i -= 1;
+        if text[i] == b'(' {
+            return i.saturating_sub(1);
+        }
+    }
+    text.len()
 }

@@ -13,6 +13,7 @@ use Rattle.writer.specs.Report.{report_bytes}
 use Rattle.verdicts.specs.declared.Report.{Report}
 use Rattle.checker.specs.OneCall.{judged_of, buffer_written}
 use Rattle.checker.proofs.Cut.{judged_cut}
+use Rattle.std.specs.declared.io.error.Error.{Error}
 use Rattle.streams.specs.declared.Input.{Input}
 use Rattle.streams.specs.declared.Input.TheVariants as input
 use Rattle.table_input.specs.Output.{IsInput, output_of}
@@ -83,11 +84,11 @@ module _ (i : Input) (room after : List ℕ) (k : ℕ) (z : k ≡ 31) where
       taken (judged_of room) after k z (full_report e)
       ∙ (ap (λ t. report_bytes (judged_of t)) (sym start) ∙ ap report_bytes (judged_cut text))
 
-pub failed : (i : Input) (room : List ℕ) → i ≡ input.Failed → [] ≡ output_of i room
-unfolding output_of
-failed i room ei = rw ei
+module _ (i : Input) (room : List ℕ) (error : Error) (ei : i ≡ input.Failed error) where
+  pub failed : [] ≡ output_of i room
+  unfolding output_of
+  failed = rw ei
 
--- where a read failed no input is known
-pub failed_input : (i : Input) (room bytes : List ℕ) → i ≡ input.Failed → (text : List ℕ) → IsInput i room text
-    → bytes ≡ report_bytes (judged_of text)
-failed_input i room bytes ei text s = absurd (rw ei at s)
+  -- where a read failed no input is known
+  pub failed_input : (bytes text : List ℕ) → IsInput i room text → bytes ≡ report_bytes (judged_of text)
+  failed_input bytes text s = absurd (rw ei at s)

@@ -11,10 +11,10 @@ use Rattle.streams.specs.declared.Input.TheVariants as input
 abbrev pub IsInput : Input → List ℕ → List ℕ → Type 0
 IsInput (input.Ended n) room text = text ≡ take n room
 IsInput input.Full room text = take (length room) text ≡ room
-IsInput input.Failed room text = ⊥
+IsInput (input.Failed e) room text = ⊥
 
 -- the report on the bytes read, and nothing where a read failed
 unfoldable pub output_of : Input → List ℕ → List ℕ
 output_of (input.Ended n) room = report_bytes (judged_of (take n room))
 output_of input.Full room = report_bytes (judged_of room)
-output_of input.Failed room = []
+output_of (input.Failed e) room = []

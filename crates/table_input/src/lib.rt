@@ -28,7 +28,7 @@ pub fn put_output(
     match input {
         Input::Ended(n) => put_start(bytes, n, output),
         Input::Full => put_start(bytes, ENOUGH, output),
-        Input::Failed => 0,
+        Input::Failed(_) => 0,
     }
 }
 

@@ -8,7 +8,7 @@ use loader::Loaded;
 use std::env::{Env, FillError};
 use std::fs::{File, Files};
 use std::io;
-use std::io::{Eprint, ErrorKind, Print};
+use std::io::{ErrorKind, Print, Write};
 use streams::Input;
 
 // Room for a name, and for a text.
@@ -25,7 +25,7 @@ fn main(rt: HostRuntime) -> io::Result<()> {
     for i in 1..usize::MAX {
         let mut name = [0u8; NAME];
         match rt.arg(i, &mut name) {
-            Ok(k) => run_named(&rt, &name[..k])?,
+            Ok(k) => run_named(&rt, &mut rt.stderr(), &name[..k])?,
             Err(FillError::TooLong) => return Err(io::Error::from(ErrorKind::InvalidFilename)),
             Err(FillError::NotPresent) => return Ok(()),
         }
@@ -33,17 +33,17 @@ fn main(rt: HostRuntime) -> io::Result<()> {
     Ok(())
 }
 
-fn run_named<R: Files + Print + Eprint>(rt: &R, name: &[u8]) -> io::Result<()> {
+fn run_named<R: Files + Print, W: Write>(rt: &R, errors: &mut W, name: &[u8]) -> io::Result<()> {
     match str::from_utf8(name) {
-        Ok(path) => run_case(rt, path),
+        Ok(path) => run_case(rt, errors, path),
         Err(_) => Err(io::Error::from(ErrorKind::InvalidFilename)),
     }
 }
 
-fn run_case<R: Files + Print + Eprint>(rt: &R, name: &str) -> io::Result<()> {
+fn run_case<R: Files + Print, W: Write>(rt: &R, errors: &mut W, name: &str) -> io::Result<()> {
     match File::open(rt, name) {
         Ok(mut file) => run_text(rt, name, &mut file),
-        Err(error) => eprintln!(rt; "{name}: {error}"),
+        Err(error) => streams::fail(errors, name.as_bytes(), error),
     }
 }
 
