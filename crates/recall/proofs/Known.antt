@@ -1,11 +1,10 @@
 -- What a look at a row shows, and what is known from it: so long as nothing that it watches differs, it is as it was seen.
 use mathlib.Core.Path.{◌≡◌, refl, sym, subst, ap, ◌∙◌}
-use mathlib.Core.Bool.{Bool, true, false, not, ◌&&◌, cond, true≢false, false≢true, and-true}
+use mathlib.Core.Bool.{Bool, true, false, not, ◌&&◌, cond, false≢true, and-true}
 use mathlib.Core.List.{List}
-use Prim.Native.Nat.{ℕ, ◌+◌, ◌-◌, ◌≤◌, ◌<◌}
+use Prim.Native.Nat.{ℕ, ◌+◌, ◌-◌, ◌<◌}
 use native.Mathlib.Omega.{arith}
 use borrow.Author.Tests.{not-true}
-use lib.Bits.{bit_and}
 use lib.ListN.{length, get_or, drop}
 use Rattle.foundation.specs.First.{all_in_range}
 use Rattle.foundation.specs.Radix.{below_b}
@@ -18,25 +17,23 @@ use Rattle.sum_free.specs.SumFree.{sum_free_f}
 use Rattle.sum_free.proofs.SumFree.{same_f}
 use Rattle.criteria.specs.Design.{Design, Row, sizes, mapped}
 use Rattle.criteria.specs.Rows.{row_at, marked_test}
-use Rattle.decision.specs.Tests.{enabled_b, invariant_b, partner}
+use Rattle.decision.specs.Tests.{enabled_b, partner}
 use Rattle.decision.specs.Quick.{row_holds}
 use Rattle.design.specs.Loaded.{design_at}
 use Rattle.design.specs.declared.Shape.{Shape}
-use Rattle.layout.specs.Sizes.{Fits}
-use Rattle.steps.specs.Arrays.{padded, line_of, mapped_in, measure_in}
+use Rattle.steps.specs.Arrays.{padded, mapped_in, measure_in}
 use Rattle.steps.proofs.States.{rows_count}
 use Rattle.conjuncts.specs.Conjuncts.{front_of, guard_in}
 use Rattle.conjuncts.specs.declared.Guarded.{Guarded}
 use Rattle.row_plan.specs.RowPlan.{row_plan_at, risk_at}
-use Rattle.row_plan.specs.declared.RowPlan.{RowPlan}
-use Rattle.plan.specs.Plan.{row_plan_of, plan_in}
+use Rattle.plan.specs.Plan.{row_plan_of}
 use Rattle.plan.proofs.Held.{row_as_is, row_line_lem, row_by_lem, row_is}
 use Rattle.plan.proofs.Planned.{impl_row_plan}
 use Rattle.state_passes.specs.Passes.{seen, row_in, impl_in, reply_in, spec_in}
 use Rattle.state_passes.specs.declared.Seen.{Seen}
 use Rattle.state_passes.proofs.Decided.{on_guarded, row_seen, row_replied, seen_holds, seen_quiet}
 use Rattle.watched.specs.Watched.{all_of, map_reads, enabling, watched, reply_watched}
-use Rattle.recall.specs.Recall.{since, StateArray, Task, Known, Keeps, Loud, Replied, RowIs, MappedIs, idle_in, seen_in, look_inside, loud_of}
+use Rattle.recall.specs.Recall.{Task, Known, Replied, RowIs, MappedIs, idle_in, seen_in, look_inside, loud_of}
 use Rattle.recall.specs.declared.Look.{Look}
 use Rattle.recall.proofs.States as held
 

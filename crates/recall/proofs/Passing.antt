@@ -1,31 +1,30 @@
 -- What is known at the last state is carried to the next, place by place; and a state of which mapping, rows and replies pass passes.
 use mathlib.Core.Path.{◌≡◌, refl, sym, subst, ap, ◌∙◌}
-use mathlib.Core.Bool.{Bool, true, false, not, ◌&&◌, cond, true≢false, or-true}
+use mathlib.Core.Bool.{Bool, true, false, not, true≢false, or-true}
 use mathlib.Core.List.{List}
-use Prim.Native.Nat.{ℕ, ◌+◌, ◌≤◌, ◌<◌}
+use Prim.Native.Nat.{ℕ, ◌+◌}
 use native.Mathlib.Omega.{arith}
 use borrow.Author.Tests.{not-false}
-use lib.Bits.{bit_and, bit_or}
+use lib.Bits.{bit_and}
 use lib.ListN.{length, get_or}
 use Rattle.foundation.specs.First.{all_in_range}
 use Rattle.foundation.specs.Reflects.{◌⇒◌}
 use Rattle.foundation.proofs.All.{all_in, all_yes}
 use Rattle.foundation.proofs.Reflects.{says_yes}
-use Rattle.terms.proofs.Sets.{Apart, apart_of, apart_all}
+use Rattle.terms.proofs.Sets.{apart_of, apart_all}
 use Rattle.terms.proofs.And.{and_both}
 use Rattle.reads.specs.Reads.{differ}
 use Rattle.reads.proofs.Alike.{differ_triangle}
 use Rattle.criteria.specs.Design.{Design, Row, mapped}
-use Rattle.criteria.specs.Rows.{row_at, marked_test}
-use Rattle.decision.specs.Tests.{enabled_b, invariant_b, partner, focus_b, all_rows, holds2, holds7}
-use Rattle.decision.specs.Quick.{row_holds, state_holds}
+use Rattle.criteria.specs.Rows.{marked_test}
+use Rattle.decision.specs.Tests.{enabled_b, partner, focus_b, all_rows, holds7}
+use Rattle.decision.specs.Quick.{row_holds}
 use Rattle.design.specs.Loaded.{design_at}
 use Rattle.design.specs.declared.Shape.{Shape}
-use Rattle.layout.specs.Sizes.{Fits}
 use Rattle.steps.specs.Arrays.{mapped_in}
 use Rattle.plan.proofs.Held.{row_as_is, row_is, numbered}
 use Rattle.state_passes.proofs.Decided.{rows_held_lem, focus_held, sevens_held}
-use Rattle.recall.specs.Recall.{When, since, Task, StateArray, Known, Replied, RowIs, MappedIs, RowKnown, ReplyKnown, MappedKnown, RowsCarried, RepliesCarried, MappedCarried, Recalls, OneLoud, RowsTo, RepliesTo, MappedTo, Passed}
+use Rattle.recall.specs.Recall.{When, since, Task, Known, Replied, RowIs, MappedIs, RowsCarried, RepliesCarried, MappedCarried, Recalls, OneLoud, RowsTo, RepliesTo, MappedTo, Passed}
 use Rattle.recall.proofs.States.{all_hold}
 
 -- ---- from one state to the next

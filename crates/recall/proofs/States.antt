@@ -1,17 +1,16 @@
 -- What an array that holds a state has: eight values, each below its size, and 0 past the last parameter; and of a row of the design how many
 -- next values it has. So the law of keeping (watched/proofs/Kept) is one of such arrays.
 use mathlib.Core.Path.{◌≡◌, refl, sym, ap, ◌∙◌}
-use mathlib.Core.Logic.{◌⊎◌, inl, inr}
-use mathlib.Core.Bool.{Bool, true, false, not, ◌&&◌}
+use mathlib.Core.Bool.{Bool, true, false, not}
 use mathlib.Core.List.{List, [], ◌∷◌}
 use Prim.Native.Nat.{ℕ, zero, suc, ◌+◌, ◌≤◌, ◌<◌}
 use native.Mathlib.Omega.{arith}
-use lib.Bits.{bit_and, bit_or}
+use lib.Bits.{bit_and}
 use lib.ListN.{length, get_or, length-map, length-replicate, replicate, get_or-eq_default}
 use lib.Seq.{length-sets}
 use Rattle.foundation.specs.First.{all_in_range}
-use Rattle.foundation.specs.Radix.{Below, product, values_of}
-use Rattle.foundation.specs.Reflects.{Reflects, ◌⇒◌}
+use Rattle.foundation.specs.Radix.{Below, values_of}
+use Rattle.foundation.specs.Reflects.{Reflects}
 use Rattle.foundation.proofs.All.{all_in, all_yes}
 use Rattle.foundation.proofs.First.{all_alike, by_all}
 use Rattle.foundation.proofs.Reflects.{says_yes, by_value}
@@ -19,14 +18,13 @@ use Rattle.foundation.proofs.Radix.{values_below}
 use Rattle.terms.proofs.Sets.{Apart, apart_of}
 use Rattle.reads.specs.Reads.{differ}
 use Rattle.reads.proofs.Alike.{differ_sym}
-use Rattle.criteria.specs.Design.{Design, Row, State, sizes, states, mapped}
-use Rattle.criteria.specs.Rows.{row_at, marked_test}
-use Rattle.decision.specs.Tests.{enabled_b, invariant_b, partner}
-use Rattle.decision.specs.Quick.{row_holds}
+use Rattle.criteria.specs.Design.{Design, Row, State, sizes, mapped}
+use Rattle.criteria.specs.Rows.{row_at}
+use Rattle.decision.specs.Tests.{enabled_b, invariant_b}
 use Rattle.design.specs.Loaded.{design_at}
 use Rattle.design.specs.declared.Shape.{Shape}
 use Rattle.layout.specs.Sizes.{Fits}
-use Rattle.steps.specs.Arrays.{padded, state_in}
+use Rattle.steps.specs.Arrays.{padded}
 use Rattle.steps.proofs.Arrays.{row_there}
 use Rattle.steps.proofs.States as steps
 use Rattle.divisors.specs.Divisors.{safe_at}

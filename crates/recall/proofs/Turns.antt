@@ -23,7 +23,7 @@ use Rattle.steps.proofs.States as steps
 use Rattle.state_passes.specs.Passes.{spec_in}
 use Rattle.recall.specs.Recall.{When, since, Task, Known, Replied, RowIs, MappedIs, RowKnown, ReplyKnown, RowsCarried, RepliesCarried, MappedCarried, look_inside, loud_of, noted_in, row_passes_in, OneLoud, RowsTo, reply_noted_in, reply_passes_in, RepliesTo, MappedTo, Recalls, Forgets}
 use Rattle.recall.specs.declared.Look.{Look}
-use Rattle.recall.proofs.Known.{Shown, looked, replied_on, reply_looked, mapped_on}
+use Rattle.recall.proofs.Known.{looked, replied_on, reply_looked, mapped_on}
 
 -- of a no nothing is said
 pub when_not : (P : Type 0) → When false P

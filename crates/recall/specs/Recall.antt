@@ -1,7 +1,7 @@
 -- What is known of a state from those before it. Beside each row stands a set of parameters, as in the crate reads: what is known of the row is
 -- so in every state of the invariant that differs from the last one in none of them. 256 is no parameter: in a set it says that nothing is
 -- known. f the fields, s the starts of lines, h the shape, p the plan; v, x arrays that hold states, t the mapped state; i counts rows from 0.
-use Rattle.std.specs.Prelude.{◌≡◌, Bool, true, false, not, ◌&&◌, cond, List, ℕ, ◌+◌, ◌≤◌, ◌<◌, eqb, length, get_or, drop, set}
+use Rattle.std.specs.Prelude.{◌≡◌, Bool, true, false, not, cond, List, ℕ, ◌+◌, ◌≤◌, ◌<◌, eqb, length, get_or, drop, set}
 use Rattle.std.specs.Int.Bits.{bit_and, bit_or}
 use Rattle.foundation.specs.First.{all_in_range}
 use Rattle.foundation.specs.Reflects.{◌⇒◌}
