@@ -18,14 +18,14 @@ pub const ENOUGH: usize = limits::MAX_BYTES + 1;
 pub const PLACES: usize = 2 * limits::MAX_STATES;
 
 // The desk after a call, and the length of its answer's line.
-#[derive(Clone, Copy)]
+#[derive(Drop)]
 pub struct Answered {
     pub desk: Desk,
     pub length: usize,
 }
 
 // The desk after a measure, and the head of its answer's line.
-#[derive(Clone, Copy)]
+#[derive(Drop)]
 pub struct AnsweredMeasure {
     pub desk: Desk,
     pub head: Head,

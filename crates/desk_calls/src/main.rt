@@ -26,7 +26,7 @@ struct Standard {
 }
 
 // The desk after a call, what is read ahead, and whether another call may follow.
-#[derive(Clone, Copy)]
+#[derive(Drop)]
 struct Step {
     desk: Desk,
     ahead: Ahead,
