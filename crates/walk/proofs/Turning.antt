@@ -2,16 +2,16 @@
 use mathlib.Core.Path.{◌≡◌, refl, sym, subst, ap, ◌∙◌}
 use mathlib.Core.Bool.{Bool, true, false, not, cond, false≢true}
 use mathlib.Core.List.{List, [], ◌∷◌}
-use Prim.Native.Nat.{ℕ, zero, suc, ◌+◌, ◌-◌, ◌≤◌, ◌<◌, min}
+use Prim.Native.Nat.{ℕ, suc, ◌+◌, ◌-◌, ◌≤◌, ◌<◌, min}
 use native.Mathlib.Omega.{arith}
 use native.Mathlib.Decide.{dec_lt}
 use borrow.Author.Tests.{eq-eqb, not-true, not-false}
 use lib.ListN.{length, get_or, replicate}
 use lib.Seq.{sets}
-use Rattle.foundation.specs.First.{pass, fail}
+use Rattle.foundation.specs.First.{pass}
 use Rattle.foundation.proofs.First.{pass≢fail, FirstAt}
 use Rattle.foundation.proofs.Walk.{all_walk, fail_walk}
-use Rattle.criteria.specs.Design.{Design, states}
+use Rattle.criteria.specs.Design.{states}
 use Rattle.criteria.specs.Failure.{Failure}
 use Rattle.decision.specs.Quick.{state_holds}
 use Rattle.design.specs.Loaded.{design_at, design_in}
