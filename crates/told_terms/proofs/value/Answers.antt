@@ -1,0 +1,6 @@
+-- What the evaluator answers is what is meant.
+use Rattle.told_terms.proofs.Laws as laws
+use Rattle.told_terms.proofs.value.Goals as goal
+
+pub returns : goal.returns
+returns c = search laws.value_told_lem
