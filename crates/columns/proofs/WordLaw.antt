@@ -1,6 +1,6 @@
 -- The law of a word's count (02, order 3), of what `columns::blanks_in` ensures.
 use Prim.Native.Nat.{ℕ}
-use mathlib.Core.Path.{◌≡◌, sym, ◌∙◌, ap}
+use mathlib.Core.Path.{sym, ◌∙◌, ap}
 use mathlib.Core.List.{List}
 use lib.ListN.{take}
 use Rattle.columns.specs.Scan.{blanks_of}

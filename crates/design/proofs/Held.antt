@@ -14,7 +14,7 @@ use Rattle.kinds.specs.Kinds.{whole_text, entry_in, value, formula, n_values, n_
 use Rattle.criteria.specs.Design.{Row}
 use Rattle.criteria.specs.Step.{internal_rows}
 use Rattle.design.specs.Line.{parameter_of, row_of, invariant_of, mapping_of, measure_value, marks_of}
-use Rattle.design.specs.Lines.{kind_of, of_kind, the_line, count_of, counts_of, rows_said, internal_of, design_of}
+use Rattle.design.specs.Lines.{kind_of, of_kind, the_line, count_of, counts_of, internal_of, design_of}
 use Rattle.design.specs.Faults.{HasTerms, Terms, LineTerms}
 use Rattle.design.specs.Loaded.{line_from, each_line_of, fields_held, starts_held, design_in}
 use Rattle.design.proofs.Each.{EachLine, each_cons}

@@ -1,11 +1,11 @@
 -- Formulas one after the other: where each stands, and that they are no more fields than there are.
-use Prim.Native.Nat.{ℕ, zero, suc, ◌+◌, ◌≤◌, ◌<◌}
-use mathlib.Core.Path.{◌≡◌, refl, sym, ap, ◌∙◌}
+use Prim.Native.Nat.{ℕ, zero, suc, ◌≤◌, ◌<◌}
+use mathlib.Core.Path.{◌≡◌, refl, ap, ◌∙◌}
 use mathlib.Core.List.{List}
 use native.Mathlib.Omega.{arith}
 use lib.ListN.{length, get_or, drop, length-drop}
 use lib.Seq.{drop-drop}
-use Rattle.terms.specs.Tree.{Formula, no_formula}
+use Rattle.terms.specs.Tree.{no_formula}
 use Rattle.terms.proofs.Used.{used_f}
 use Rattle.design.specs.Line.{formula_in, formulas_in, formulas_used}
 

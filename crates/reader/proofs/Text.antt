@@ -1,6 +1,6 @@
 -- Laws of a text's lines (specs/Text). The first line of a text, and the lines after it (`lines_first`); where fields stand one after
 -- the other, they are those of the first line (`first_line_lem`), and it is whole if a byte 10 follows them (`whole_line`).
-use Prim.Native.Nat.{ℕ, suc, ◌+◌, ◌-◌, ◌*◌, ◌%◌, ◌<◌}
+use Prim.Native.Nat.{ℕ, suc, ◌+◌, ◌*◌, ◌%◌, ◌<◌}
 use mathlib.Core.Path.{◌≡◌, refl, sym, ap, ◌∙◌}
 use mathlib.Core.Logic.{◌≢◌}
 use mathlib.Core.Bool.{Bool, true, false, cond, and-false}

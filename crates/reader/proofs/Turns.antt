@@ -11,7 +11,6 @@ use lib.ListN.{length, get_or, take, drop, length-drop, drop_of_length-le}
 use lib.Seq.{drop-drop, get_or-drop}
 use Rattle.reader.specs.Line.{written, field_there, fields_of, next_at}
 use Rattle.reader.specs.Text.{lines_of, last_of, fields_by_line, count_all, is_line, any_line, fault2, fault3, lines_fault}
-use Rattle.columns.specs.declared.Field.{Field}
 use Rattle.columns.specs.declared.Field.TheVariants.{Number, Malformed}
 use Rattle.reader.proofs.Line.{first_field, no_field, part_all, fields_within, field_inside, next_moved, stood, went}
 use Rattle.reader.proofs.Text.{first_line, lines_first, beyond, split, fields_first, no_fields, not_whole, whole_line, after_line, last_after, last_written}

@@ -1,5 +1,5 @@
 -- A reading is never deeper than the depth it was asked for, and a well_formed term has a depth of at least 1.
-use Rattle.std.proofs.Common.{◌≡◌, ℕ, zero, suc, ◌<◌, ◌≤◌, Bool, true, false, List, [], ◌∷◌, drop, arith}
+use Rattle.std.proofs.Common.{◌≡◌, ℕ, zero, suc, ◌<◌, ◌≤◌, Bool, true, List, [], ◌∷◌, drop, arith}
 use mathlib.Core.Bool.{false≢true}
 use Rattle.terms.specs.Tree as tree
 use Rattle.terms.specs.Tree.{Value, Formula, ok_v, ok_f}

@@ -1,6 +1,6 @@
 -- Values fit in 16 bits: where every number of a term, every parameter value and the sum value is below 65,536, so is the term's
 -- value.
-use Rattle.std.proofs.Common.{ℕ, ◌-◌, ◌%◌, Bool, true, false, cond, eqb, List, arith}
+use Rattle.std.proofs.Common.{ℕ, ◌%◌, Bool, true, false, cond, eqb, List, arith}
 use native.Mathlib.Nat.{mod-le}
 use Rattle.terms.specs.Tree as tree
 use Rattle.terms.specs.Tree.{Value, eval_v, eval_f, arith_of}

@@ -1,8 +1,8 @@
 -- What a term means is what is computed: eval_v and eval_f where has_v and has_f say so, and nothing elsewhere.
-use Rattle.std.proofs.Common.{◌≡◌, ℕ, Bool, true, false, cond, not, ◌&&◌, List, sym, refl, ap, ◌∙◌}
+use Rattle.std.proofs.Common.{◌≡◌, ℕ, Bool, true, false, cond, ◌&&◌, List, sym, refl, ap, ◌∙◌}
 use mathlib.Core.Option.{Option, some, none}
 use native.Mathlib.Omega as omegas
-use Rattle.terms.specs.Tree.{Value, Formula, num, par, sum_value, arith, choice, const, compare, negation, join, no_value, no_formula, eval_v, eval_f, has_v, has_f, arith_has, arith_of, compare_of, join_of}
+use Rattle.terms.specs.Tree.{Value, Formula, num, par, sum_value, arith, choice, const, compare, negation, join, no_value, no_formula, eval_v, eval_f, has_v, has_f}
 use Rattle.terms.specs.Meaning.{meant_v, meant_f, then, Computed, Has, Holds}
 
 abbrev given : {A : Type 0} → Bool → A → Option A

@@ -1,4 +1,3 @@
-use Prim.Native.Nat.{◌-◌}
 use mathlib.Core.Path.{refl}
 use Rattle.action_check.proofs.Lines as laws
 use Rattle.action_check.proofs.all_agree.Goals as goal

@@ -1,4 +1,3 @@
-use Prim.Native.Nat.{◌-◌}
 use Rattle.defined.proofs.Laws as laws
 use Rattle.defined.proofs.row_below.Goals as goal
 

@@ -1,4 +1,3 @@
-use Prim.Native.Nat.{◌-◌}
 use Rattle.marks.proofs.Marks as laws
 use Rattle.marks.proofs.after_formulas.Goals as goal
 

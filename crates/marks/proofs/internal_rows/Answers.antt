@@ -1,4 +1,3 @@
-use Prim.Native.Nat.{◌-◌}
 use native.Mathlib.Omega.{arith}
 use Rattle.marks.proofs.Marks as laws
 use Rattle.marks.proofs.internal_rows.Goals as goal

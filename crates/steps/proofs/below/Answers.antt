@@ -1,4 +1,3 @@
-use Prim.Native.Nat.{◌-◌}
 use Rattle.steps.proofs.Arrays as laws
 use Rattle.steps.proofs.below.Goals as goal
 

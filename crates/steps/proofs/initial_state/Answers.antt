@@ -1,5 +1,4 @@
 use borrow.Author.Rules.{rules}
-use Prim.Native.Nat.{◌-◌}
 use Rattle.steps.proofs.Arrays as laws
 use Rattle.steps.proofs.initial_state.Goals as goal
 

@@ -1,6 +1,6 @@
 -- The values from the i-th on are stored, and what is left to divide is what they leave.
 use mathlib.Core.Path.{◌≡◌}
-use Prim.Native.Nat.{◌-◌, ◌≤◌, min}
+use Prim.Native.Nat.{◌≤◌, min}
 use Rattle.steps.proofs.Arrays as laws
 use Rattle.steps.proofs.put_state.Given as goal
 

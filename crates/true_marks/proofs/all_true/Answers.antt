@@ -1,6 +1,5 @@
 use native.Mathlib.Omega.{arith}
 use mathlib.Core.Path.{refl}
-use Prim.Native.Nat.{◌-◌}
 use Rattle.true_marks.proofs.Turns as laws
 use Rattle.true_marks.proofs.all_true.Goals as goal
 

@@ -1,5 +1,4 @@
 use native.Mathlib.Omega.{arith}
-use Prim.Native.Nat.{◌-◌}
 use Rattle.true_marks.proofs.Turns as laws
 use Rattle.true_marks.proofs.put_true.Goals as goal
 
