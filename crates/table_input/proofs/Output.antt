@@ -13,7 +13,7 @@ use Rattle.writer.specs.Report.{report_bytes}
 use Rattle.verdicts.specs.declared.Report.{Report}
 use Rattle.checker.specs.OneCall.{judged_of, buffer_written}
 use Rattle.checker.proofs.Cut.{judged_cut}
-use Rattle.std.specs.declared.io.error.Error.{Error}
+use Rattle.std.specs.declared.io.Error.{Error}
 use Rattle.streams.specs.declared.Input.{Input}
 use Rattle.streams.specs.declared.Input.TheVariants as input
 use Rattle.table_input.specs.Output.{IsInput, output_of}
