@@ -1,0 +1,6 @@
+-- After the kind.
+use Rattle.looking.proofs.Laws as laws
+use Rattle.looking.proofs.formula_in_line.Goals as goal
+
+pub returns : goal.returns
+returns c = search laws.line_formula
