@@ -1,4 +1,4 @@
--- The one_call check gives the verdict on the text's design.
+-- The one-call check gives the verdict on the text's design.
 use Prim.Native.Nat.{ℕ, ◌≤◌, ◌<◌}
 use mathlib.Core.Path.{◌≡◌, refl, sym, ◌∙◌}
 use mathlib.Core.Logic.{◌≢◌}

@@ -1,4 +1,4 @@
--- The one_call check (01, "The desk"; 02, order 6): "It returns 0 accepted, 1 failed or 2 turned down, with the report in the first 31
+-- The one-call check (01, "The desk"; 02, order 6): "It returns 0 accepted, 1 failed or 2 turned down, with the report in the first 31
 -- bytes; later bytes keep their content."; 3 is accepted too. 9. "A report buffer under 31 bytes: returned as 9, nothing written." The
 -- report is that of the verdict on the text's design, or the text's lowest fault. That the verdict is demand 2's is in
 -- decision/proofs/Demand2, that the fault is the lowest in loader/proofs/Lowest.

@@ -26,7 +26,7 @@ use Rattle.stages.proofs.Stages.{Stage, fresh, going, accepts, fails}
 use Rattle.stages.proofs.Judging.{loaded_free}
 use Rattle.claims.specs.Calls.{Called, load, advance, AcceptedAs, Walked, LoadThen}
 use Rattle.claims.specs.Calls as calls
-use Rattle.claims.specs.Contracts.{News, Loads, Checks, Calls, new, then_load, then_advance}
+use Rattle.claims.specs.Contracted.{News, Loads, Checks, Calls, new, then_load, then_advance}
 use Rattle.claims.specs.Demand3.{AcceptedBy, Among}
 use Rattle.claims.proofs.Lists.{loaded_as, answered, answered_all}
 use Rattle.claims.proofs.Kept.{load_at}

@@ -1,4 +1,4 @@
--- Demand 3 holds of every list of desk calls and every one_call check.
+-- Demand 3 holds of every list of desk calls and every one-call check.
 use mathlib.Core.Path.{◌≡◌, refl}
 use mathlib.Core.List.{List, [], ◌∷◌}
 use Prim.Native.Nat.{ℕ}

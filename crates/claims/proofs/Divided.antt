@@ -16,7 +16,7 @@ use Rattle.desk.specs.declared.AfterLoad.{AfterLoad}
 use Rattle.desk.specs.declared.AfterAdvance.{AfterAdvance}
 use Rattle.stages.specs.Count.{Due}
 use Rattle.claims.specs.Calls.{Called, load, advance, Walked}
-use Rattle.claims.specs.Contracts.{News, Loads, Advances, Calls, new, then_load, then_advance, then_verdict, then_measure, then_drop}
+use Rattle.claims.specs.Contracted.{News, Loads, Advances, Calls, new, then_load, then_advance, then_verdict, then_measure, then_drop}
 use Rattle.claims.specs.Demand2.{Comes}
 use Rattle.claims.proofs.Lists.{earlier, apart, same_load, same_advance}
 use Rattle.claims.proofs.Outcomes.{opened_by}

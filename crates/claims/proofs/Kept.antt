@@ -25,7 +25,7 @@ use Rattle.stages.proofs.Stages.{Stage, fresh, going, accepts, fails, AdvanceDue
 use Rattle.stages.proofs.Judging.{opened_stage, loaded_free, loaded_fault}
 use Rattle.claims.specs.Calls.{Called, load, advance, verdict, measure, drop, NoLoad, refused, advanced, told, measured, dropped, LastLoad, here, before, AcceptedAs}
 use Rattle.claims.specs.Calls as calls
-use Rattle.claims.specs.Contracts.{Calls, new, then_load, then_advance, then_verdict, then_measure, then_drop}
+use Rattle.claims.specs.Contracted.{Calls, new, then_load, then_advance, then_verdict, then_measure, then_drop}
 use Rattle.claims.proofs.Lists.{loaded_as, made_by, earlier, apart, same_advance}
 
 -- ---- the last load is one

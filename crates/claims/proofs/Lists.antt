@@ -22,7 +22,7 @@ use Rattle.checker.specs.OneCall.{answer_of, buffer_written}
 use Rattle.measuring.specs.Measured as measuring
 use Rattle.measuring.proofs.Laws.{text_there}
 use Rattle.claims.specs.Calls.{Called, load, advance, verdict, measure, drop}
-use Rattle.claims.specs.Contracts.{Loads, loads, Makes, makes, Checks, checks, Writes, marks, unmarks, MakesFor, makes_for, AsksNothing, Answered}
+use Rattle.claims.specs.Contracted.{Loads, loads, Makes, makes, Checks, checks, Writes, marks, unmarks, MakesFor, makes_for, AsksNothing, Answered}
 
 -- ---- one call
 

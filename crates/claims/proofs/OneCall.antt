@@ -1,4 +1,4 @@
--- What the one_call check answers and writes, by the length of the buffer and the text.
+-- What the one-call check answers and writes, by the length of the buffer and the text.
 use Prim.Native.Nat.{ℕ, ◌<◌, ◌≤◌}
 use mathlib.Core.Path.{◌≡◌, refl, sym, ap, ◌∙◌}
 use mathlib.Core.Logic.{◌≢◌, ◌⊎◌, inl, inr}
@@ -16,7 +16,7 @@ use Rattle.decision.specs.Verdict.{verdict_of}
 use Rattle.design.specs.Lines.{design_text}
 use Rattle.loader.specs.Load.{fault_of}
 use Rattle.checker.specs.OneCall.{refused_report, design_report, judged_of, answer_of, buffer_written}
-use Rattle.claims.specs.Contracts.{Checks}
+use Rattle.claims.specs.Contracted.{Checks}
 use Rattle.claims.proofs.Lists.{answered}
 use Rattle.claims.proofs.Kept.{Accepts}
 

@@ -24,7 +24,7 @@ use Rattle.desk.specs.Measure.{MeasureOf, refused_empty, on_loaded}
 use Rattle.desk.proofs.Measure.{refused_kept}
 use Rattle.measuring.specs.Measured as measuring
 use Rattle.stages.proofs.Judging.{loaded_free, loaded_fault}
-use Rattle.claims.specs.Contracts.{Loads, Makes}
+use Rattle.claims.specs.Contracted.{Loads, Makes}
 use Rattle.claims.specs.Outcomes.{Opens, TurnsDown, Refusals}
 use Rattle.claims.proofs.Kept.{load_at, advance_at, by_none}
 use Rattle.claims.proofs.Lists.{loaded_as, made_by, made_for, answered, written}

@@ -1,4 +1,4 @@
--- The pump table of 01 and its nine variants as texts: each is a design text, and the desk and the one_call check come to what 01 says
+-- The pump table of 01 and its nine variants as texts: each is a design text, and the desk and the one-call check come to what 01 says
 -- (`pump_reports`), from the criteria (the crate pump has the designs); the same of the tables with marks (`retry_reports`) and of those
 -- that may begin with an internal step (`first_step_reports`); and 01's own lines (`given_lines`) and those of examples/retry.txt
 -- (`retry_lines`). The two that are advanced by 5 are in PumpByFive.

@@ -22,7 +22,7 @@ use Rattle.desk.specs.declared.Desk.{Desk}
 use Rattle.stages.specs.Count.{stop_of, due_of}
 use Rattle.claims.specs.Calls.{Called, load, advance, Walked}
 use Rattle.claims.specs.Calls as calls
-use Rattle.claims.specs.Contracts.{Calls}
+use Rattle.claims.specs.Contracted.{Calls}
 use Rattle.claims.proofs.Divided.{Advanced, last_advance, Loaded, only_load, load_done, next_due}
 use Rattle.claims.specs.Pump.{text_for, Reports}
 use Rattle.claims.proofs.Pump.{pump_reports}

@@ -40,7 +40,7 @@ use Rattle.stages.proofs.Judging.{opened_stage, loaded_free, loaded_fault, decid
 use Rattle.claims.specs.Calls.{Called, load, advance, verdict, measure, NoLoad, LastLoad, here, before, AcceptedAs, Walked}
 use Rattle.claims.specs.Calls as calls
 use Rattle.claims.specs.Outcomes.{Named, acceptance, failure}
-use Rattle.claims.specs.Contracts.{Tells, Makes, Calls, new, then_load, then_advance, then_verdict, then_measure, then_drop}
+use Rattle.claims.specs.Contracted.{Tells, Makes, Calls, new, then_load, then_advance, then_verdict, then_measure, then_drop}
 use Rattle.claims.proofs.Lists.{loaded_as, made_by, earlier, apart, same_load, same_advance}
 use Rattle.claims.proofs.Kept.{Kept, empty, holds, kept, load_at, advance_at, by_none, tell_desk}
 

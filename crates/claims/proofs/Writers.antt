@@ -30,7 +30,7 @@ use Rattle.conversion.proofs.Result.{result_lines, result_design, result_free, r
 use Rattle.conversion.proofs.Verdict.{same_verdict}
 use Rattle.checker.specs.OneCall.{design_report, judged_of}
 use Rattle.checker.specs.OneCall as one_call
-use Rattle.claims.specs.Contracts.{Writes}
+use Rattle.claims.specs.Contracted.{Writes}
 use Rattle.claims.specs.Writers.{kind8_lines, WrittenResult, Writers}
 use Rattle.claims.proofs.Lists.{answered, written, writer_number, writer_length, writer_buffer}
 use Rattle.claims.proofs.OneCall.{judged_free}

@@ -1,7 +1,7 @@
 -- Lists of desk calls (01, "What demand 3 speaks of"): "any operations that take the desk and give it back (load, advance, verdict, drop),
 -- with any arguments and in any order, those turned down included"; since 02's order 4 also measure; accepted is, since order 6, said one
 -- way or the other. A list is given by its calls with their answers, the latest first. How a desk is handed from call to call is in
--- specs/Contracts, by the contracts of the methods themselves.
+-- specs/Contracted, by the contracts of the methods themselves.
 use Rattle.std.specs.Prelude.{ℕ, ◌+◌, ◌≢◌, List, [], ◌∷◌}
 use Rattle.verdicts.specs.declared.Acceptance.{Acceptance}
 use Rattle.answers.specs.declared.Done.{Done}

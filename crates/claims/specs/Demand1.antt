@@ -1,7 +1,7 @@
 -- Demand 1 (00): "Every design text that follows the column rules and fits the limits is loaded by an empty desk, and every check of it,
 -- walked to its end, gives acceptance or a named failure. Every other text, call or short report buffer is turned down with the number
 -- that our list gives it, the desk stays unchanged, and of the lent memory only the report may be written, where its buffer is long
--- enough." Calls are those of the functions' contracts (specs/Contracts); a measure's slice may be written too, where the call is done (02,
+-- enough." Calls are those of the functions' contracts (specs/Contracted); a measure's slice may be written too, where the call is done (02,
 -- order 4; specs/Measures). It holds: `claim1` in proofs/Demand1.
 use Rattle.std.specs.Prelude.{ℕ, ◌≤◌, ◌<◌, ◌≡◌, ◌≢◌, ◌⊎◌, List, length}
 use Rattle.verdicts.specs.declared.Acceptance.{Acceptance}
@@ -20,7 +20,7 @@ use Rattle.desk.specs.declared.AfterDrop.{AfterDrop}
 use Rattle.desk.specs.Desk.{empty_desk}
 use Rattle.claims.specs.Calls.{Called, Walked}
 use Rattle.conversion.specs.Result.{Way, TurnedDown}
-use Rattle.claims.specs.Contracts.{Loads, Tells, Makes, Drops, Checks, Writes, Calls, AsksNothing, Answered}
+use Rattle.claims.specs.Contracted.{Loads, Tells, Makes, Drops, Checks, Writes, Calls, AsksNothing, Answered}
 use Rattle.claims.specs.Outcomes.{Opens, Named, TurnsDown, Refusals}
 
 pub record Claim1 : Type 0 where

@@ -1,7 +1,7 @@
 -- Demand 2 (00), with ten criteria and two ways of acceptance (02, orders 5 and 6): "A check accepts exactly if all nine criteria .. hold
 -- ... Otherwise it reports a failed start, or else the lowest failing state, there the lowest criterion, then row, then sum value, however
 -- the walk was divided among calls." What verdict a design has to get is `Demand2` in criteria/specs/Verdict; here, that every check of a
--- design text comes to that one, by the functions' contracts (specs/Contracts). It holds: `claim2` in proofs/Demand2.
+-- design text comes to that one, by the functions' contracts (specs/Contracted). It holds: `claim2` in proofs/Demand2.
 use Rattle.std.specs.Prelude.{ℕ, ◌≤◌, min, ◌≡◌, ◌≢◌, List, ◌++◌, length, drop}
 use Rattle.writer.specs.Report as bytes
 use Rattle.criteria.specs.Design.{states}
@@ -17,7 +17,7 @@ use Rattle.stages.specs.Said.{said_verdict}
 use Rattle.stages.specs.Count.{stop_of, Due}
 use Rattle.checker.specs.OneCall.{design_report}
 use Rattle.claims.specs.Calls.{Called, Walked}
-use Rattle.claims.specs.Contracts.{Advances, Tells, Checks, Calls}
+use Rattle.claims.specs.Contracted.{Advances, Tells, Checks, Calls}
 
 -- of a text and a verdict: every check of it comes to that one
 pub record Comes (text : List ℕ) (v : Verdict) : Type 0 where
@@ -31,7 +31,7 @@ pub record Comes (text : List ℕ) (v : Verdict) : Type 0 where
       → n ≢ 0 → Advances desk n r → Due (design_text text) v m n r.answer r.desk.phase
   -- the answers counted m states, or as many as there are till the check is decided
   pub counts : {calls : List Called} {desk : Desk} {m k : ℕ} → Calls calls desk → Walked calls text m k → k ≡ min m (stop_of (design_text text) v)
-  -- the one_call check with a long enough buffer answers it and writes its report
+  -- the one-call check with a long enough buffer answers it and writes its report
   pub answers : {report after : List ℕ} {r : ℕ} → Checks text report r after → 31 ≤ length report → r ≡ (design_report v).verdict
   pub reports : {report after : List ℕ} {r : ℕ} → Checks text report r after → 31 ≤ length report
       → after ≡ bytes.report_bytes (design_report v) ++ drop 31 report

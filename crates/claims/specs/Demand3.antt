@@ -1,6 +1,6 @@
 -- Demand 3 (00; 01, "What demand 3 speaks of"; 02, orders 1 and 6): "a single claim about every such list and every such check". What is
 -- promised of a design is `Demand3` in criteria/specs/Bisimilar; here, that it is so of every design text that is accepted anywhere, by the
--- functions' contracts (specs/Contracts), that every good text is accepted, and that a text without marks means what it would if there were
+-- functions' contracts (specs/Contracted), that every good text is accepted, and that a text without marks means what it would if there were
 -- none. It holds: `claim3` in proofs/Demand3.
 use Rattle.std.specs.Prelude.{ℕ, ◌≤◌, ◌≡◌, ◌↔◌, List, length}
 use Rattle.foundation.specs.Walk.{total}
@@ -16,7 +16,7 @@ use Rattle.design.specs.Lines.{count_of, design_text}
 use Rattle.design.specs.Faults.{DesignText}
 use Rattle.desk.specs.declared.Desk.{Desk}
 use Rattle.claims.specs.Calls.{Called, AcceptedAs, Walked, LoadThen}
-use Rattle.claims.specs.Contracts.{Checks, Calls}
+use Rattle.claims.specs.Contracted.{Checks, Calls}
 use Rattle.claims.specs.Outcomes.{Accepted}
 
 -- a list of calls that loads the text on a new desk and then advances by these numbers, and accepts it in this way

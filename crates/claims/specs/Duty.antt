@@ -1,5 +1,5 @@
 -- A design text's specification compared with a duty's: what is returned says whether both are design texts, and whether their lines of kinds 2
--- and 4 are equal. Calls are by the function's own contract, as in specs/Contracts. It holds: `compares` in proofs/Duty.
+-- and 4 are equal. Calls are by the function's own contract, as in specs/Contracted. It holds: `compares` in proofs/Duty.
 use Rattle.std.specs.Prelude.{ℕ, ◌≡◌, ◌↔◌, List}
 use Rattle.std.specs.Borrow.{Bor}
 use contract.Lifetimes.{Lfts}

@@ -1,6 +1,6 @@
 -- The desk for C: each call on lent memory is a call of the desk that stands there, with that call's answer, and leaves the desk that it leaves.
 -- So calls on one memory, which nothing else writes to in between, are a list of desk calls, and all that is said of these holds of them. Calls
--- are by the functions' own contracts, as in specs/Contracts. It holds: `lent` in proofs/Lent.
+-- are by the functions' own contracts, as in specs/Contracted. It holds: `lent` in proofs/Lent.
 use Rattle.std.specs.Prelude.{ℕ, ◌≡◌, List}
 use Rattle.std.specs.Borrow.{Bor}
 use contract.Lifetimes.{Lfts}
@@ -17,7 +17,7 @@ use Rattle.lent_desk.proofs.load_desk.Reads as load_reads
 use Rattle.lent_desk.proofs.advance_desk.Reads as advance_reads
 use Rattle.lent_desk.proofs.tell_desk.Reads as tell_reads
 use Rattle.lent_desk.proofs.drop_desk.Reads as drop_reads
-use Rattle.claims.specs.Contracts.{News, Loads, Advances, Tells, Drops}
+use Rattle.claims.specs.Contracted.{News, Loads, Advances, Tells, Drops}
 
 -- what is lent: fields, starts and counts of lines, plan, next state, phase
 pub record Memory : Type 0 where

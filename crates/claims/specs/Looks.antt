@@ -1,5 +1,5 @@
 -- Looking at a design: what is told of a text that is held is what its design says. Calls are by the functions' own contracts, as in
--- specs/Contracts; what is told of a term, a state or a row is in looking/specs/Told. A state is lent as eight values, 0 after the last
+-- specs/Contracted; what is told of a term, a state or a row is in looking/specs/Told. A state is lent as eight values, 0 after the last
 -- parameter's. It holds: `looks` in proofs/Looks.
 use Rattle.std.specs.Prelude.{ℕ, ◌<◌, ◌≤◌, ◌≡◌, ◌≢◌, ◌↔◌, List, length, drop}
 use Rattle.std.specs.Borrow.{Bor}

@@ -3,7 +3,7 @@
 -- state on one. Where the slice is filled, a measure meeting criterion 5 exists exactly if no loop is named, a measure here being any
 -- 16-bit number for each state; the one written is nowhere larger than any that does. Answers: after 11, 17 for a slice shorter than the
 -- number of states, then 18 where criterion 3 fails in some state." "Order 4's 18 covers criterion 10 too, the measure apart" (order 5).
--- Runs, loops and measures are in criteria/specs/Measure; calls are those of the functions' contracts (specs/Contracts). 11 is
+-- Runs, loops and measures are in criteria/specs/Measure; calls are those of the functions' contracts (specs/Contracted). 11 is
 -- `measure_empty` of `Refusals`, and 1 to 7 of a text `by_measuring` of `TurnsDown`, in specs/Outcomes. It holds: `measures` in
 -- proofs/Measures.
 use Rattle.std.specs.Prelude.{ℕ, ◌≤◌, ◌<◌, ◌≡◌, ◌≢◌, ◌⊎◌, ◌↔◌, List, length}
@@ -19,7 +19,7 @@ use Rattle.measuring.specs.Measured.{result_of, number_told}
 use Rattle.desk.specs.declared.Desk.{Desk}
 use Rattle.desk.specs.declared.AfterMeasure.{AfterMeasure}
 use Rattle.claims.specs.Calls.{Called, Walked}
-use Rattle.claims.specs.Contracts.{Makes, MakesFor, Calls}
+use Rattle.claims.specs.Contracted.{Makes, MakesFor, Calls}
 
 -- a slice that holds a measure of the design
 pub record Fills (d : Design) (slice : List ℕ) : Type 0 where

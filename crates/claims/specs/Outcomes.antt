@@ -21,7 +21,7 @@ use Rattle.desk.specs.Desk.{HoldsText, not_loaded, not_advanced}
 use Rattle.answers.specs.Answers.{Decided, done_number}
 use Rattle.checker.specs.OneCall.{refused_report}
 use Rattle.claims.specs.Calls.{Called, AcceptedIn}
-use Rattle.claims.specs.Contracts.{Loads, Advances, Tells, Makes, Drops, Checks, MakesFor, Calls}
+use Rattle.claims.specs.Contracted.{Loads, Advances, Tells, Makes, Drops, Checks, MakesFor, Calls}
 
 -- a load that is done: it returns 0, and the desk is open, at state 0, and holds the text's lines
 pub record Opens (text : List ℕ) (r : AfterLoad) : Type 0 where
@@ -63,7 +63,7 @@ pub record Refusals (desk : Desk) : Type 0 where
   -- "before the input's": 8. "Advance by 0 states." is given on an open desk
   pub advance_none : {r : AfterAdvance} → Advances desk 0 r → desk.phase ≡ phase.Open → r ≡ not_advanced 8 desk
 
--- "every design text that the one_call check accepts, or that is accepted anywhere in any list of desk calls from a new desk"; 02, order 6:
+-- "every design text that the one-call check accepts, or that is accepted anywhere in any list of desk calls from a new desk"; 02, order 6:
 -- "demand 3 means both" ways, verdict 0 and verdict 3
 pub data Accepted (text : List ℕ) : Type 0 where
   by_desk : {calls : List Called} {desk : Desk} → Calls calls desk → AcceptedIn calls text → Accepted text

@@ -9,7 +9,7 @@ use Rattle.pump.specs.Table.{Case}
 use Rattle.design.specs.Lines.{design_text}
 use Rattle.design.specs.Faults.{DesignText}
 use Rattle.design.specs.Print.{print_lines}
-use Rattle.claims.specs.Contracts.{Checks}
+use Rattle.claims.specs.Contracted.{Checks}
 use Rattle.claims.specs.Demand2.{Comes}
 
 -- the table as a text
@@ -21,7 +21,7 @@ pub record Reports (c : Case) : Type 0 where
   -- the desk, by the verdict on the table
   pub says_table : design_text (text_for c) ≡ c.table
   pub comes : Comes (text_for c) (verdict_of c.table)
-  -- the one_call check, by the case's report
+  -- the one-call check, by the case's report
   pub answers : {report after : List ℕ} {r : ℕ} → Checks (text_for c) report r after → 31 ≤ length report → r ≡ c.says.verdict
   pub reports : {report after : List ℕ} {r : ℕ} → Checks (text_for c) report r after → 31 ≤ length report
       → after ≡ bytes.report_bytes c.says ++ drop 31 report

@@ -1,13 +1,13 @@
 -- Unmarked texts to marked and back (02, order 2): "A writer turns a text without kind 8 into one with it, each formula being `10`, and back. A
 -- text already of the wanted sort is copied. Unmarked to marked to unmarked restores every byte, and both texts get the same report." Calls
--- are those of the functions' contracts (specs/Contracts); what is written for which design, and which number is due, is in
+-- are those of the functions' contracts (specs/Contracted); what is written for which design, and which number is due, is in
 -- conversion/specs/Result. It holds: `writers` in proofs/Writers.
 use Rattle.std.specs.Prelude.{ℕ, ◌≤◌, ◌≡◌, ◌↔◌, List, length, take, drop}
 use Rattle.reader.specs.Text.{fields_by_line}
 use Rattle.design.specs.Lines.{count_of, design_text}
 use Rattle.design.specs.Faults.{DesignText}
 use Rattle.conversion.specs.Result.{Way, there, back, converted, OtherFormula, Refused}
-use Rattle.claims.specs.Contracts.{Checks, Writes}
+use Rattle.claims.specs.Contracted.{Checks, Writes}
 
 -- how many kind 8 lines the wanted sort has
 abbrev pub kind8_lines : Way → ℕ

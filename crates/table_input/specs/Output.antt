@@ -1,4 +1,4 @@
--- What the one_call check as a program writes on standard output (01: "A program does the same from standard input to standard
+-- What the one-call check as a program writes on standard output (01: "A program does the same from standard input to standard
 -- output"), from what was read into a room and how reading ended.
 use Rattle.std.specs.Prelude.{ℕ, ◌≡◌, List, [], length, take}
 use Rattle.writer.specs.Report.{report_bytes}

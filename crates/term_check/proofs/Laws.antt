@@ -104,7 +104,7 @@ module _ {A B C : Type 0} (p : Reader A) (q : Reader B) (r : Reader C) (f : A �
             (good_of p f l ea ak, took_of p f l ea ak, ← em, good_of q g m eb bj, took_of q g m eb bj, ← em₂, good_of r h m₂ ec ci, took_of r h m₂ ec ci)
             (ap Next (omega arith))
 
--- A well_formed term takes no more fields than a part has, so that what follows it is read from the part after them.
+-- A well-formed term takes no more fields than a part has, so that what follows it is read from the part after them.
 
 module _ (n : ℕ) (row : Bool) (d : ℕ) (part : List ℕ) {a : Checked} {k : ℕ} where
   taken_v : a ≡ checked_v n row (read_v d (fields_of part)) → a ≡ Next k → k ≤ length (fields_of part)

@@ -1,8 +1,8 @@
 -- What it means that the check passed, for demands 1 and 2 alike:
---   passed   where the check answered Next k for a part, a well_formed tree within the depth is read from the part's fields; it took k of
+--   passed   where the check answered Next k for a part, a well-formed tree within the depth is read from the part's fields; it took k of
 --            them, and they are what it is printed as; and it is read so wherever these fields stand, whatever follows them (in the
 --            desk's copy too, where the evaluator reads it);
---   passes   a part that begins with a well_formed term within the depth passes.
+--   passes   a part that begins with a well-formed term within the depth passes.
 -- Each stands once for values (-v) and once for formulas (-f).
 use mathlib.Core.Path.{◌≡◌, refl, ap, ◌∙◌}
 use mathlib.Core.Bool.{Bool, true}

@@ -1,4 +1,4 @@
--- What the check answers for a reading of a part's fields, with n parameters, in a row or not: the fields that a well_formed term took, or
+-- What the check answers for a reading of a part's fields, with n parameters, in a row or not: the fields that a well-formed term took, or
 -- Wrong (01, fault 6: "A term with a wrong mark, a parameter that doesn't exist, a sum value outside a row, depth over 32, or a
 -- line that ends early").
 --

@@ -1,4 +1,4 @@
--- A reading is never deeper than the depth it was asked for, and a well_formed term has a depth of at least 1.
+-- A reading is never deeper than the depth it was asked for, and a well-formed term has a depth of at least 1.
 use Rattle.std.proofs.Common.{◌≡◌, ℕ, zero, suc, ◌<◌, ◌≤◌, Bool, true, List, [], ◌∷◌, drop, arith}
 use mathlib.Core.Bool.{false≢true}
 use Rattle.terms.specs.Tree as tree
@@ -51,7 +51,7 @@ mutual
   within_f (suc d) (m ∷ l) =
       deeper_f d (λ x. read_v d x) (λ x. read_f d x) (λ x. within_v d x) (λ x. within_f d x) (formula_mark m) l
 
--- no well_formed term fits in depth 0
+-- no well-formed term fits in depth 0
 module _ (n : ℕ) (row : Bool) where
   pub positive_v : (t : Value) → ok_v t n row ≡ true → 0 < depth_v t
   unfolding ok_v depth_v

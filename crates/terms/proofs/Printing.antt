@@ -1,4 +1,4 @@
--- Reading and printing undo each other, on well_formed terms:
+-- Reading and printing undo each other, on well-formed terms:
 --   print-read   what is printed is read back, with nothing left over and whatever follows;
 --   read-print   what is read was printed so;
 --   read-more    a reading does not look past its term;

@@ -47,7 +47,7 @@ pub data Makes : Desk → List ℕ → AfterMeasure → List ℕ → Type 0 wher
 abbrev pub Drops : Desk → AfterDrop → Type 0
 Drops desk r = drop_reads.Post tt (desk, tt) r (desk, tt)
 
--- a one_call check of this text with this report buffer answers so and leaves the buffer so
+-- a one-call check of this text with this report buffer answers so and leaves the buffer so
 pub data Checks : List ℕ → List ℕ → ℕ → List ℕ → Type 0 where
   checks : (κs : Lfts 2) (text report after : Bor (List ℕ)) (r : ℕ) → check_reads.Post κs (text, (report, tt)) r (text, (after, tt))
       → Checks text.now report.now r after.now
