@@ -1,4 +1,4 @@
--- `put_start` has the one_call check write its report into all of the output.
+-- `put_start` has the one-call check write its report into all of the output.
 use Rattle.table_input.proofs.Output as output
 use Rattle.table_input.proofs.put_start.Goals as goal
 
