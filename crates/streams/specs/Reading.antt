@@ -1,12 +1,13 @@
 -- What is promised of a read: that what it gives is within the room; and of a reader whose bytes are known, that they are those, and an end
 -- that is told is the end. Of other readers that is the operating system's word.
-use Rattle.std.specs.Prelude.{ℕ, ◌+◌, ◌≤◌, ◌<◌, List, get_or, take}
+use Rattle.std.specs.Prelude.{ℕ, ◌+◌, ◌-◌, ◌≤◌, ◌<◌, List, [], ◌∷◌, get_or, take, drop}
 use Rattle.std.specs.declared.option.Option.{Option}
-use Rattle.std.specs.Io.KnownBytes.{Keeps, Consumes, IsAtEnd}
+use Rattle.std.specs.Io.KnownBytes.{Keeps, Consumes, IsAtEnd, prepend_known}
 use Rattle.streams.specs.declared.Read.{Read}
 use Rattle.streams.specs.declared.Read.TheVariants as read
 use Rattle.streams.specs.declared.Input.{Input}
 use Rattle.streams.specs.declared.Input.TheVariants as input
+use Rattle.streams.specs.declared.Byte.{Byte}
 use Rattle.streams.specs.declared.Byte.TheVariants as byte
 use Rattle.streams.specs.declared.Ahead.{Ahead}
 use Rattle.streams.specs.declared.NextByte.{NextByte}
@@ -42,3 +43,13 @@ abbrev pub Given : Option (List ℕ) → Option (List ℕ) → List ℕ → Inpu
 Given old new room (input.Ended n) = Consumes old new (take n room) × IsAtEnd new
 Given old new room input.Full = Consumes old new room
 Given old new room (input.Failed e) = Unit {0}
+
+-- the bytes ahead, and after them those that the reader has left
+abbrev pub left_of : Option (List ℕ) → List ℕ → Ahead → Option (List ℕ)
+left_of remaining room a = prepend_known (take (a.end - a.at) (drop a.at room)) remaining
+
+-- the byte that was given is the first of those that were left; at an end that is told none are left; a read that failed takes none
+abbrev pub GaveByte : Option (List ℕ) → Option (List ℕ) → Byte → Type 0
+GaveByte old new (byte.Is b) = Consumes old new (b ∷ [])
+GaveByte old new byte.End = Keeps old new × IsAtEnd new
+GaveByte old new (byte.Failed e) = Keeps old new

@@ -5,7 +5,7 @@
 
 ghost use Rattle.std.specs.Prelude.{◌≤◌, ◌≡◌, length, IfOk, OnOk};
 ghost use Rattle.std.specs.Io.KnownBytes.{Appends, WriteAppends};
-ghost use Rattle.streams.specs.Reading.{Some, Within, IsAhead, next_of, Gave, Given};
+ghost use Rattle.streams.specs.Reading.{Some, Within, IsAhead, next_of, Gave, Given, left_of, GaveByte};
 
 use std::io;
 use std::io::{Cursor, ErrorKind, Write};
@@ -108,6 +108,9 @@ pub fn read_some<R: io::Read>(reader: &mut R, room: &mut [u8]) -> Read
 pub fn next_byte<R: io::Read>(reader: &mut R, room: &mut [u8; BLOCK], ahead: Ahead) -> NextByte
     ensures value { IsAhead ahead → result ≡ next_of room.old ahead }
     ensures room_unchanged { IsAhead ahead → room.new ≡ room.old }
+    ensures within { result.ahead.end ≤ 4096 }
+    ensures bytes { ahead.end ≤ 4096 → GaveByte (left_of (R.remaining reader.old) room.old ahead)
+        (left_of (R.remaining reader.new) room.new result.ahead) result.byte }
 {
     let at = ahead.at;
     let end = ahead.end;
@@ -124,7 +127,10 @@ pub fn next_byte<R: io::Read>(reader: &mut R, room: &mut [u8; BLOCK], ahead: Ahe
 }
 
 // The next byte of what one read gives.
-fn read_next<R: io::Read>(reader: &mut R, room: &mut [u8; BLOCK]) -> NextByte {
+fn read_next<R: io::Read>(reader: &mut R, room: &mut [u8; BLOCK]) -> NextByte
+    ensures within { result.ahead.end ≤ 4096 }
+    ensures bytes { GaveByte (R.remaining reader.old) (left_of (R.remaining reader.new) room.new result.ahead) result.byte }
+{
     let none = Ahead { at: 0, end: 0 };
     let read = read_some(reader, room);
     match read {
