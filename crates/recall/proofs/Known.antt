@@ -29,7 +29,7 @@ use Rattle.row_plan.specs.RowPlan.{row_plan_at, risk_at}
 use Rattle.plan.specs.Plan.{row_plan_of}
 use Rattle.plan.proofs.Held.{row_as_is, row_line_lem, row_by_lem, row_is}
 use Rattle.plan.proofs.Planned.{impl_row_plan}
-use Rattle.state_passes.specs.Passes.{seen, row_in, impl_in, reply_in, spec_in}
+use Rattle.state_passes.specs.Passes.{seen, row_in, impl_between, reply_in, spec_between}
 use Rattle.state_passes.specs.declared.Seen.{Seen}
 use Rattle.state_passes.proofs.Decided.{on_guarded, row_seen, row_replied, seen_holds, seen_quiet}
 use Rattle.watched.specs.Watched.{all_of, map_reads, enabling, watched, reply_watched}
@@ -107,7 +107,7 @@ module _ (f s : List ℕ) (h : Shape) (p sets v t : List ℕ) (task : Task f s h
 
   -- what is seen of one row is what is seen of it
   sight : seen_in f s h p i v t ≡ seen (keeps_b && true) ((keeps_b && quiet_b) && true)
-  unfolding impl_in all_in_range
+  unfolding impl_between all_in_range
   sight = rw (one, row_sight, seen_holds keeps_b quiet_b, seen_quiet keeps_b quiet_b)
 
   -- what is known from a look, at v and from there on
@@ -157,8 +157,8 @@ module _ (f s : List ℕ) (h : Shape) (p sets v t : List ℕ) (task : Task f s h
   replied_on i k x xa holds a = held.replied_row f s h task.fits v x task.state xa i a k
 
   module _ (et : t ≡ mapped_in f s h v) (i : ℕ) (l : i < h.specification.rows.count) where
-    pub reply_looked : spec_in f s h p i (i + 1) v t ≡ true → Replied f s h i v
-    unfolding mapped_in spec_in all_in_range
+    pub reply_looked : spec_between f s h p i (i + 1) v t ≡ true → Replied f s h i v
+    unfolding mapped_in spec_between all_in_range
     reply_looked z =
         ap (λ (q : Row). all_in_range (λ e. enabled_b q (mapped (design_at f s h) v) e ⇒ enabled_b (partner (design_at f s h).impl q.action) v e) q.span 0) (row_is f s h.specification i l)
         ∙ sym (row_replied f s h task.fits v i l) ∙ rw (← et, ← task.planned) y

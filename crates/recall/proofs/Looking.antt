@@ -16,7 +16,7 @@ use Rattle.conjuncts.specs.Conjuncts.{guard_in}
 use Rattle.conjuncts.specs.declared.Guarded.{Guarded}
 use Rattle.row_plan.specs.RowPlan.{row_plan_at}
 use Rattle.row_plan.specs.declared.RowPlan.{RowPlan}
-use Rattle.state_passes.specs.Passes.{impl_in, spec_in}
+use Rattle.state_passes.specs.Passes.{impl_between, spec_between}
 use Rattle.state_passes.specs.declared.Seen.{Seen}
 use Rattle.reads.specs.Reads.{differ}
 use Rattle.recall.specs.Recall.{since, idle_in, look_inside, loud_of, noted_in, row_passes_in, reply_noted_in, reply_passes_in}
@@ -46,7 +46,7 @@ module _ (f s p sets v t : List ℕ) (h : Shape) (i : ℕ) (b : Bool) (eb : b �
   unfolding look_inside
   look_idle y = rw (← eb, y)
 
-  pub look_seen : (m : ℕ) (r : Seen) → b ≡ false → m ≡ measure_in f s h v → r ≡ impl_in f s h p i (i + 1) v t m
+  pub look_seen : (m : ℕ) (r : Seen) → b ≡ false → m ≡ measure_in f s h v → r ≡ impl_between f s h p i (i + 1) v t m
       → record { holds = r.holds; quiet = r.quiet; watch = get_or sets (32 + i) 0 } ≡ look_inside f s h p sets i v t
   unfolding look_inside
   look_seen m r y em er = rw (← eb, y, ← em, er)
@@ -91,7 +91,7 @@ module _ (f s p sets v t watch : List ℕ) (h : Shape) (changed i : ℕ) (quiet 
     unfolding reply_noted_in
     reply_forgotten z = rw (ne_eqb (bit_and (get_or watch (32 + i) 0) changed) 0 n, not-true quiet z)
 
-    pub reply_seen : (b : Bool) → not quiet ≡ false → b ≡ spec_in f s h p i (i + 1) v t → b ≡ reply_passes_in f s h p changed quiet i v t watch
+    pub reply_seen : (b : Bool) → not quiet ≡ false → b ≡ spec_between f s h p i (i + 1) v t → b ≡ reply_passes_in f s h p changed quiet i v t watch
     unfolding reply_passes_in
     reply_seen b z eb = rw (ne_eqb (bit_and (get_or watch (32 + i) 0) changed) 0 n, not-false quiet z, eb)
 

@@ -20,7 +20,7 @@ use Rattle.design.specs.Loaded.{design_at}
 use Rattle.steps.specs.Arrays.{below_in, mapped_in}
 use Rattle.steps.proofs.Arrays.{mapped_is}
 use Rattle.steps.proofs.States as steps
-use Rattle.state_passes.specs.Passes.{spec_in}
+use Rattle.state_passes.specs.Passes.{spec_between}
 use Rattle.recall.specs.Recall.{When, since, Task, Known, Replied, RowIs, MappedIs, RowKnown, ReplyKnown, RowsCarried, RepliesCarried, MappedCarried, look_inside, loud_of, noted_in, row_passes_in, OneLoud, RowsTo, reply_noted_in, reply_passes_in, RepliesTo, MappedTo, Recalls, Forgets}
 use Rattle.recall.specs.declared.Look.{Look}
 use Rattle.recall.proofs.Known.{looked, replied_on, reply_looked, mapped_on}
@@ -179,7 +179,7 @@ module _ (f s p sets v t before watch after : List ℕ) (h : Shape) (changed i :
   unfolding reply_noted_in reply_passes_in
   replied = go (eqb (bit_and (get_or watch (32 + i) 0) changed) 0) refl quiet refl (sym eb ∙ not-false b ok) ea
     where
-      go : (z : Bool) → eqb (bit_and (get_or watch (32 + i) 0) changed) 0 ≡ z → (q : Bool) → quiet ≡ q → cond z true (cond q (spec_in f s h p i (i + 1) v t) true) ≡ true
+      go : (z : Bool) → eqb (bit_and (get_or watch (32 + i) 0) changed) 0 ≡ z → (q : Bool) → quiet ≡ q → cond z true (cond q (spec_between f s h p i (i + 1) v t) true) ≡ true
           → after ≡ cond z watch (cond q (set watch (32 + i) (get_or sets (64 + i) 0)) (set watch (32 + i) 256)) → ReplyTurned
       go true a q eq y e =
           let w = inv.ahead i (omega arith) few in

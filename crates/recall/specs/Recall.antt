@@ -20,7 +20,7 @@ use Rattle.conjuncts.specs.declared.Guarded.{Guarded}
 use Rattle.row_plan.specs.RowPlan.{row_plan_at}
 use Rattle.row_plan.specs.declared.RowPlan.{RowPlan}
 use Rattle.plan.specs.Plan.{plan_in, sure_in}
-use Rattle.state_passes.specs.Passes.{impl_in, spec_in}
+use Rattle.state_passes.specs.Passes.{impl_between, spec_between}
 use Rattle.state_passes.specs.declared.Seen.{Seen}
 use Rattle.reads.specs.Reads.{differ}
 use Rattle.watched.specs.Watched.{all_of, map_reads, enabling, watched, reply_watched}
@@ -139,7 +139,7 @@ idle_in f s h p i v =
 
 -- what is seen of it
 abbrev pub seen_in : List ℕ → List ℕ → Shape → List ℕ → ℕ → List ℕ → List ℕ → Seen
-seen_in f s h p i v t = impl_in f s h p i (i + 1) v t (measure_in f s h v)
+seen_in f s h p i v t = impl_between f s h p i (i + 1) v t (measure_in f s h v)
 
 -- a row that is not enabled keeps its criteria until what enables it changes
 unfoldable pub look_inside : List ℕ → List ℕ → Shape → List ℕ → List ℕ → ℕ → List ℕ → List ℕ → Look
@@ -186,7 +186,7 @@ reply_noted_in sets changed quiet i watch =
 
 unfoldable pub reply_passes_in : List ℕ → List ℕ → Shape → List ℕ → ℕ → Bool → ℕ → List ℕ → List ℕ → List ℕ → Bool
 reply_passes_in f s h p changed quiet i v t watch =
-    cond (eqb (bit_and (get_or watch (32 + i) 0) changed) 0) true (cond quiet (spec_in f s h p i (i + 1) v t) true)
+    cond (eqb (bit_and (get_or watch (32 + i) 0) changed) 0) true (cond quiet (spec_between f s h p i (i + 1) v t) true)
 
 -- the rows before row i are replied to at v, if it is a focus point, and noted; the others are as they were
 pub record RepliesTo (f s : List ℕ) (h : Shape) (before v watch : List ℕ) (i : ℕ) (quiet : Bool) : Type 0 where

@@ -29,7 +29,7 @@ use Rattle.marks.specs.Marks.{place_from, mark_holds}
 use Rattle.row_plan.specs.RowPlan.{row_plan_at, risk_at}
 use Rattle.row_plan.specs.declared.RowPlan.{RowPlan}
 use Rattle.step_passes.specs.Steps.{internal_step, visible_step}
-use Rattle.state_passes.specs.Passes.{row_for, left, on_at, known_in, mark_at, known_mark, step_inside, seen, visible_look, visible_looks, internal_look, internal_looks, looks_in, row_in, impl_in, replied_in, reply_looks, reply_in, spec_in, passes_in}
+use Rattle.state_passes.specs.Passes.{row_for, left, on_at, known_in, mark_at, known_mark, step_inside, seen, visible_look, visible_looks, internal_look, internal_looks, looks_in, row_in, impl_between, replied_in, reply_looks, reply_in, spec_between, passes_in}
 use Rattle.state_passes.specs.declared.Seen.{Seen}
 use Rattle.state_passes.specs.declared.Row.{Row}
 use Rattle.state_passes.specs.declared.First.{First}
@@ -253,13 +253,13 @@ module _ (f s p v t : List ℕ) (h : Shape) (m first end : ℕ) where
   seen_row i = row_in f s h (i + 1) (row_plan_at p i) (risk_at p 64) v t m
 
   abbrev all_rows_seen : Seen
-  all_rows_seen = impl_in f s h p first end v t m
+  all_rows_seen = impl_between f s h p first end v t m
 
   unfoldable pub impl_left : Bool → ℕ → Seen
   impl_left a i = seen_left seen_row end all_rows_seen a i
 
   pub impl_begin : impl_left true first ≡ all_rows_seen
-  unfolding impl_left impl_in
+  unfolding impl_left impl_between
   impl_begin = refl
 
   module _ (a : Bool) (i : ℕ) (r : Seen) (l : i < end) (is : r ≡ row_in f s h (i + 1) (row_plan_at p i) (risk_at p 64) v t m) (inv : impl_left a i ≡ all_rows_seen) where
@@ -349,20 +349,20 @@ module _ (f s p v t : List ℕ) (h : Shape) (first end : ℕ) where
   unfoldable pub spec_left : ℕ → Bool
   spec_left i = all_in_range replied (end - i) i
 
-  pub spec_begin : spec_left first ≡ spec_in f s h p first end v t
-  unfolding spec_left spec_in
+  pub spec_begin : spec_left first ≡ spec_between f s h p first end v t
+  unfolding spec_left spec_between
   spec_begin = refl
 
-  module _ (i : ℕ) (b : Bool) (l : i < end) (eb : b ≡ reply_in f s h (i + 1) (row_plan_at p (32 + i)) v t) (inv : spec_left i ≡ spec_in f s h p first end v t) where
-    pub spec_turn : not b ≡ false → spec_left (i + 1) ≡ spec_in f s h p first end v t
+  module _ (i : ℕ) (b : Bool) (l : i < end) (eb : b ≡ reply_in f s h (i + 1) (row_plan_at p (32 + i)) v t) (inv : spec_left i ≡ spec_between f s h p first end v t) where
+    pub spec_turn : not b ≡ false → spec_left (i + 1) ≡ spec_between f s h p first end v t
     unfolding spec_left
     spec_turn ok = sym (all_turn replied end i l (sym eb ∙ not-false b ok)) ∙ inv
 
-    pub spec_fail : not b ≡ true → false ≡ spec_in f s h p first end v t
+    pub spec_fail : not b ≡ true → false ≡ spec_between f s h p first end v t
     unfolding spec_left
     spec_fail ok = sym (all_fail replied end i l (sym eb ∙ not-true b ok)) ∙ inv
 
-  pub spec_end : (i : ℕ) → end ≤ i → spec_left i ≡ spec_in f s h p first end v t → true ≡ spec_in f s h p first end v t
+  pub spec_end : (i : ℕ) → end ≤ i → spec_left i ≡ spec_between f s h p first end v t → true ≡ spec_between f s h p first end v t
   unfolding spec_left
   spec_end i l inv = sym (all_end replied end i l) ∙ inv
 
@@ -373,7 +373,7 @@ module _ (f s p v t : List ℕ) (h : Shape) (two : Bool) (said : two ≡ below_i
   unfolding passes_in
   pass_two y = rw (← said, not-true two y)
 
-  module _ (m : ℕ) (r : Seen) (ok : not two ≡ false) (em : m ≡ measure_in f s h v) (er : r ≡ impl_in f s h p 0 h.implementation.rows.count v t m) where
+  module _ (m : ℕ) (r : Seen) (ok : not two ≡ false) (em : m ≡ measure_in f s h v) (er : r ≡ impl_between f s h p 0 h.implementation.rows.count v t m) where
     pub pass_rows : not r.holds ≡ true → false ≡ passes_in f s h p v t
     unfolding passes_in
     pass_rows y = rw (← said, not-false two ok, ← em, ← er, not-true r.holds y)
@@ -382,6 +382,6 @@ module _ (f s p v t : List ℕ) (h : Shape) (two : Bool) (said : two ≡ below_i
     unfolding passes_in
     pass_busy y q = rw (← said, not-false two ok, ← em, ← er, not-false r.holds y, not-true r.quiet q)
 
-    pub pass_quiet : (b : Bool) → not r.holds ≡ false → not r.quiet ≡ false → b ≡ spec_in f s h p 0 h.specification.rows.count v t → b ≡ passes_in f s h p v t
+    pub pass_quiet : (b : Bool) → not r.holds ≡ false → not r.quiet ≡ false → b ≡ spec_between f s h p 0 h.specification.rows.count v t → b ≡ passes_in f s h p v t
     unfolding passes_in
     pass_quiet b y q eb = eb ∙ rw (← said, not-false two ok, ← em, ← er, not-false r.holds y, not-false r.quiet q)

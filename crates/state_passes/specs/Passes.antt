@@ -108,10 +108,14 @@ row_in f s h k e risk v t m =
     cond front.holds (looks_in f s h (row_for front e (place_from s h e.mark.at) risk) v t m) (seen true true)
 
 -- those after `first` others and before `end`
-unfoldable pub impl_in : List ℕ → List ℕ → Shape → List ℕ → ℕ → ℕ → List ℕ → List ℕ → ℕ → Seen
-impl_in f s h p first end v t m =
+unfoldable pub impl_between : List ℕ → List ℕ → Shape → List ℕ → ℕ → ℕ → List ℕ → List ℕ → ℕ → Seen
+impl_between f s h p first end v t m =
     let row : ℕ → Seen = λ i. row_in f s h (i + 1) (row_plan_at p i) (risk_at p 64) v t m in
     seen (all_in_range (λ i. (row i).holds) (end - first) first) (all_in_range (λ i. (row i).quiet) (end - first) first)
+
+-- of all rows
+abbrev pub impl_in : List ℕ → List ℕ → Shape → List ℕ → List ℕ → List ℕ → ℕ → Seen
+impl_in f s h p v t m = impl_between f s h p 0 h.implementation.rows.count v t m
 
 -- ---- the rows of the specification
 
@@ -127,12 +131,16 @@ reply_in f s h k e v t =
     cond front.holds (reply_looks f s h.implementation (row_for front e 0 0) v t) true
 
 -- those after `first` others and before `end`
-unfoldable pub spec_in : List ℕ → List ℕ → Shape → List ℕ → ℕ → ℕ → List ℕ → List ℕ → Bool
-spec_in f s h p first end v t = all_in_range (λ i. reply_in f s h (i + 1) (row_plan_at p (32 + i)) v t) (end - first) first
+unfoldable pub spec_between : List ℕ → List ℕ → Shape → List ℕ → ℕ → ℕ → List ℕ → List ℕ → Bool
+spec_between f s h p first end v t = all_in_range (λ i. reply_in f s h (i + 1) (row_plan_at p (32 + i)) v t) (end - first) first
+
+-- of all rows
+abbrev pub spec_in : List ℕ → List ℕ → Shape → List ℕ → List ℕ → List ℕ → Bool
+spec_in f s h p v t = spec_between f s h p 0 h.specification.rows.count v t
 
 -- ---- the state
 
 unfoldable pub passes_in : List ℕ → List ℕ → Shape → List ℕ → List ℕ → List ℕ → Bool
 passes_in f s h p v t =
-    let rows = impl_in f s h p 0 h.implementation.rows.count v t (measure_in f s h v) in
-    below_in f s h.specification t && (rows.holds && (rows.quiet ⇒ spec_in f s h p 0 h.specification.rows.count v t))
+    let rows = impl_in f s h p v t (measure_in f s h v) in
+    below_in f s h.specification t && (rows.holds && (rows.quiet ⇒ spec_in f s h p v t))

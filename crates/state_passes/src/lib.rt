@@ -8,7 +8,7 @@
 ghost use Rattle.std.specs.Prelude.{◌≡◌, ◌+◌, ◌<◌, ◌≤◌};
 ghost use Rattle.layout.specs.Sizes.{Fits};
 ghost use Rattle.row_plan.specs.RowPlan.{row_plan_at, risk_at};
-ghost use Rattle.state_passes.specs.Passes.{known_in, known_mark, visible_look, visible_looks, internal_look, internal_looks, looks_in, row_for, row_in, impl_in, replied_in, reply_looks, reply_in, spec_in, passes_in};
+ghost use Rattle.state_passes.specs.Passes.{known_in, known_mark, visible_look, visible_looks, internal_look, internal_looks, looks_in, row_for, row_in, impl_between, replied_in, reply_looks, reply_in, spec_between, passes_in};
 
 use conjuncts::Guarded;
 use design::{Process, Shape};
@@ -286,7 +286,7 @@ pub fn rows_seen<'a>(
     m: u16,
 ) -> Seen
     requires { end ≤ 64 }
-    ensures { result ≡ impl_in fields.now starts.now shape plan.now first end v.now t.now m }
+    ensures { result ≡ impl_between fields.now starts.now shape plan.now first end v.now t.now m }
 {
     let mut quiet = true;
     let mut i = first;
@@ -394,7 +394,7 @@ pub fn rows_replied<'a>(
     t: &limits::Values,
 ) -> bool
     requires { end ≤ 32 }
-    ensures { result ≡ spec_in fields.now starts.now shape plan.now first end v.now t.now }
+    ensures { result ≡ spec_between fields.now starts.now shape plan.now first end v.now t.now }
 {
     let mut i = first;
     while i < end {
