@@ -6,7 +6,7 @@ use mathlib.Core.Bool.{false, true≢false}
 use mathlib.Core.List.{List, [], ◌∷◌}
 use borrow.Author.Tests.{eq-eqb}
 use lib.Dec.{eqb}
-use denote.Ref.{Bor}
+use denote.Ref.{Bor, MutBor}
 use Rattle.answers.specs.declared.Done.{Done}
 use Rattle.answers.specs.declared.Advance.{Advance}
 use Rattle.desk.specs.declared.Desk.{Desk}
@@ -79,27 +79,31 @@ asks_nothing = record {
 abbrev pub lent : {A : Type 0} → A → Bor A
 lent x = record { ref_ptr = (0, 0); now = x }
 
+-- the same, lent to be written
+abbrev pub lent_out : {A : Type 0} → A → MutBor A
+lent_out x = record { ref_ptr = (0, 0); ghost_name = 0; now = x }
+
 writes_as : (way : Way) (text buffer : List ℕ) → let w = conversion.answer_of way text buffer in
     Writes way text buffer w.number w.length (conversion.buffer_written way text buffer)
 writes_as there text buffer =
-    marks ([], ([], ([], tt))) (lent text) (lent buffer) (lent (conversion.buffer_written there text buffer))
-    (lent 0) (lent (conversion.answer_of there text buffer).number) _ (refl, (refl, refl))
+    marks ([], ([], ([], tt))) (lent text) (lent_out buffer) (lent_out (conversion.buffer_written there text buffer))
+    (lent_out 0) (lent_out (conversion.answer_of there text buffer).number) _ (refl, (refl, refl))
 writes_as back text buffer =
-    unmarks ([], ([], ([], tt))) (lent text) (lent buffer) (lent (conversion.buffer_written back text buffer))
-    (lent 0) (lent (conversion.answer_of back text buffer).number) _ (refl, (refl, refl))
+    unmarks ([], ([], ([], tt))) (lent text) (lent_out buffer) (lent_out (conversion.buffer_written back text buffer))
+    (lent_out 0) (lent_out (conversion.answer_of back text buffer).number) _ (refl, (refl, refl))
 
 makes_some : (d : Desk) (slice : List ℕ) → (r : AfterMeasure) × (after : List ℕ) × Makes d slice r after
 makes_some d slice =
     let m = answer_there d slice in
     let r : AfterMeasure = record { answer = m.answer; desk = d } in
-    (r, m.after, makes ([], tt) d (lent slice) (lent m.after) r (refl, (m.is, number_of m.is)))
+    (r, m.after, makes ([], tt) d (lent_out slice) (lent_out m.after) r (refl, (m.is, number_of m.is)))
 
 makes_for_some : (text slice : List ℕ) → (r number : ℕ) × (after : List ℕ) × MakesFor text slice r number after
 makes_for_some text slice =
     let m = text_there text slice in
     let r = measuring.result_of m.answer in
     let k = measuring.number_told m.answer in
-    let call = makes_for ([], ([], ([], tt))) (lent text) (lent slice) (lent m.after) (lent 0) (lent k) r in
+    let call = makes_for ([], ([], ([], tt))) (lent text) (lent_out slice) (lent_out m.after) (lent_out 0) (lent_out k) r in
     (r, k, m.after, call (record { answer = m.answer; is = m.is; returned = refl; told = refl }))
 
 pub answered_all : Answered
@@ -114,7 +118,7 @@ answered_all = record {
   check = λ text report. (
     answer_of text report,
     buffer_written text report,
-    checks ([], ([], tt)) (lent text) (lent report) (lent (buffer_written text report)) (answer_of text report) (refl, refl),
+    checks ([], ([], tt)) (lent text) (lent_out report) (lent_out (buffer_written text report)) (answer_of text report) (refl, refl),
   );
   writer = λ way text buffer.
       let w = conversion.answer_of way text buffer in

@@ -32,7 +32,7 @@ use Rattle.looking.specs.Told.{state_told, criterion_told}
 use Rattle.looking.proofs.Held.{held_design}
 use Rattle.claims.specs.Looks.{Holds, holds, Names, names, SeesValue, SeesFormula, SeesState, SeesRow, SeesCriterion, Asks, second, third, fourth, fifth, sixth, seventh, eighth, ninth, Looks}
 use Rattle.claims.specs.Looks as looks_specs
-use Rattle.claims.proofs.Lists.{lent}
+use Rattle.claims.proofs.Lists.{lent, lent_out}
 
 -- ---- a text held
 
@@ -126,15 +126,15 @@ looks = record {
     (loaded_of text).fields,
     (loaded_of text).starts,
     counts_told (loaded_of text).counts,
-    holds ([], ([], ([], ([], tt)))) (lent text) (lent []) (lent []) (lent []) (lent _) (lent _) (lent _) _ (refl, (refl, (refl, refl))),
+    holds ([], ([], ([], ([], tt)))) (lent text) (lent_out []) (lent_out []) (lent_out []) (lent_out _) (lent_out _) (lent_out _) _ (refl, (refl, (refl, refl))),
   );
   state_there = λ f s c v. (
     state_told (design_at f s (shape_of (counts_in c))) v,
-    looks_specs.SeesState.sees ([], ([], ([], ([], tt)))) (lent f) (lent s) (lent c) (lent v) (lent []) (lent _) refl,
+    looks_specs.SeesState.sees ([], ([], ([], ([], tt)))) (lent f) (lent s) (lent c) (lent v) (lent_out []) (lent_out _) refl,
   );
   row_there = λ f s c side k v e. (
     told_row (design_at f s (shape_of (counts_in c))) side k v e,
-    looks_specs.SeesRow.sees ([], ([], ([], ([], tt)))) (lent f) (lent s) (lent c) side k (lent v) e (lent []) (lent _) refl,
+    looks_specs.SeesRow.sees ([], ([], ([], ([], tt)))) (lent f) (lent s) (lent c) side k (lent v) e (lent_out []) (lent_out _) refl,
   );
   criterion_there = λ f s c v n k e. (
     criterion_told (design_at f s (shape_of (counts_in c))) v n k e,

@@ -1,8 +1,8 @@
 -- Calls of the functions, by the functions' own contracts: `Pre` is what a function asks of its arguments, `Post` what it ensures of its
--- arguments, its result and its arguments at exit. So nothing can stand in for the functions. What is lent is a `RefT`, `now` are its
+-- arguments, its result and its arguments at exit. So nothing can stand in for the functions. What is lent to be read is a `Bor`, to be written a `MutBor`; `now` are its
 -- bytes, and `κs` are the lifetimes for which it is lent.
 use Rattle.std.specs.Prelude.{ℕ, List, [], ◌∷◌}
-use Rattle.std.specs.Borrow.{Bor}
+use Rattle.std.specs.Borrow.{Bor, MutBor}
 use contract.Lifetimes.{Lfts}
 use Rattle.desk.specs.declared.Desk.{Desk}
 use Rattle.desk.specs.declared.AfterLoad.{AfterLoad}
@@ -41,7 +41,7 @@ Tells desk r = verdict_reads.Post tt (desk, tt) r (desk, tt)
 
 -- of a measure also what the slice holds after the call
 pub data Makes : Desk → List ℕ → AfterMeasure → List ℕ → Type 0 where
-  makes : (κs : Lfts 1) (desk : Desk) (slice after : Bor (List ℕ)) (r : AfterMeasure) → measure_reads.Post κs (desk, (slice, tt)) r (desk, (after, tt))
+  makes : (κs : Lfts 1) (desk : Desk) (slice after : MutBor (List ℕ)) (r : AfterMeasure) → measure_reads.Post κs (desk, (slice, tt)) r (desk, (after, tt))
       → Makes desk slice.now r after.now
 
 abbrev pub Drops : Desk → AfterDrop → Type 0
@@ -49,23 +49,23 @@ Drops desk r = drop_reads.Post tt (desk, tt) r (desk, tt)
 
 -- a one-call check of this text with this report buffer answers so and leaves the buffer so
 pub data Checks : List ℕ → List ℕ → ℕ → List ℕ → Type 0 where
-  checks : (κs : Lfts 2) (text report after : Bor (List ℕ)) (r : ℕ) → check_reads.Post κs (text, (report, tt)) r (text, (after, tt))
+  checks : (κs : Lfts 2) (text : Bor (List ℕ)) (report after : MutBor (List ℕ)) (r : ℕ) → check_reads.Post κs (text, (report, tt)) r (text, (after, tt))
       → Checks text.now report.now r after.now
 
 -- a writer's call, there or back, on this text with this buffer gives this number and this length, and leaves the buffer so; what its place
 -- for the number held before does not matter
 pub data Writes : Way → List ℕ → List ℕ → ℕ → ℕ → List ℕ → Type 0 where
-  marks : (κs : Lfts 3) (text buffer after : Bor (List ℕ)) (before number : Bor ℕ) (r : ℕ)
+  marks : (κs : Lfts 3) (text : Bor (List ℕ)) (buffer after : MutBor (List ℕ)) (before number : MutBor ℕ) (r : ℕ)
       → mark_reads.Post κs (text, (buffer, (before, tt))) r (text, (after, (number, tt)))
       → Writes there text.now buffer.now number.now r after.now
-  unmarks : (κs : Lfts 3) (text buffer after : Bor (List ℕ)) (before number : Bor ℕ) (r : ℕ)
+  unmarks : (κs : Lfts 3) (text : Bor (List ℕ)) (buffer after : MutBor (List ℕ)) (before number : MutBor ℕ) (r : ℕ)
       → unmark_reads.Post κs (text, (buffer, (before, tt))) r (text, (after, (number, tt)))
       → Writes back text.now buffer.now number.now r after.now
 
 -- a measure for this text in this slice returns this, tells this number, and leaves the slice so; what its place for the number held before
 -- does not matter
 pub data MakesFor : List ℕ → List ℕ → ℕ → ℕ → List ℕ → Type 0 where
-  makes_for : (κs : Lfts 3) (text slice after : Bor (List ℕ)) (before number : Bor ℕ) (r : ℕ)
+  makes_for : (κs : Lfts 3) (text : Bor (List ℕ)) (slice after : MutBor (List ℕ)) (before number : MutBor ℕ) (r : ℕ)
       → measuring_reads.Post κs (text, (slice, (before, tt))) r (text, (after, (number, tt)))
       → MakesFor text.now slice.now r number.now after.now
 
@@ -91,12 +91,12 @@ pub record AsksNothing : Type 0 where
   pub of_load : (κs : Lfts 1) (desk : Desk) (text : Bor (List ℕ)) → load_reads.Pre κs (desk, (text, tt))
   pub of_advance : (desk : Desk) (n : ℕ) → advance_reads.Pre tt (desk, (n, tt))
   pub of_verdict : (desk : Desk) → verdict_reads.Pre tt (desk, tt)
-  pub of_measure : (κs : Lfts 1) (desk : Desk) (slice : Bor (List ℕ)) → measure_reads.Pre κs (desk, (slice, tt))
+  pub of_measure : (κs : Lfts 1) (desk : Desk) (slice : MutBor (List ℕ)) → measure_reads.Pre κs (desk, (slice, tt))
   pub of_drop : (desk : Desk) → drop_reads.Pre tt (desk, tt)
-  pub of_check : (κs : Lfts 2) (text report : Bor (List ℕ)) → check_reads.Pre κs (text, (report, tt))
-  pub of_mark : (κs : Lfts 3) (text buffer : Bor (List ℕ)) (number : Bor ℕ) → mark_reads.Pre κs (text, (buffer, (number, tt)))
-  pub of_unmark : (κs : Lfts 3) (text buffer : Bor (List ℕ)) (number : Bor ℕ) → unmark_reads.Pre κs (text, (buffer, (number, tt)))
-  pub of_measuring : (κs : Lfts 3) (text slice : Bor (List ℕ)) (number : Bor ℕ) → measuring_reads.Pre κs (text, (slice, (number, tt)))
+  pub of_check : (κs : Lfts 2) (text : Bor (List ℕ)) (report : MutBor (List ℕ)) → check_reads.Pre κs (text, (report, tt))
+  pub of_mark : (κs : Lfts 3) (text : Bor (List ℕ)) (buffer : MutBor (List ℕ)) (number : MutBor ℕ) → mark_reads.Pre κs (text, (buffer, (number, tt)))
+  pub of_unmark : (κs : Lfts 3) (text : Bor (List ℕ)) (buffer : MutBor (List ℕ)) (number : MutBor ℕ) → unmark_reads.Pre κs (text, (buffer, (number, tt)))
+  pub of_measuring : (κs : Lfts 3) (text : Bor (List ℕ)) (slice : MutBor (List ℕ)) (number : MutBor ℕ) → measuring_reads.Pre κs (text, (slice, (number, tt)))
 
 pub record Answered : Type 0 where
   pub new : (desk : Desk) × News desk

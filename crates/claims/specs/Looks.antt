@@ -2,7 +2,7 @@
 -- specs/Contracted; what is told of a term, a state or a row is in looking/specs/Told. A state is lent as eight values, 0 after the last
 -- parameter's. It holds: `looks` in proofs/Looks.
 use Rattle.std.specs.Prelude.{ℕ, ◌<◌, ◌≤◌, ◌≡◌, ◌≢◌, ◌↔◌, List, length, drop}
-use Rattle.std.specs.Borrow.{Bor}
+use Rattle.std.specs.Borrow.{Bor, MutBor}
 use contract.Lifetimes.{Lfts}
 use Rattle.terms.specs.Tree.{Value, Formula}
 use Rattle.criteria.specs.Design.{Design, Row, State, RowIs}
@@ -27,7 +27,7 @@ use Rattle.looking.proofs.look_criterion.Reads as criterion_reads
 
 -- a text is held: the number that is returned, and the fields, starts and counts after the call
 pub data Holds : List ℕ → ℕ → List ℕ → List ℕ → List ℕ → Type 0 where
-  holds : (κs : Lfts 4) (text f₀ s₀ c₀ f s c : Bor (List ℕ)) (r : ℕ) → hold_reads.Post κs (text, (f₀, (s₀, (c₀, tt)))) r (text, (f, (s, (c, tt))))
+  holds : (κs : Lfts 4) (text : Bor (List ℕ)) (f₀ s₀ c₀ f s c : MutBor (List ℕ)) (r : ℕ) → hold_reads.Post κs (text, (f₀, (s₀, (c₀, tt)))) r (text, (f, (s, (c, tt))))
       → Holds text.now r f.now s.now c.now
 
 -- the line that is named for a text, from a line on
@@ -45,11 +45,11 @@ pub data SeesFormula : List ℕ → ℕ → State → ℕ → ℕ → Type 0 whe
 
 -- a state, a row, a criterion is looked at; what is told of the first two stands in a buffer after the call
 pub data SeesState : List ℕ → List ℕ → List ℕ → State → List ℕ → Type 0 where
-  sees : (κs : Lfts 4) (f s c v before told : Bor (List ℕ)) → state_reads.Post κs (f, (s, (c, (v, (before, tt))))) tt (f, (s, (c, (v, (told, tt)))))
+  sees : (κs : Lfts 4) (f s c v : Bor (List ℕ)) (before told : MutBor (List ℕ)) → state_reads.Post κs (f, (s, (c, (v, (before, tt))))) tt (f, (s, (c, (v, (told, tt)))))
       → SeesState f.now s.now c.now v.now told.now
 
 pub data SeesRow : List ℕ → List ℕ → List ℕ → ℕ → ℕ → State → ℕ → List ℕ → Type 0 where
-  sees : (κs : Lfts 4) (f s c : Bor (List ℕ)) (side k : ℕ) (v : Bor (List ℕ)) (e : ℕ) (before told : Bor (List ℕ))
+  sees : (κs : Lfts 4) (f s c : Bor (List ℕ)) (side k : ℕ) (v : Bor (List ℕ)) (e : ℕ) (before told : MutBor (List ℕ))
       → row_reads.Post κs (f, (s, (c, (side, (k, (v, (e, (before, tt)))))))) tt (f, (s, (c, (side, (k, (v, (e, (told, tt))))))))
       → SeesRow f.now s.now c.now side k v.now e told.now
 
@@ -94,12 +94,12 @@ pub record Looks : Type 1 where
   pub criterion : {text f s c v : List ℕ} {n k e r : ℕ} → Holds text 0 f s c → SeesCriterion f s c v n k e r → OthersHave (design_text text) v
       → {C : Type 0} → Asks (design_text text) v n k e C → (r ≡ 1) ↔ C
   -- nothing is asked of a caller, and every call has an answer; that of a line is there by its contract alone
-  pub hold_asks : (κs : Lfts 4) (text f s c : Bor (List ℕ)) → hold_reads.Pre κs (text, (f, (s, (c, tt))))
+  pub hold_asks : (κs : Lfts 4) (text : Bor (List ℕ)) (f s c : MutBor (List ℕ)) → hold_reads.Pre κs (text, (f, (s, (c, tt))))
   pub line_asks : (κs : Lfts 1) (text : Bor (List ℕ)) (from : ℕ) → fault_reads.Pre κs (text, (from, tt))
   pub value_asks : (κs : Lfts 2) (f : Bor (List ℕ)) (at : ℕ) (v : Bor (List ℕ)) (e : ℕ) → value_reads.Pre κs (f, (at, (v, (e, tt))))
   pub formula_asks : (κs : Lfts 2) (f : Bor (List ℕ)) (at : ℕ) (v : Bor (List ℕ)) (e : ℕ) → formula_reads.Pre κs (f, (at, (v, (e, tt))))
-  pub state_asks : (κs : Lfts 4) (f s c v told : Bor (List ℕ)) → state_reads.Pre κs (f, (s, (c, (v, (told, tt)))))
-  pub row_asks : (κs : Lfts 4) (f s c : Bor (List ℕ)) (side k : ℕ) (v : Bor (List ℕ)) (e : ℕ) (told : Bor (List ℕ))
+  pub state_asks : (κs : Lfts 4) (f s c v : Bor (List ℕ)) (told : MutBor (List ℕ)) → state_reads.Pre κs (f, (s, (c, (v, (told, tt)))))
+  pub row_asks : (κs : Lfts 4) (f s c : Bor (List ℕ)) (side k : ℕ) (v : Bor (List ℕ)) (e : ℕ) (told : MutBor (List ℕ))
       → row_reads.Pre κs (f, (s, (c, (side, (k, (v, (e, (told, tt))))))))
   pub criterion_asks : (κs : Lfts 3) (f s c v : Bor (List ℕ)) (n k e : ℕ) → criterion_reads.Pre κs (f, (s, (c, (v, (n, (k, (e, tt)))))))
   pub hold_there : (text : List ℕ) → (r : ℕ) × (f s c : List ℕ) × Holds text r f s c
