@@ -1,5 +1,4 @@
 use borrow.Author.Rules.{rules}
-use Prim.Native.Nat.{◌-◌}
 use mathlib.Core.Path.{refl}
 use Rattle.calls.proofs.Calls as calls
 use Rattle.calls.proofs.fill.Goals as goal
