@@ -1,7 +1,7 @@
 #!/usr/bin/env python3
 """Spells the definitions and lemmas of specs/ and proofs/ as Rattle does: words in snake case, for camel case and dashes.
 
-usage: tools/respell_names.py [--dry]   at the top of the repository
+usage: tools/respell_names.py [--dry]   at the top of the repository; once, on the text of the older kit as the kit's own script leaves it
 
 Names of src/, exported names, strings and what Rattle generates keep their spelling; types and modules keep their capitals.
 Where two names would fall together, the later one takes the word that OTHERS gives it.

@@ -1,6 +1,6 @@
 -- Calls of the functions, by the functions' own contracts: `Pre` is what a function asks of its arguments, `Post` what it ensures of its
--- arguments, its result and its arguments at exit. So nothing can stand in for the functions. What is lent to be read is a `Bor`, to be written a `MutBor`; `now` are its
--- bytes, and `κs` are the lifetimes for which it is lent.
+-- arguments, its result and its arguments at exit. So nothing can stand in for the functions. What is lent to be read is a `Bor`, what is
+-- lent to be written a `MutBor`; `now` are its bytes, and `κs` are the lifetimes for which it is lent.
 use Rattle.std.specs.Prelude.{ℕ, List, [], ◌∷◌}
 use Rattle.std.specs.Borrow.{Bor, MutBor}
 use contract.Lifetimes.{Lfts}

@@ -1,4 +1,4 @@
--- What is gathered of lines (line_faults/specs/Tests) is what the definitions count, at most the cap: fields (`fields-all`), lines of a rank
+-- What is gathered of lines (line_faults/specs/Tests) is what the definitions count, at most the cap: fields, lines of a rank
 -- (`ranks_all`), the rank of the last (`last_all`), states (`states_all`), internal rows (`internal_all`); and whether any line passes a
 -- test (`by_any`).
 use Prim.Native.Nat.{ℕ, zero, suc, ◌+◌, ◌*◌, ◌<◌, ◌≤◌}

@@ -160,7 +160,7 @@ fn look_at<'a>(
             watch: sets[i as usize],
         };
     }
-    let seen = state_passes::rows_seen(fields, starts, shape, plan, i, i + 1, v, t, m);
+    let seen = state_passes::rows_seen_between(fields, starts, shape, plan, i, i + 1, v, t, m);
     Look {
         holds: seen.holds,
         quiet: seen.quiet,
@@ -293,7 +293,7 @@ fn reply_passes<'a>(
         return true;
     }
     watch[at] = sets[limits::MAX_ROWS + at];
-    state_passes::rows_replied(fields, starts, shape, plan, i, i + 1, v, t)
+    state_passes::rows_replied_between(fields, starts, shape, plan, i, i + 1, v, t)
 }
 
 // All of them.

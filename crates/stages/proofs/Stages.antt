@@ -1,5 +1,5 @@
--- How far the check of a text has come on a desk that holds it (`Stage`), and that an advance leads from stage to stage
--- (`advance_stage`): what is kept while it is open is that the start and all states so far pass, and what it ends with is the
+-- How far the check of a text has come on a desk that holds it (`Stage`), and that an advance leads from stage to stage:
+-- what is kept while it is open is that the start and all states so far pass, and what it ends with is the
 -- verdict on the text's design.
 use Prim.Native.Nat.{ℕ, suc, ◌+◌, ◌-◌, ◌≤◌, ◌<◌, min}
 use mathlib.Core.Path.{◌≡◌, refl, sym, ap, ◌∙◌}

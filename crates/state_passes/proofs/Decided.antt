@@ -53,7 +53,7 @@ use Rattle.row_plan.specs.declared.Mark.{Mark}
 use Rattle.plan.proofs.Planned.{impl_row_plan, spec_row_plan}
 use Rattle.plan.proofs.Held.{AsForZero, as_for_zero, condition_free, taken_held, row_as_is, row_line_lem, row_by_lem, numbered, planned, marks_are}
 use Rattle.step_passes.specs.Steps.{has_values_in, kept_in, answered_in, internal_step, visible_step}
-use Rattle.state_passes.specs.Passes.{row_for, step_inside, step_of_row, seen, looks_in, row_in, impl_between, reply_looks, reply_in, spec_between, passes_in}
+use Rattle.state_passes.specs.Passes.{row_for, step_inside, step_of_row, seen, looks_in, row_in, impl_in, impl_between, reply_looks, reply_in, spec_in, spec_between, passes_in}
 use Rattle.state_passes.specs.declared.Seen.{Seen}
 
 -- a row's condition for the sum value e, taken for 0 where it is said to be sum-free
@@ -486,7 +486,7 @@ module _ (f s : List ℕ) (h : Shape) (fits : Fits h) (v : State) where
   abbrev rows_quiet : Bool
   rows_quiet = all_in_range (λ i. quiet_at (i + 1) (impl_row i)) rows 0
 
-  impl_held : impl_between f s h p 0 rows v t (measure_in f s h v) ≡ seen rows_hold (rows_hold && rows_quiet)
+  impl_held : impl_in f s h p v t (measure_in f s h v) ≡ seen rows_hold (rows_hold && rows_quiet)
   unfolding impl_between
   impl_held =
       let all : rows - 0 ≡ rows = omega arith in
@@ -566,7 +566,7 @@ module _ (f s : List ℕ) (h : Shape) (fits : Fits h) (v : State) where
   abbrev sevens : Bool
   sevens = all_rows d.spec.rows replied7
 
-  spec_held : spec_between f s h p 0 h.specification.rows.count v t ≡ sevens
+  spec_held : spec_in f s h p v t ≡ sevens
   unfolding spec_between
   spec_held =
       let all : h.specification.rows.count - 0 ≡ h.specification.rows.count = omega arith in

@@ -29,7 +29,7 @@ use Rattle.marks.specs.Marks.{place_from, mark_holds}
 use Rattle.row_plan.specs.RowPlan.{row_plan_at, risk_at}
 use Rattle.row_plan.specs.declared.RowPlan.{RowPlan}
 use Rattle.step_passes.specs.Steps.{internal_step, visible_step}
-use Rattle.state_passes.specs.Passes.{row_for, left, on_at, known_in, mark_at, known_mark, step_inside, seen, visible_look, visible_looks, internal_look, internal_looks, looks_in, row_in, impl_between, replied_in, reply_looks, reply_in, spec_between, passes_in}
+use Rattle.state_passes.specs.Passes.{row_for, left, on_at, known_in, mark_at, known_mark, step_inside, seen, visible_look, visible_looks, internal_look, internal_looks, looks_in, row_in, impl_in, impl_between, replied_in, reply_looks, reply_in, spec_in, spec_between, passes_in}
 use Rattle.state_passes.specs.declared.Seen.{Seen}
 use Rattle.state_passes.specs.declared.Row.{Row}
 use Rattle.state_passes.specs.declared.First.{First}
@@ -373,7 +373,7 @@ module _ (f s p v t : List ℕ) (h : Shape) (two : Bool) (said : two ≡ below_i
   unfolding passes_in
   pass_two y = rw (← said, not-true two y)
 
-  module _ (m : ℕ) (r : Seen) (ok : not two ≡ false) (em : m ≡ measure_in f s h v) (er : r ≡ impl_between f s h p 0 h.implementation.rows.count v t m) where
+  module _ (m : ℕ) (r : Seen) (ok : not two ≡ false) (em : m ≡ measure_in f s h v) (er : r ≡ impl_in f s h p v t m) where
     pub pass_rows : not r.holds ≡ true → false ≡ passes_in f s h p v t
     unfolding passes_in
     pass_rows y = rw (← said, not-false two ok, ← em, ← er, not-true r.holds y)
@@ -382,6 +382,6 @@ module _ (f s p v t : List ℕ) (h : Shape) (two : Bool) (said : two ≡ below_i
     unfolding passes_in
     pass_busy y q = rw (← said, not-false two ok, ← em, ← er, not-false r.holds y, not-true r.quiet q)
 
-    pub pass_quiet : (b : Bool) → not r.holds ≡ false → not r.quiet ≡ false → b ≡ spec_between f s h p 0 h.specification.rows.count v t → b ≡ passes_in f s h p v t
+    pub pass_quiet : (b : Bool) → not r.holds ≡ false → not r.quiet ≡ false → b ≡ spec_in f s h p v t → b ≡ passes_in f s h p v t
     unfolding passes_in
     pass_quiet b y q eb = eb ∙ rw (← said, not-false two ok, ← em, ← er, not-false r.holds y, not-false r.quiet q)

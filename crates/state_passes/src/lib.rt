@@ -8,7 +8,7 @@
 ghost use Rattle.std.specs.Prelude.{◌≡◌, ◌+◌, ◌<◌, ◌≤◌};
 ghost use Rattle.layout.specs.Sizes.{Fits};
 ghost use Rattle.row_plan.specs.RowPlan.{row_plan_at, risk_at};
-ghost use Rattle.state_passes.specs.Passes.{known_in, known_mark, visible_look, visible_looks, internal_look, internal_looks, looks_in, row_for, row_in, impl_between, replied_in, reply_looks, reply_in, spec_between, passes_in};
+ghost use Rattle.state_passes.specs.Passes.{known_in, known_mark, visible_look, visible_looks, internal_look, internal_looks, looks_in, row_for, row_in, impl_in, impl_between, replied_in, reply_looks, reply_in, spec_in, spec_between, passes_in};
 
 use conjuncts::Guarded;
 use design::{Process, Shape};
@@ -274,7 +274,7 @@ fn row_seen<'a>(
 }
 
 // What is seen of the rows after `first` others and before `end`.
-pub fn rows_seen<'a>(
+pub fn rows_seen_between<'a>(
     fields: &'a limits::Fields,
     starts: &'a limits::Starts,
     shape: Shape,
@@ -305,6 +305,24 @@ pub fn rows_seen<'a>(
         holds: true,
         quiet: quiet,
     }
+}
+
+// What is seen of all rows.
+fn rows_seen<'a>(
+    fields: &'a limits::Fields,
+    starts: &'a limits::Starts,
+    shape: Shape,
+    plan: &[u16; row_plan::LENGTH],
+    v: &limits::Values,
+    t: &limits::Values,
+    m: u16,
+) -> Seen
+    requires { Fits shape }
+    ensures { result ≡ impl_in fields.now starts.now shape plan.now v.now t.now m }
+{
+    let implementation = shape.implementation;
+    let count = implementation.rows.count;
+    rows_seen_between(fields, starts, shape, plan, 0, count, v, t, m)
 }
 
 // ---- the rows of the specification, at a focus point
@@ -383,7 +401,7 @@ fn row_replied<'a>(
 }
 
 // Whether it holds of the rows after `first` others and before `end`.
-pub fn rows_replied<'a>(
+pub fn rows_replied_between<'a>(
     fields: &'a limits::Fields,
     starts: &'a limits::Starts,
     shape: Shape,
@@ -406,6 +424,23 @@ pub fn rows_replied<'a>(
     true
 }
 
+// Whether it holds of each row.
+fn rows_replied<'a>(
+    fields: &'a limits::Fields,
+    starts: &'a limits::Starts,
+    shape: Shape,
+    plan: &[u16; row_plan::LENGTH],
+    v: &limits::Values,
+    t: &limits::Values,
+) -> bool
+    requires { Fits shape }
+    ensures { result ≡ spec_in fields.now starts.now shape plan.now v.now t.now }
+{
+    let specification = shape.specification;
+    let count = specification.rows.count;
+    rows_replied_between(fields, starts, shape, plan, 0, count, v, t)
+}
+
 // ---- the state
 
 // Whether the state v, whose mapped state is t, passes.
@@ -424,33 +459,12 @@ pub fn passes<'a>(
         return false;
     }
     let m = steps::measure(fields, starts, shape, v);
-    let implementation = shape.implementation;
-    let seen = rows_seen(
-        fields,
-        starts,
-        shape,
-        plan,
-        0,
-        implementation.rows.count,
-        v,
-        t,
-        m,
-    );
+    let seen = rows_seen(fields, starts, shape, plan, v, t, m);
     if !seen.holds {
         return false;
     }
     if !seen.quiet {
         return true;
     }
-    let specification = shape.specification;
-    rows_replied(
-        fields,
-        starts,
-        shape,
-        plan,
-        0,
-        specification.rows.count,
-        v,
-        t,
-    )
+    rows_replied(fields, starts, shape, plan, v, t)
 }

@@ -15,8 +15,8 @@ returns-then-not-quiet-clause-value c = search laws.reply_passed
 pub returns-then-not-quiet-clause-watch_after : goal.returns-then-not-quiet-clause-watch_after
 returns-then-not-quiet-clause-watch_after c = search laws.reply_forgotten
 
-pub rows_replied-requires : goal.rows_replied-requires
-rows_replied-requires c = omega arith
+pub rows_replied_between-requires : goal.rows_replied_between-requires
+rows_replied_between-requires c = omega arith
 
 pub returns-clause-value : goal.returns-clause-value
 returns-clause-value c = search laws.reply_seen

@@ -5,17 +5,11 @@ use Rattle.state_passes.proofs.passes.Goals as goal
 pub returns-then-not-below : goal.returns-then-not-below
 returns-then-not-below c = search laws.pass_two
 
-pub rows_seen-seen-requires : goal.rows_seen-seen-requires
-rows_seen-seen-requires c = search laws.impl_few
-
 pub returns-then-not-seen : goal.returns-then-not-seen
 returns-then-not-seen c = search laws.pass_rows
 
 pub returns-then-not-seen-2 : goal.returns-then-not-seen-2
 returns-then-not-seen-2 c = search laws.pass_busy
-
-pub rows_replied-requires : goal.rows_replied-requires
-rows_replied-requires c = search laws.spec_few
 
 pub returns : goal.returns
 returns c = search laws.pass_quiet

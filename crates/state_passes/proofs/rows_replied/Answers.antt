@@ -1,18 +1,6 @@
-use native.Mathlib.Omega.{arith}
+-- There are no more rows than the plan has places for.
 use Rattle.state_passes.proofs.Seeing as laws
 use Rattle.state_passes.proofs.rows_replied.Goals as goal
 
-pub loop-i-init : goal.loop-i-init
-loop-i-init c = search laws.spec_begin
-
-pub row_replied-requires : goal.row_replied-requires
-row_replied-requires c = omega arith
-
-pub returns-then-not-row_replied : goal.returns-then-not-row_replied
-returns-then-not-row_replied c = search laws.spec_fail
-
-pub loop-i-preserved : goal.loop-i-preserved
-loop-i-preserved c = search laws.spec_turn
-
-pub returns : goal.returns
-returns c = search laws.spec_end
+pub rows_replied_between-requires : goal.rows_replied_between-requires
+rows_replied_between-requires c = search laws.spec_few
