@@ -15,7 +15,7 @@ MEMORY = r'-?(?:0x[0-9a-f]+)?\((?!%rsp|%rip)[^)]*\)'
 # how far above its count a word may be loaded
 NEAR = 12
 # one call of these for each field
-READER = re.compile(r' [Tt] (columns::\S+|reader::(?:LineReader::next|step_in|field_at)\S*)', re.M)
+READER = re.compile(r' [Tt] (columns::\S+|reader::(?:LineReader::next|field_at)\S*)', re.M)
 
 # a word that is one load, and one in two halves
 ONE = ['movabs $0x2020202020202020,%rdi', 'mov    (%r9),%r8', 'xor    %rdi,%r8', 'mov    $0x40,%r10d', 'tzcnt  %r8,%r10']

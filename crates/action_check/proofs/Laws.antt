@@ -1,5 +1,4 @@
--- What the functions return is what their contracts say: laws whose premises are what the code knows there, one fact each. Those of
--- the loops are in Lines.
+-- What the functions return is what their contracts say: laws whose premises are what the code knows there, one fact each.
 use mathlib.Core.Path.{◌≡◌, refl, sym, ap, ◌∙◌}
 use mathlib.Core.Logic.{◌≢◌}
 use mathlib.Core.Bool.{Bool, true, false, not, cond}
@@ -10,7 +9,7 @@ use native.Mathlib.Numerals.{add-one}
 use borrow.Author.Tests.{eq-eqb, ne_eqb}
 use lib.Dec.{eqb}
 use lib.ListN.{length, get_or, drop, drop_of_length-le}
-use lib.Seq.{get_or-drop, drop-cons, drop-drop}
+use lib.Seq.{drop-cons, drop-drop}
 use Rattle.terms.specs.Tree.{Value, Formula}
 use Rattle.terms.specs.Mark.{value_mark}
 use Rattle.terms.specs.Read.{Reader, read_v, read_f, value_by}
@@ -21,7 +20,6 @@ use Rattle.eval.specs.Answer.{answer_f}
 use Rattle.eval.specs.declared.Held.{Held}
 use Rattle.decision.specs.Admitted.{is_zero}
 use Rattle.design.specs.declared.Counts.{Counts}
-use Rattle.design.specs.Loaded.{line_from}
 use Rattle.design.specs.declared.Shape.{Shape}
 use Rattle.layout.specs.Sizes.{counts_fit, shape_of}
 use Rattle.layout.proofs.Sizes.{sections_kept}
@@ -90,14 +88,9 @@ module _ (fields : List ℕ) (at : ℕ) where
     unfolding value_mark
     zero_second e g = sym (by_mark ∙ rw (e, drop-cons fields (at + 1) 0 g))
 
--- ---- a line's numbers
+-- ---- tests of one row, and of two
 
 module _ (fields starts : List ℕ) where
-  pub number : (i k start r : ℕ) → start ≡ get_or starts i 0 → r ≡ get_or fields (start + k) 0 → r ≡ get_or (line_from fields starts i) k 0
-  number i k start r es er = er ∙ rw (get_or-drop (get_or starts i 0) fields k 0, es)
-
-  -- ---- tests of one row, and of two
-
   module _ (i : ℕ) where
     abbrev action : ℕ
     action = lines.action_at fields starts i

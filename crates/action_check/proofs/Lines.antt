@@ -1,11 +1,9 @@
--- Laws of the tests by lines (specs/Lines): what a turn of a loop keeps, and that a test of each line is the test of each row that the
--- lines say.
+-- Laws of the tests by lines (specs/Lines): a test of each line is the test of each row that the lines say.
 use mathlib.Core.Path.{◌≡◌, refl, sym, ap, ◌∙◌}
 use mathlib.Core.Bool.{Bool, true, false, not, ◌&&◌}
 use mathlib.Core.List.{List}
-use Prim.Native.Nat.{ℕ, zero, suc, ◌+◌, ◌-◌, ◌<◌, ◌≤◌}
+use Prim.Native.Nat.{ℕ, zero, suc, ◌+◌, ◌-◌}
 use native.Mathlib.Omega.{arith}
-use native.Mathlib.Numerals.{add-one}
 use lib.Dec.{eqb}
 use Rattle.foundation.specs.First.{all_in_range}
 use Rattle.foundation.specs.Nth.{each_b}
@@ -31,24 +29,6 @@ was_yes false e = cc
 
 and_eq : {a b c d : Bool} → a ≡ b → c ≡ d → a && c ≡ b && d
 and_eq p q i = p i && q i
-
--- ---- a loop over lines: those still to come, from here, pass exactly if all of them do
-
-module _ (t : ℕ → Bool) (from end i : ℕ) (inv : between t i end ≡ between t from end) where
-  module _ (h : i < end) (b : Bool) (eb : b ≡ t i) where
-    here : b && between t (i + 1) end ≡ between t from end
-    unfolding all_in_range
-    here = let e : end - i ≡ suc (end - (i + 1)) = omega arith in rw (eb, add-one i) (rw (e, add-one i) at inv)
-
-    pub stop : not b ≡ true → false ≡ between t from end
-    stop e = rw (was_no b e) at here
-
-    pub turn : not b ≡ false → between t (i + 1) end ≡ between t from end
-    turn e = rw (was_yes b e) at here
-
-  pub done : end ≤ i → true ≡ between t from end
-  unfolding all_in_range
-  done h = let e : end - i ≡ 0 = omega arith in rw e at inv
 
 -- ---- the lines are what the rows are of
 

@@ -8,12 +8,12 @@
 ghost use Rattle.std.specs.Prelude.{◌+◌, ◌≤◌, ◌≡◌, [], ◌∷◌, ◌++◌, length, take};
 ghost use Rattle.io.specs.Counts.{IsPrefixLen};
 ghost use Rattle.call_lines.specs.Number.{decimal_of};
-ghost use Rattle.answer_lines.specs.Answers.{load_word, drop_word, loop_word, numbered, done_line, accepted_word, advance_line, report_line, verdict_line, measure_head, places_follow, IsPiece, stop_line};
+ghost use Rattle.answer_lines.specs.Answers.{load_word, drop_word, loop_word, numbered, done_line, accepted_word, advance_line, report_line, verdict_line, measure_head, places_follow, IsPiece, stop_words, stop_line};
 
 use answers::{Advance, Done, Measured, Verdict};
 use verdicts::{Acceptance, Report};
 
-// Room for every line, and for a piece of a measure's with hundreds of places.
+// Room for every line, and for a piece of a measure's with hundreds of places. It is lent, and a length answered: memory is fixed.
 pub const ROOM: usize = 4096;
 
 // The last place of a line from which a blank and a number have room.
@@ -28,7 +28,22 @@ pub enum Stop {
     NoRoom,
 }
 
-// The length of a measure's head, and whether the places follow.
+impl Stop {
+    // What is said after the number of the line, and the end of the line.
+    fn words(self) -> &'static [u8]
+        ensures value { result.now ≡ stop_words self }
+        ensures upper_bound { length result.now ≤ 40 }
+    {
+        match self {
+            Stop::NoCall => b": no call\n",
+            Stop::TextMissing => b": the text is not there in full\n",
+            Stop::NoLineEnd => b": no line end after the text\n",
+            Stop::NoRoom => b": no room for so many places\n",
+        }
+    }
+}
+
+// The length of a measure's head, and whether the places follow: both kinds have a length, so an enum of two is no plainer.
 #[derive(Clone, Copy)]
 pub struct Head {
     pub length: usize,
@@ -67,7 +82,7 @@ pub fn put_advance(line: &mut [u8; ROOM], answer: Advance) -> usize
         Advance::Open(count) => put_numbered(line, b"open ", count as u64),
         Advance::Accepted(how, count) => put_accepted(line, how, count),
         Advance::Failed(count) => put_numbered(line, b"failed ", count as u64),
-        Advance::TurnedDown(number) => put_numbered(line, b"turned down ", number as u64),
+        Advance::TurnedDown(number) => put_numbered(line, b"turned down ", u64::from(number)),
     }
 }
 
@@ -77,9 +92,10 @@ pub fn put_verdict(line: &mut [u8; ROOM], answer: Verdict) -> usize
     ensures line_after { take result line.new ≡ verdict_line answer }
 {
     match answer {
-        Verdict::Accepted(_) => put_report(line, answers::verdict_numbers(answer)),
-        Verdict::Failed(_) => put_report(line, answers::verdict_numbers(answer)),
-        Verdict::TurnedDown(number) => put_numbered(line, b"turned down ", number as u64),
+        Verdict::Accepted(_) | Verdict::Failed(_) => {
+            put_report(line, answers::verdict_numbers(answer))
+        }
+        Verdict::TurnedDown(number) => put_numbered(line, b"turned down ", u64::from(number)),
     }
 }
 
@@ -90,27 +106,18 @@ pub fn put_measured(line: &mut [u8; ROOM], answer: Measured) -> Head
     ensures places_value { result.places ≡ places_follow answer }
 {
     match answer {
-        Measured::Filled => {
-            let length = put(line, 0, b"measure");
-            Head {
-                length,
-                places: true,
-            }
-        }
-        Measured::Loop(state) => {
-            let length = put_loop(line, state);
-            Head {
-                length,
-                places: true,
-            }
-        }
-        Measured::TurnedDown(number) => {
-            let length = put_numbered(line, b"turned down ", number as u64);
-            Head {
-                length,
-                places: false,
-            }
-        }
+        Measured::Filled => Head {
+            length: put(line, 0, b"measure"),
+            places: true,
+        },
+        Measured::Loop(state) => Head {
+            length: put_loop(line, state),
+            places: true,
+        },
+        Measured::TurnedDown(number) => Head {
+            length: put_numbered(line, b"turned down ", u64::from(number)),
+            places: false,
+        },
     }
 }
 
@@ -120,8 +127,7 @@ pub fn put_places(line: &mut [u8; ROOM], slice: &[u16], from: usize) -> Piece
     ensures piece { IsPiece slice.now from result.next (take result.length line.new) }
 {
     let mut at = 0;
-    let mut i = from;
-    while i < slice.len() {
+    for i in from..slice.len() {
         if LAST < at {
             return Piece {
                 length: at,
@@ -129,11 +135,10 @@ pub fn put_places(line: &mut [u8; ROOM], slice: &[u16], from: usize) -> Piece
             };
         }
         at = put_next(line, at, slice[i]);
-        i += 1;
     }
     Piece {
         length: at,
-        next: i,
+        next: slice.len(),
     }
 }
 
@@ -144,12 +149,7 @@ pub fn put_stop(line: &mut [u8; ROOM], why: Stop, n: u64) -> usize
 {
     let a = put(line, 0, b"line ");
     let b = put_number(line, a, n);
-    match why {
-        Stop::NoCall => put(line, b, b": no call\n"),
-        Stop::TextMissing => put(line, b, b": the text is not there in full\n"),
-        Stop::NoLineEnd => put(line, b, b": no line end after the text\n"),
-        Stop::NoRoom => put(line, b, b": no room for so many places\n"),
-    }
+    put(line, b, why.words())
 }
 
 // ---- their parts
@@ -164,7 +164,7 @@ fn put_done(line: &mut [u8; ROOM], word: &[u8], answer: Done) -> usize
             let a = put(line, 0, word);
             put(line, a, b" 0\n")
         }
-        Done::TurnedDown(number) => put_numbered(line, b"turned down ", number as u64),
+        Done::TurnedDown(number) => put_numbered(line, b"turned down ", u64::from(number)),
     }
 }
 
@@ -196,7 +196,7 @@ fn put_loop(line: &mut [u8; ROOM], state: u16) -> usize
     ensures line_after { take result line.new ≡ loop_word ++ decimal_of state }
 {
     let a = put(line, 0, b"loop ");
-    put_number(line, a, state as u64)
+    put_number(line, a, u64::from(state))
 }
 
 // Words and a number, and the end of the line.
@@ -218,7 +218,7 @@ fn put_next(line: &mut [u8; ROOM], at: usize, n: u16) -> usize
     ensures prefix_len { IsPrefixLen result line.new }
 {
     let a = put(line, at, b" ");
-    put_number(line, a, n as u64)
+    put_number(line, a, u64::from(n))
 }
 
 // A number in decimal.
@@ -240,11 +240,7 @@ fn put(line: &mut [u8; ROOM], at: usize, bytes: &[u8]) -> usize
     ensures line_after { take result line.new ≡ take at line.old ++ bytes.now }
     ensures prefix_len { IsPrefixLen result line.new }
 {
-    let space: &mut [u8] = line;
-    let mut i = 0;
-    while i < bytes.len() {
-        space[at + i] = bytes[i];
-        i += 1;
-    }
-    at + i
+    let end = at + bytes.len();
+    line[at..end].copy_from_slice(bytes);
+    end
 }

@@ -2,12 +2,12 @@
 -- of one block have the same values is in Numbers.
 use mathlib.Core.Path.{◌≡◌, refl, sym, ◌∙◌, ap}
 use mathlib.Core.Logic.{◌⊎◌, inl, inr}
-use mathlib.Core.Bool.{Bool, true, false, not, ◌&&◌, true≢false}
+use mathlib.Core.Bool.{Bool, true, false, ◌&&◌, true≢false}
 use mathlib.Core.List.{List, ◌∷◌}
+use Rattle.std.specs.Prelude.{Result, Ok, Err, IsErr}
 use Prim.Native.Nat.{ℕ, zero, suc, ◌+◌, ◌-◌, ◌*◌, ◌/◌, ◌≤◌, ◌<◌, min}
 use native.Mathlib.Decide.{dec_lt}
 use native.Mathlib.Omega.{arith}
-use borrow.Author.Tests.{not-true, not-false}
 use lib.Bits.{bit_and, and_zero_l}
 use lib.ListN.{length, get_or, take, drop, replicate, length-map, length-replicate, drop_of_length-le, get_or-eq_default}
 use lib.Seq.{drop-cons, length-sets}
@@ -33,8 +33,7 @@ use Rattle.layout.specs.Sizes.{Fits, parameters_from, sizes_of}
 use Rattle.steps.specs.Arrays.{padded, state_values, state_in, invariant_in}
 use Rattle.steps.proofs.States.{same_values as state_values_lem}
 use Rattle.blocks.proofs.Numbers.{product_parts, some_positive, some_few, same_values, split_length, next_after, same_quotient, next_within}
-use Rattle.blocks.specs.Blocks.{RuledOut, Tries, NoneFrom}
-use Rattle.blocks.specs.declared.Tried.{Tried}
+use Rattle.blocks.specs.Blocks.{RuledOut, HoldsTo, FailsAt, Tries, NoneFrom}
 
 -- ---- the part that fails
 
@@ -43,17 +42,18 @@ module _ (f v : List ℕ) (at d : ℕ) where
   whole = read_f d (drop at f)
 
   module _ (x : Held) (ex : x ≡ answer_f at v 0 whole) where
-    pub one_holds : x.holds ≡ true → Tries f v at d (record { holds = true; reads = 0; next = x.next })
-    one_holds so = record { holds = sym so ∙ ap (λ y. y.holds) ex; next = λ _. ap (λ y. y.next) ex; by = λ no. absurd (true≢false no) }
+    pub one_holds : x.holds ≡ true → HoldsTo f v at d x.next
+    one_holds so = record { holds = ap (λ y. y.holds) (sym ex) ∙ so; ends = ap (λ y. y.next) ex }
 
-    pub one_fails : (y : Seen) → x.holds ≡ false → y ≡ seen_f at whole → Tries f v at d (record { holds = false; reads = y.reads; next = y.next })
+    pub one_fails : (y : Seen) → x.holds ≡ false → y ≡ seen_f at whole → FailsAt f v at d y.reads
     one_fails y fails ey = record {
-      holds = sym fails ∙ ap (λ z. z.holds) ex;
-      next = λ _. ap (λ z. z.next) ey;
-      by = λ _ w few-v few-w apart.
-          sym (alike_f v w few-v few-w whole.tree 0 (ap (λ (z : Seen). bit_and z.reads (differ v w)) (sym ey) ∙ apart))
-          ∙ sym (ap (λ z. z.holds) ex) ∙ fails;
+      fails = no;
+      by = λ w few-v few-w apart.
+          sym (alike_f v w few-v few-w whole.tree 0 (ap (λ (z : Seen). bit_and z.reads (differ v w)) (sym ey) ∙ apart)) ∙ no;
     }
+      where
+        no : eval_f whole.tree v 0 ≡ false
+        no = ap (λ z. z.holds) (sym ex) ∙ fails
 
   -- of a conjunction
   module _ (deep : d ≡ 0 → ⊥) (inside : at < length f) (mark : get_or f at 0 ≡ 15) where
@@ -71,37 +71,39 @@ module _ (f v : List ℕ) (at d : ℕ) where
     unfolding eval_f
     both w = ap (λ (r : Read Formula). eval_f r.tree w 0) parts
 
-    module _ (x : Tried) (tx : Tries f v (at + 1) (d - 1) x) where
-      pub first_fails : not x.holds ≡ true → Tries f v at d x
-      first_fails h =
-          let no : x.holds ≡ false = not-true x.holds h in
-          record {
-            holds = no ∙ sym (both v ∙ rw (← tx.holds, no));
-            next = λ so. absurd (true≢false (sym so ∙ no));
-            by = λ _ w few-v few-w apart. both w ∙ rw (tx.by no w few-v few-w apart);
-          }
+    pub first_fails : (m : ℕ) (r : Result ℕ ℕ) → FailsAt f v (at + 1) (d - 1) m → r ≡ Err m → Tries f v at d r
+    first_fails m r x e =
+        let is : FailsAt f v at d m = record {
+          fails = both v ∙ rw x.fails;
+          by = λ w few-v few-w apart. both w ∙ rw (x.by w few-v few-w apart);
+        } in
+        rw e is
 
-      pub then_second : (y : Tried) → not x.holds ≡ false → Tries f v x.next (d - 1) y → Tries f v at d y
-      then_second y h ty = go x.next (tx.next so) ty
-        where
-          so : x.holds ≡ true
-          so = not-false x.holds h
+    pub then_second : (next : ℕ) (r : Result ℕ ℕ) → HoldsTo f v (at + 1) (d - 1) next → Tries f v next (d - 1) r → Tries f v at d r
+    then_second next r x = go r
+      where
+        right_is : read_f (d - 1) (drop next f) ≡ right
+        right_is = ap (λ (p : ℕ). read_f (d - 1) (drop p f)) x.ends
 
-          and-false : (b : Bool) → b && false ≡ false
-          and-false true = refl
-          and-false false = refl
+        both_by : eval_f whole.tree v 0 ≡ eval_f (read_f (d - 1) (drop next f)).tree v 0
+        both_by = both v ∙ rw (x.holds, right_is)
 
-          go : (at₂ : ℕ) → at₂ ≡ at + 1 + left.used → Tries f v at₂ (d - 1) y → Tries f v at d y
-          go at₂ e t =
-              let k : read_f (d - 1) (drop at₂ f) ≡ right = ap (λ (p : ℕ). read_f (d - 1) (drop p f)) e in
-              record {
-                holds = t.holds ∙ ap (λ (r : Read Formula). eval_f r.tree v 0) k ∙ sym (both v ∙ rw (← tx.holds, so));
-                next = λ holds. let u = ap (λ (r : Read Formula). r.used) parts in let j = ap (λ (r : Read Formula). r.used) k in let n = t.next holds in omega arith;
-                by = λ no w few-v few-w apart.
-                    both w
-                    ∙ ap (λ b. eval_f left.tree w 0 && b) (sym (ap (λ (r : Read Formula). eval_f r.tree w 0) k) ∙ t.by no w few-v few-w apart)
-                    ∙ and-false (eval_f left.tree w 0);
-              }
+        and-false : (b : Bool) → b && false ≡ false
+        and-false true = refl
+        and-false false = refl
+
+        go : (r : Result ℕ ℕ) → Tries f v next (d - 1) r → Tries f v at d r
+        go (Ok n) y = record {
+          holds = both_by ∙ y.holds;
+          ends = let u = ap (λ (r : Read Formula). r.used) parts in let j = ap (λ (r : Read Formula). r.used) right_is in let k = x.ends in let n = y.ends in omega arith;
+        }
+        go (Err m) y = record {
+          fails = both_by ∙ y.fails;
+          by = λ w few-v few-w apart.
+              both w
+              ∙ ap (λ b. eval_f left.tree w 0 && b) (sym (ap (λ (r : Read Formula). eval_f r.tree w 0) right_is) ∙ y.by w few-v few-w apart)
+              ∙ and-false (eval_f left.tree w 0);
+        }
 
 -- ---- the last of a set
 
@@ -159,6 +161,16 @@ module _ (f s : List ℕ) (p : Process) where
 
 -- ---- the states that are ruled out
 
+module _ (f s : List ℕ) (h : Shape) (line : ℕ) (el : line ≡ get_or s h.invariant 0) where
+  invariant_at : (y : List ℕ) → invariant_in f s h y ≡ eval_f (read_f 32 (drop (line + 1) f)).tree y 0
+  unfolding invariant_in
+  invariant_at y = rw (← el, place f line 1 refl)
+
+  -- where it fails, a part of it does
+  pub part_fails : (v : List ℕ) (r : Result ℕ ℕ) → invariant_in f s h v ≡ false → Tries f v (line + 1) 32 r → IsErr r
+  part_fails v (Ok next) fails x = absurd (true≢false (sym x.holds ∙ sym (invariant_at v) ∙ fails))
+  part_fails v (Err m) fails x = refl
+
 module _ (f s : List ℕ) (h : Shape) (n j w : ℕ) (below : n < states (design_at f s h)) (ew : w ≡ product (drop j (sizes (process_in f s h.implementation)))) where
   abbrev p : Process
   p = h.implementation
@@ -179,7 +191,10 @@ module _ (f s : List ℕ) (h : Shape) (n j w : ℕ) (below : n < states (design_
         let k : (n / w + 1) * w ≤ product (take j (zs f s p)) * w = next_within n w block_some (product (take j (zs f s p))) (rw (← e) below) in
         omega arith
 
-    module _ (fits : Fits h) (line : ℕ) (v : List ℕ) (x : Tried) (el : line ≡ get_or s h.invariant 0) (ev : v ≡ state_in f s p n) (tx : Tries f v (line + 1) 32 x) (none : NoneFrom x.reads j p.parameters.count) where
+    module _ (fits : Fits h) (line : ℕ) (v : List ℕ) (m : ℕ) (tried : Result ℕ ℕ) (el : line ≡ get_or s h.invariant 0) (ev : v ≡ state_in f s p n) (tx : Tries f v (line + 1) 32 tried) (et : tried ≡ Err m) (none : NoneFrom m j p.parameters.count) where
+      part : FailsAt f v (line + 1) 32 m
+      part = rw et at tx
+
       -- the values of a state: one for each size
       abbrev values : ℕ → List ℕ
       values k = (split_of (zs f s p) k).values
@@ -205,19 +220,19 @@ module _ (f s : List ℕ) (h : Shape) (n j w : ℕ) (below : n < states (design_
           ap (λ v. get_or v i 0) (state_is k) ∙ state_values_lem (values k) (omega arith) i
 
       -- a state of the block has the same values in what the part reads
-      alike : (k : ℕ) → k / w ≡ n / w → Apart x.reads (differ (state_in f s p n) (state_in f s p k))
-      alike k e = apart_differ (state_in f s p n) (state_in f s p k) x.reads each
+      alike : (k : ℕ) → k / w ≡ n / w → Apart m (differ (state_in f s p n) (state_in f s p k))
+      alike k e = apart_differ (state_in f s p n) (state_in f s p k) m each
         where
-          same : (i : ℕ) → get_or (values n) i 0 ≡ get_or (values k) i 0 → (get_or (state_in f s p n) i 0 ≡ get_or (state_in f s p k) i 0) ⊎ Apart x.reads (only i)
+          same : (i : ℕ) → get_or (values n) i 0 ≡ get_or (values k) i 0 → (get_or (state_in f s p n) i 0 ≡ get_or (state_in f s p k) i 0) ⊎ Apart m (only i)
           same i d = inl (held n i ∙ d ∙ sym (held k i))
 
           before : (i : ℕ) → i < j → get_or (values n) i 0 ≡ get_or (values k) i 0
           before i l = same_values (zs f s p) j i n k l (rw (← ew) (sym e))
 
-          each : (i : ℕ) → i < 8 → (get_or (state_in f s p n) i 0 ≡ get_or (state_in f s p k) i 0) ⊎ Apart x.reads (only i)
+          each : (i : ℕ) → i < 8 → (get_or (state_in f s p n) i 0 ≡ get_or (state_in f s p k) i 0) ⊎ Apart m (only i)
           each i _ = go (dec_lt i j) (dec_lt i p.parameters.count)
             where
-              go : Dec (i < j) → Dec (i < p.parameters.count) → (get_or (state_in f s p n) i 0 ≡ get_or (state_in f s p k) i 0) ⊎ Apart x.reads (only i)
+              go : Dec (i < j) → Dec (i < p.parameters.count) → (get_or (state_in f s p n) i 0 ≡ get_or (state_in f s p k) i 0) ⊎ Apart m (only i)
               go (yes l) u = same i (before i l)
               go (no l) (yes u) = inr (none.absent i (omega arith) u)
               go (no l) (no u) =
@@ -226,13 +241,12 @@ module _ (f s : List ℕ) (h : Shape) (n j w : ℕ) (below : n < states (design_
                   same i (get_or-eq_default (values n) 0 {n = i} (omega arith) ∙ sym (get_or-eq_default (values k) 0 {n = i} (omega arith)))
 
       invariant_is : (y : List ℕ) → invariant_in f s h y ≡ eval_f (read_f 32 (drop (line + 1) f)).tree y 0
-      unfolding invariant_in
-      invariant_is y = rw (← el, place f line 1 refl)
+      invariant_is = invariant_at f s h line el
 
-      pub past_rules_out : invariant_in f s h v ≡ false → RuledOut f s h n r
-      past_rules_out fails = record {
+      pub past_rules_out : RuledOut f s h n r
+      past_rules_out = record {
         fails = λ k l u.
             invariant_is (state_in f s p k)
-            ∙ tx.by (tx.holds ∙ sym (invariant_is v) ∙ fails) (state_in f s p k) (rw ev (eight n)) (eight k)
+            ∙ part.by (state_in f s p k) (rw ev (eight n)) (eight k)
             (rw ev (alike k (same_quotient n w block_some k l (rw (← er) u))));
       }

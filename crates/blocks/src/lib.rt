@@ -12,45 +12,41 @@ ghost use Rattle.steps.specs.Arrays.{state_in, invariant_in};
 ghost use Rattle.blocks.specs.Blocks.{RuledOut, Tries, NoneFrom};
 
 use design::{Process, Shape};
+use layout::Lines;
 
 // The mark of a conjunction.
 const AND: u16 = 15;
 
-// Whether a formula holds; where the next term stands if it does, and what its first part that fails reads if not.
-#[derive(Clone, Copy)]
-struct Tried {
-    holds: bool,
-    reads: u16,
-    next: usize,
-}
-
 // The number of the first state after this one that the part of the invariant which fails here does not rule out.
-pub fn past<'a>(
-    fields: &'a limits::Fields,
-    starts: &'a limits::Starts,
-    shape: Shape,
-    number: u16,
-    v: &limits::Values,
-) -> usize
+pub fn past(lines: &Lines, shape: Shape, number: u16, v: &limits::Values) -> usize
     requires fits { Fits shape }
-    requires shape_bound { states (design_at fields.now starts.now shape) ≤ 65536 }
-    requires number_bound { number < states (design_at fields.now starts.now shape) }
-    requires v_value { v.now ≡ state_in fields.now starts.now shape.implementation number }
-    requires v_value_2 { invariant_in fields.now starts.now shape v.now ≡ false }
+    requires shape_bound { states (design_at lines.now.fields lines.now.starts shape) ≤ 65536 }
+    requires number_bound { number < states (design_at lines.now.fields lines.now.starts shape) }
+    requires v_value { v.now ≡ state_in lines.now.fields lines.now.starts shape.implementation number }
+    requires v_value_2 { invariant_in lines.now.fields lines.now.starts shape v.now ≡ false }
     ensures lower_bound { number < result }
-    ensures upper_bound { result ≤ states (design_at fields.now starts.now shape) }
-    ensures ruled_out { RuledOut fields.now starts.now shape number result }
+    ensures upper_bound { result ≤ states (design_at lines.now.fields lines.now.starts shape) }
+    ensures ruled_out { RuledOut lines.now.fields lines.now.starts shape number result }
 {
-    let line = layout::line(starts, shape.invariant as usize);
-    let x = first_failing(fields, line as usize + 1, limits::MAX_DEPTH, v);
-    let n = up_to_last(x.reads, shape.implementation.parameters.count as u16);
-    next_block(number, width(fields, starts, shape.implementation, n))
+    let line = lines.line(shape.invariant as usize);
+    let tried = first_failing(&lines.fields, line as usize + 1, limits::MAX_DEPTH, v);
+    let n = up_to_last(
+        tried.unwrap_err(),
+        shape.implementation.parameters.count as u16,
+    );
+    next_block(number, width(lines, shape.implementation, n))
 }
 
 // ---- the part that fails
 
-// Tries the formula at a place, part by part of a conjunction, up to the first that fails.
-fn first_failing(desk: &limits::Fields, at: usize, depth: usize, v: &limits::Values) -> Tried
+// Tries the formula at a place, part by part of a conjunction, up to the first that fails: where the next term stands if it holds, and else
+// what that part reads.
+fn first_failing(
+    desk: &limits::Fields,
+    at: usize,
+    depth: usize,
+    v: &limits::Values,
+) -> Result<usize, u16>
     ensures { Tries desk.now v.now at depth result }
 {
     let fields: &[u16] = desk;
@@ -63,31 +59,20 @@ fn first_failing(desk: &limits::Fields, at: usize, depth: usize, v: &limits::Val
     if fields[at] != AND {
         return as_one(desk, at, depth, v);
     }
-    let x = first_failing(desk, at + 1, depth - 1, v);
-    if !x.holds {
-        return x;
-    }
-    first_failing(desk, x.next, depth - 1, v)
+    let next = first_failing(desk, at + 1, depth - 1, v)?;
+    first_failing(desk, next, depth - 1, v)
 }
 
 // Tries it as one part.
-fn as_one(desk: &limits::Fields, at: usize, depth: usize, v: &limits::Values) -> Tried
+fn as_one(desk: &limits::Fields, at: usize, depth: usize, v: &limits::Values) -> Result<usize, u16>
     ensures { Tries desk.now v.now at depth result }
 {
     let x = eval::formula(desk, at, v, 0, depth);
     if x.holds {
-        return Tried {
-            holds: true,
-            reads: 0,
-            next: x.next,
-        };
+        return Ok(x.next);
     }
     let y = reads::formula_reads(desk, at, depth);
-    Tried {
-        holds: false,
-        reads: y.reads,
-        next: y.next,
-    }
+    Err(y.reads)
 }
 
 // ---- its block
@@ -98,38 +83,25 @@ fn up_to_last(set: u16, n: u16) -> u16
     ensures none_from { NoneFrom set result n }
 {
     let mut rest = set;
-    let mut i = 0;
-    while i < n {
+    for i in 0..n {
         if rest == 0 {
             return i;
         }
         rest = rest - (rest & reads::only(i));
-        i += 1;
     }
-    i
+    n
 }
 
 // The product of the sizes of all parameters but the first n.
-fn width<'a>(
-    fields: &'a limits::Fields,
-    starts: &'a limits::Starts,
-    process: Process,
-    n: u16,
-) -> usize
+fn width(lines: &Lines, process: Process, n: u16) -> usize
     requires n_le_count { n ≤ process.parameters.count }
-    requires nonzero { 0 < product (sizes (process_in fields.now starts.now process)) }
-    requires process_bound { product (sizes (process_in fields.now starts.now process)) ≤ 65536 }
-    ensures { result ≡ product (drop n (sizes (process_in fields.now starts.now process))) }
+    requires nonzero { 0 < product (sizes (process_in lines.now.fields lines.now.starts process)) }
+    requires process_bound { product (sizes (process_in lines.now.fields lines.now.starts process)) ≤ 65536 }
+    ensures { result ≡ product (drop n (sizes (process_in lines.now.fields lines.now.starts process))) }
 {
     let mut w = 1;
-    let mut i = process.parameters.count as u16;
-    while n < i {
-        i -= 1;
-        let z = layout::size(
-            fields,
-            starts,
-            process.parameters.first as usize + i as usize,
-        );
+    for i in (n..process.parameters.count as u16).rev() {
+        let z = lines.size(process.parameters.first as usize + i as usize);
         w = z as usize * w;
     }
     w

@@ -1,10 +1,14 @@
-// The lines and texts of a list of desk calls, read byte by byte. What is read is the reader's to say: these functions are safe and end.
+// The lines and texts of a list of desk calls, read byte by byte: what is read of a reader whose bytes are known is in specs/Input.
 #![tactic(auto)]
 
-ghost use Rattle.std.specs.Prelude.{◌≤◌};
+ghost use Rattle.std.specs.Prelude.{ℕ, ◌≡◌, List, [], ◌∷◌, length, IfOk, OnOk};
+ghost use Rattle.std.specs.Io.KnownBytes.{Consumes};
+ghost use Rattle.streams.specs.Ahead.{left_of};
+ghost use Rattle.call_input.specs.Input.{IsLine, TextRead};
+ghost use Rattle.call_input.specs.declared.TextError.TheVariants.{NotRead};
 
 use std::io;
-use streams::{Ahead, Byte};
+use streams::ReadAhead;
 
 const LINE_END: u8 = 10;
 
@@ -17,270 +21,85 @@ pub enum Line {
     Short(usize),
     Long,
     End,
-    Failed(io::Error),
 }
 
-#[derive(Clone, Copy)]
-pub struct LineRead {
-    pub line: Line,
-    pub ahead: Ahead,
-}
-
-// Whether bytes that are due were there.
-#[derive(Clone, Copy)]
-pub enum Due {
-    There,
+// Why a text that is due was not read.
+#[derive(Clone, Copy, Debug)]
+pub enum TextError {
     Missing,
     NoLineEnd,
-    Failed(io::Error),
+    NotRead(io::Error),
 }
 
-#[derive(Clone, Copy)]
-pub struct DueRead {
-    pub due: Due,
-    pub ahead: Ahead,
-}
+impl From<io::Error> for TextError {
+    ghost from_gives = { λ error e. e ≡ NotRead error };
 
-// What is then ahead, and how many bytes are still to be passed over.
-#[derive(Clone, Copy)]
-struct Skipped {
-    ahead: Ahead,
-    left: u64,
+    fn from(error: io::Error) -> TextError {
+        TextError::NotRead(error)
+    }
 }
 
 // Reads up to a byte 10 and puts what is before it at the start of the bytes. A last line without byte 10 counts as long.
 pub fn read_line<R: io::Read>(
-    reader: &mut R,
-    space: &mut [u8; streams::BLOCK],
-    ahead: Ahead,
+    input: &mut ReadAhead<R>,
     bytes: &mut [u8; call_lines::LONGEST],
-) -> LineRead {
-    let mut rest = ahead;
-    let mut n = 0;
-    while n <= call_lines::LONGEST {
-        let read = read_byte(reader, space, rest);
-        let byte = read.byte;
-        let then = read.ahead;
-        rest = then;
-        match byte {
-            Byte::Is(b) => {
-                if b == LINE_END {
-                    return LineRead {
-                        line: Line::Short(n),
-                        ahead: rest,
-                    };
-                }
-                if n < call_lines::LONGEST {
-                    bytes[n] = b;
-                }
-            }
-            Byte::End => {
-                return LineRead {
-                    line: ended_after(n),
-                    ahead: rest,
-                };
-            }
-            Byte::Failed(error) => {
-                return LineRead {
-                    line: Line::Failed(error),
-                    ahead: rest,
-                };
-            }
+) -> io::Result<Line>
+    ensures { IfOk result (IsLine (left_of R.remaining input.old) (left_of R.remaining input.new) bytes.new) }
+{
+    for n in 0..=call_lines::LONGEST {
+        match input.next_byte()? {
+            Some(LINE_END) => return Ok(Line::Short(n)),
+            Some(byte) if n < call_lines::LONGEST => bytes[n] = byte,
+            Some(_) => {}
+            None if n == 0 => return Ok(Line::End),
+            None => return Ok(Line::Long),
         }
-        n += 1;
     }
-    LineRead {
-        line: Line::Long,
-        ahead: rest,
-    }
-}
-
-// The end of input, n bytes into a line.
-fn ended_after(n: usize) -> Line {
-    if n == 0 { Line::End } else { Line::Long }
+    Ok(Line::Long)
 }
 
 // Reads a text of n bytes and the byte 10 after it, and keeps what there is room for.
 pub fn read_text<R: io::Read>(
-    reader: &mut R,
-    space: &mut [u8; streams::BLOCK],
-    ahead: Ahead,
+    input: &mut ReadAhead<R>,
     n: u64,
     room: &mut [u8; ROOM],
-) -> DueRead {
-    let most = least(n, ROOM);
-    let kept = read_kept(reader, space, ahead, most, room);
-    let first = kept.due;
-    let rest = kept.ahead;
-    if let Due::There = first {
-        return read_rest(reader, space, rest, n - most as u64);
-    }
-    DueRead {
-        due: first,
-        ahead: rest,
-    }
-}
-
-// Reads n bytes and keeps them.
-fn read_kept<R: io::Read>(
-    reader: &mut R,
-    space: &mut [u8; streams::BLOCK],
-    ahead: Ahead,
-    n: usize,
-    room: &mut [u8; ROOM],
-) -> DueRead
-    requires { n ≤ 28673 }
+) -> Result<(), TextError>
+    ensures { OnOk result (TextRead n (left_of R.remaining input.old) (left_of R.remaining input.new) room.new) }
 {
-    let mut rest = ahead;
-    let mut i = 0;
-    while i < n {
-        let read = read_byte(reader, space, rest);
-        let byte = read.byte;
-        let then = read.ahead;
-        rest = then;
-        match byte {
-            Byte::Is(b) => {
-                room[i] = b;
-            }
-            Byte::End => {
-                return DueRead {
-                    due: Due::Missing,
-                    ahead: rest,
-                };
-            }
-            Byte::Failed(error) => {
-                return DueRead {
-                    due: Due::Failed(error),
-                    ahead: rest,
-                };
-            }
-        }
-        i += 1;
-    }
-    DueRead {
-        due: Due::There,
-        ahead: rest,
+    let kept = n.min(ROOM as u64);
+    read_kept(input, &mut room[..kept as usize])?;
+    pass_over(input, n - kept)?;
+    match input.next_byte()? {
+        Some(LINE_END) => Ok(()),
+        _ => Err(TextError::NoLineEnd),
     }
 }
 
-// Reads n bytes and keeps none, and a byte 10.
-fn read_rest<R: io::Read>(
-    reader: &mut R,
-    space: &mut [u8; streams::BLOCK],
-    ahead: Ahead,
-    n: u64,
-) -> DueRead {
-    let passed = pass_over(reader, space, ahead, n);
-    let due = passed.due;
-    let rest = passed.ahead;
-    if let Due::There = due {
-        return read_line_end(reader, space, rest);
+// Reads as many bytes as there is room for.
+fn read_kept<R: io::Read>(input: &mut ReadAhead<R>, room: &mut [u8]) -> Result<(), TextError>
+    ensures { OnOk result (Consumes (left_of R.remaining input.old) (left_of R.remaining input.new) room.new) }
+{
+    for byte in room.iter_mut() {
+        *byte = due_byte(input)?;
     }
-    DueRead { due, ahead: rest }
+    Ok(())
 }
 
-fn pass_over<R: io::Read>(
-    reader: &mut R,
-    space: &mut [u8; streams::BLOCK],
-    ahead: Ahead,
-    n: u64,
-) -> DueRead {
-    let mut rest = ahead;
+// Reads n bytes and keeps none.
+fn pass_over<R: io::Read>(input: &mut ReadAhead<R>, n: u64) -> Result<(), TextError>
+    ensures { OnOk result ((bytes : List ℕ) × (length bytes ≡ n)
+        × Consumes (left_of R.remaining input.old) (left_of R.remaining input.new) bytes) }
+{
     let mut left = n;
     while 0 < left {
-        let read = read_byte(reader, space, rest);
-        let byte = read.byte;
-        let then = read.ahead;
-        match byte {
-            Byte::Is(_) => {
-                let skipped = skip(then, left - 1);
-                left = skipped.left;
-                let after = skipped.ahead;
-                rest = after;
-            }
-            Byte::End => {
-                return DueRead {
-                    due: Due::Missing,
-                    ahead: then,
-                };
-            }
-            Byte::Failed(error) => {
-                return DueRead {
-                    due: Due::Failed(error),
-                    ahead: then,
-                };
-            }
-        }
+        due_byte(input)?;
+        left = input.skip(left - 1);
     }
-    DueRead {
-        due: Due::There,
-        ahead: rest,
-    }
+    Ok(())
 }
 
-// Passes over n of the bytes ahead, or as many as there are.
-fn skip(ahead: Ahead, n: u64) -> Skipped
-    ensures { result.left ≤ n }
+fn due_byte<R: io::Read>(input: &mut ReadAhead<R>) -> Result<u8, TextError>
+    ensures { IfOk result (λ byte. Consumes (left_of R.remaining input.old) (left_of R.remaining input.new) (byte ∷ [])) }
 {
-    let at = ahead.at;
-    let end = ahead.end;
-    if end <= at {
-        return Skipped { ahead, left: n };
-    }
-    let here = end - at;
-    if n < here as u64 {
-        return Skipped {
-            ahead: Ahead {
-                at: at + n as usize,
-                end,
-            },
-            left: 0,
-        };
-    }
-    Skipped {
-        ahead: Ahead { at: end, end },
-        left: n - here as u64,
-    }
-}
-
-fn read_line_end<R: io::Read>(
-    reader: &mut R,
-    space: &mut [u8; streams::BLOCK],
-    ahead: Ahead,
-) -> DueRead {
-    let read = read_byte(reader, space, ahead);
-    let byte = read.byte;
-    let rest = read.ahead;
-    DueRead {
-        due: line_end(byte),
-        ahead: rest,
-    }
-}
-
-fn line_end(byte: Byte) -> Due {
-    match byte {
-        Byte::Is(b) => {
-            if b == LINE_END {
-                Due::There
-            } else {
-                Due::NoLineEnd
-            }
-        }
-        Byte::End => Due::NoLineEnd,
-        Byte::Failed(error) => Due::Failed(error),
-    }
-}
-
-fn least(n: u64, most: usize) -> usize
-    ensures { (result ≤ n) × (result ≤ most) }
-{
-    if n < most as u64 { n as usize } else { most }
-}
-
-fn read_byte<R: io::Read>(
-    reader: &mut R,
-    space: &mut [u8; streams::BLOCK],
-    ahead: Ahead,
-) -> streams::NextByte {
-    streams::next_byte(reader, space, ahead)
+    input.next_byte()?.ok_or(TextError::Missing)
 }

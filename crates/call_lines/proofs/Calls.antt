@@ -1,156 +1,147 @@
 -- Which call a line is: what `call_of` answers at each return, and that it is the call of `IsCall` (`call_exactly`).
-use Prim.Native.Nat.{ℕ, ◌-◌, ◌<◌}
+use Prim.Native.Nat.{ℕ, ◌<◌}
 use mathlib.Core.Path.{◌≡◌, refl, sym, ap, ◌∙◌}
-use mathlib.Core.Logic.{◌≢◌, ◌↔◌}
+use mathlib.Core.Logic.{◌↔◌}
 use mathlib.Core.Bool.{Bool, true, false, cond}
 use mathlib.Core.List.{List, ◌++◌}
-use native.Mathlib.Omega.{arith}
-use lib.ListN.{length, take, drop, length-take, length-drop, take-append-drop}
-use lib.Seq.{take_all}
-use Rattle.columns.specs.Columns.{bytes_agree}
+use lib.ListN.{length, take, drop, take-append-drop}
 use Rattle.call_lines.specs.Number.{IsNumber, number_of, decimal_of}
 use Rattle.call_lines.specs.Calls.{load_word, advance_word, verdict_word, measure_word, drop_word, IsCall, is_load, is_advance, is_verdict, is_measure, is_drop, number_behind, load_or, advance_or, measure_or, call_of}
-use Rattle.call_lines.specs.declared.Number.{Number}
-use Rattle.call_lines.specs.declared.Number.TheVariants as number
+use Rattle.std.specs.Prelude.{None, Some}
+use Rattle.std.specs.declared.option.Option.{Option}
+use Rattle.std.specs.Str.{bytes_eq}
 use Rattle.call_lines.specs.declared.Call.{Call}
 use Rattle.call_lines.specs.declared.Call.TheVariants as call
-use Rattle.call_lines.proofs.Compared.{same_bytes, lengths_differ}
+use Rattle.std.proofs.lemmas.Slice.Eq.{bytes_eq-Decides}
 use Rattle.call_lines.proofs.Digits.{number_is, is_number}
 use Rattle.call_lines.proofs.Decimal.{decimal_number}
 
 -- ---- a number after a word
 
 module _ (word line : List ℕ) where
-  after_by : (z : Bool) → bytes_agree (take (length word) line) word ≡ z
-      → number_behind word line ≡ cond z (number_of (drop (length word) line)) number.None
+  pub another_word : bytes_eq (take (length word) line) word ≡ false → None ≡ number_behind word line
   unfolding number_behind
-  after_by z e = rw e
+  another_word e = rw e
 
-  pub too_short : length line < length word → number.None ≡ number_behind word line
-  too_short h =
-      let l = length-take (length word) line in
-      let n : length (take (length word) line) ≢ length word = λ e. omega arith in
-      sym (after_by false (sym (lengths_differ (take (length word) line) word n)))
-
-  module _ (k : ℕ) (ek : k ≡ length word) (s : Bool) (es : s ≡ bytes_agree (take (k - 0) (drop 0 line)) word) where
-    start : bytes_agree (take (length word) line) word ≡ s
-    start = let z : k - 0 ≡ length word = omega arith in sym (rw z at es)
-
-    pub another_word : s ≡ false → number.None ≡ number_behind word line
-    another_word e = sym (after_by false (start ∙ e))
-
-    pub number_after_lem : s ≡ true → (r : Number) → r ≡ number_of (take (length line - k) (drop k line)) → r ≡ number_behind word line
-    number_after_lem e r er =
-        let l = length-drop k line in
-        let all : take (length line - k) (drop k line) ≡ drop k line = take_all (length line - k) (drop k line) (omega arith) in
-        er ∙ (ap number_of all ∙ (ap (λ i. number_of (drop i line)) ek ∙ sym (after_by true (start ∙ e))))
+  pub number_after_lem : bytes_eq (take (length word) line) word ≡ true → (digits : List ℕ) → digits ≡ drop (length word) line
+      → (r : Option ℕ) → r ≡ number_of digits → r ≡ number_behind word line
+  unfolding number_behind
+  number_after_lem e digits ed r er = er ∙ (ap number_of ed ∙ rw e)
 
 -- ---- the call
 
-module _ (line : List ℕ) (v : Bool) (ev : v ≡ bytes_agree line verdict_word) where
-  pub says_verdict : v ≡ true → call.Verdict ≡ call_of line
+module _ (line first : List ℕ) (ef : first ≡ verdict_word) (v : Bool) (ev : v ≡ bytes_eq line first) where
+  pub says_verdict : v ≡ true → Some call.Verdict ≡ call_of line
   unfolding call_of
-  says_verdict e = let h : bytes_agree line verdict_word ≡ true = sym ev ∙ e in rw h
+  says_verdict e = let h : bytes_eq line verdict_word ≡ true = rw ef at (sym ev ∙ e) in rw h
 
-  module _ (nv : v ≡ false) (d : Bool) (ed : d ≡ bytes_agree line drop_word) where
-    pub says_drop : d ≡ true → call.Drop ≡ call_of line
+  module _ (nv : v ≡ false) (second : List ℕ) (es : second ≡ drop_word) (d : Bool) (ed : d ≡ bytes_eq line second) where
+    pub says_drop : d ≡ true → Some call.Drop ≡ call_of line
     unfolding call_of
     says_drop e =
-        let h : bytes_agree line verdict_word ≡ false = sym ev ∙ nv in
-        let g : bytes_agree line drop_word ≡ true = sym ed ∙ e in
+        let h : bytes_eq line verdict_word ≡ false = rw ef at (sym ev ∙ nv) in
+        let g : bytes_eq line drop_word ≡ true = rw es at (sym ed ∙ e) in
         rw (h, g)
 
-    module _ (nd : d ≡ false) (l : Number) (el : l ≡ number_behind load_word line) where
-      others : load_or l (advance_or (number_behind advance_word line) (measure_or (number_behind measure_word line) call.NoCall)) ≡ call_of line
+    module _ (nd : d ≡ false) (l : Option ℕ) (el : l ≡ number_behind load_word line) where
+      others : load_or l (advance_or (number_behind advance_word line) (measure_or (number_behind measure_word line) None)) ≡ call_of line
       unfolding call_of
       others =
-          let h : bytes_agree line verdict_word ≡ false = sym ev ∙ nv in
-          let g : bytes_agree line drop_word ≡ false = sym ed ∙ nd in
+          let h : bytes_eq line verdict_word ≡ false = rw ef at (sym ev ∙ nv) in
+          let g : bytes_eq line drop_word ≡ false = rw es at (sym ed ∙ nd) in
           rw (h, g, el)
 
-      pub says_load : (n : ℕ) → l ≡ number.Is n → call.Load n ≡ call_of line
+      pub says_load : (n : ℕ) → l ≡ Some n → Some (call.Load n) ≡ call_of line
       says_load n e = rw e at others
 
-      module _ (nl : l ≡ number.None) (a : Number) (ea : a ≡ number_behind advance_word line) where
-        past_load : advance_or a (measure_or (number_behind measure_word line) call.NoCall) ≡ call_of line
+      module _ (nl : l ≡ None) (a : Option ℕ) (ea : a ≡ number_behind advance_word line) where
+        past_load : advance_or a (measure_or (number_behind measure_word line) None) ≡ call_of line
         past_load = rw (nl, ← ea) at others
 
-        pub says_advance : (n : ℕ) → a ≡ number.Is n → call.Advance n ≡ call_of line
+        pub says_advance : (n : ℕ) → a ≡ Some n → Some (call.Advance n) ≡ call_of line
         says_advance n e = rw e at past_load
 
-        module _ (na : a ≡ number.None) (m : Number) (em : m ≡ number_behind measure_word line) where
-          last : measure_or m call.NoCall ≡ call_of line
+        module _ (na : a ≡ None) (m : Option ℕ) (em : m ≡ number_behind measure_word line) where
+          last : measure_or m None ≡ call_of line
           last = rw (na, ← em) at past_load
 
-          pub says_measure : (n : ℕ) → m ≡ number.Is n → call.Measure n ≡ call_of line
+          pub says_measure : (n : ℕ) → m ≡ Some n → Some (call.Measure n) ≡ call_of line
           says_measure n e = rw e at last
 
-          pub says_none : m ≡ number.None → call.NoCall ≡ call_of line
+          pub says_none : m ≡ None → None ≡ call_of line
           says_none e = rw e at last
 
 -- ---- what is found
 
-pub call_is : {line : List ℕ} {c : Call} → IsCall line c → call_of line ≡ c
-unfolding call_of number_behind bytes_agree
+pub call_is : {line : List ℕ} {c : Call} → IsCall line c → call_of line ≡ Some c
+unfolding call_of number_behind
 call_is (is_load {digits = digits} {n = n} i) = rw (number_is digits n i)
 call_is (is_advance {digits = digits} {n = n} i) = rw (number_is digits n i)
 call_is is_verdict = refl
 call_is (is_measure {digits = digits} {n = n} i) = rw (number_is digits n i)
 call_is is_drop = refl
 
+same_bytes : (a b : List ℕ) → bytes_eq a b ≡ true → a ≡ b
+same_bytes a b e = (bytes_eq-Decides a b).0 e
+
 -- a word, and then a number
 record After (word line : List ℕ) (n : ℕ) : Type 0 where
   whole : line ≡ word ++ drop (length word) line
   number : IsNumber (drop (length word) line) n
 
-after : (word line : List ℕ) (n : ℕ) → number_behind word line ≡ number.Is n → After word line n
-after word line n h = go _ refl
+after : (word line : List ℕ) (n : ℕ) → number_behind word line ≡ Some n → After word line n
+unfolding number_behind
+after word line n h = go _ refl h
   where
-    go : (z : Bool) → bytes_agree (take (length word) line) word ≡ z → After word line n
-    go true e =
+    go : (z : Bool) → bytes_eq (take (length word) line) word ≡ z → cond z (number_of (drop (length word) line)) None ≡ Some n → After word line n
+    go true e m =
         let w : take (length word) line ≡ word = same_bytes (take (length word) line) word e in
         record {
           whole = sym (ap (λ x. x ++ drop (length word) line) (sym w) ∙ take-append-drop (length word) line);
-          number = is_number (drop (length word) line) n (sym (after_by word line true e) ∙ h);
+          number = is_number (drop (length word) line) n m;
         }
-    go false e =
-        let q : number.None ≡ number.Is n = sym (after_by word line false e) ∙ h in
-        let z : ◌≡◌ {A = ℕ} 0 1 = cc in
-        absurd (omega arith)
+    go false e m = cc
 
-is_call_by : (line : List ℕ) (v d : Bool) (l a m : Number) → bytes_agree line verdict_word ≡ v → bytes_agree line drop_word ≡ d
+is_call_by : (line : List ℕ) (v d : Bool) (l a m : Option ℕ) → bytes_eq line verdict_word ≡ v → bytes_eq line drop_word ≡ d
     → number_behind load_word line ≡ l → number_behind advance_word line ≡ a → number_behind measure_word line ≡ m → (c : Call)
-    → cond v call.Verdict (cond d call.Drop (load_or l (advance_or a (measure_or m call.NoCall)))) ≡ c → c ≢ call.NoCall → IsCall line c
-is_call_by line true d l a m ev ed el ea em c e n = rw (same_bytes line verdict_word ev, ← e) is_verdict
-is_call_by line false true l a m ev ed el ea em c e n = rw (same_bytes line drop_word ed, ← e) is_drop
-is_call_by line false false (number.Is k) a m ev ed el ea em c e n =
+    → cond v (Some call.Verdict) (cond d (Some call.Drop) (load_or l (advance_or a (measure_or m None)))) ≡ Some c → IsCall line c
+is_call_by line true d l a m ev ed el ea em c e =
+    let s : call.Verdict ≡ c = cc in
+    rw (same_bytes line verdict_word ev, ← s) is_verdict
+is_call_by line false true l a m ev ed el ea em c e =
+    let s : call.Drop ≡ c = cc in
+    rw (same_bytes line drop_word ed, ← s) is_drop
+is_call_by line false false (Some k) a m ev ed el ea em c e =
     let f = after load_word line k el in
-    rw (f.whole, ← e) (is_load f.number)
-is_call_by line false false number.None (number.Is k) m ev ed el ea em c e n =
+    let s : call.Load k ≡ c = cc in
+    rw (f.whole, ← s) (is_load f.number)
+is_call_by line false false None (Some k) m ev ed el ea em c e =
     let f = after advance_word line k ea in
-    rw (f.whole, ← e) (is_advance f.number)
-is_call_by line false false number.None number.None (number.Is k) ev ed el ea em c e n =
+    let s : call.Advance k ≡ c = cc in
+    rw (f.whole, ← s) (is_advance f.number)
+is_call_by line false false None None (Some k) ev ed el ea em c e =
     let f = after measure_word line k em in
-    rw (f.whole, ← e) (is_measure f.number)
-is_call_by line false false number.None number.None number.None ev ed el ea em c e n = absurd (n (sym e))
+    let s : call.Measure k ≡ c = cc in
+    rw (f.whole, ← s) (is_measure f.number)
+is_call_by line false false None None None ev ed el ea em c e = cc
 
 -- a line is a call exactly if it is found to be
-pub call_exactly : (line : List ℕ) (c : Call) → c ≢ call.NoCall → (call_of line ≡ c) ↔ IsCall line c
+pub call_exactly : (line : List ℕ) (c : Call) → (call_of line ≡ Some c) ↔ IsCall line c
 unfolding call_of
-call_exactly line c n = (λ e. is_call_by line _ _ _ _ _ refl refl refl refl refl c e n, call_is)
+call_exactly line c = (λ e. is_call_by line _ _ _ _ _ refl refl refl refl refl c e, call_is)
 
 -- no line is two calls
 pub one_call : {line : List ℕ} {a b : Call} → IsCall line a → IsCall line b → a ≡ b
-one_call i j = sym (call_is i) ∙ call_is j
+one_call i j = let e = sym (call_is i) ∙ call_is j in cc
 
 -- ---- a call written
 
 -- the line of a call, its number without zeros in front, says that call
-pub load_read : (n : ℕ) → n < 18446744073709551616 → call_of (load_word ++ decimal_of n) ≡ call.Load n
+pub load_read : (n : ℕ) → n < 18446744073709551616 → call_of (load_word ++ decimal_of n) ≡ Some (call.Load n)
 load_read n h = call_is (is_load (decimal_number n h))
 
-pub advance_read : (n : ℕ) → n < 18446744073709551616 → call_of (advance_word ++ decimal_of n) ≡ call.Advance n
+pub advance_read : (n : ℕ) → n < 18446744073709551616 → call_of (advance_word ++ decimal_of n) ≡ Some (call.Advance n)
 advance_read n h = call_is (is_advance (decimal_number n h))
 
-pub measure_read : (n : ℕ) → n < 18446744073709551616 → call_of (measure_word ++ decimal_of n) ≡ call.Measure n
+pub measure_read : (n : ℕ) → n < 18446744073709551616 → call_of (measure_word ++ decimal_of n) ≡ Some (call.Measure n)
 measure_read n h = call_is (is_measure (decimal_number n h))

@@ -1,7 +1,7 @@
 -- The number that digits say: the laws of the loop that reads it, and that `number_of` finds the number of `IsNumber` (`number_is`, `is_number`).
-use Prim.Native.Nat.{ℕ, ◌+◌, ◌-◌, ◌*◌, ◌<◌, ◌≤◌}
+use Prim.Native.Nat.{ℕ, ◌+◌, ◌-◌, ◌*◌, ◌^◌, ◌<◌, ◌≤◌}
 use mathlib.Core.Path.{◌≡◌, refl, sym, ap, ◌∙◌}
-use mathlib.Core.Logic.{◌≢◌}
+use mathlib.Core.Logic.{◌≢◌, inl, inr}
 use mathlib.Core.Bool.{Bool, true, false, cond, not, ◌&&◌}
 use mathlib.Core.List.{List, [], ◌∷◌}
 use native.Mathlib.Numerals.{add-one}
@@ -13,8 +13,9 @@ use lib.Seq.{drop-cons}
 use Rattle.columns.specs.Columns.{digit_of, shown_after}
 use Rattle.columns.proofs.Columns.{and_left, and_right}
 use Rattle.call_lines.specs.Number.{IsDigit, Digits, none, more, IsNumber, is_a_digit, only_digits, fitting, with_digit, number_from, number_of}
-use Rattle.call_lines.specs.declared.Number.{Number}
-use Rattle.call_lines.specs.declared.Number.TheVariants as number
+use Rattle.std.specs.Prelude.{None, Some, SomeIff}
+use Rattle.std.specs.Char.{IsAsciiDigit, IsNotAsciiDigit}
+use Rattle.std.specs.declared.option.Option.{Option}
 
 -- ---- one digit
 
@@ -32,39 +33,37 @@ is_digit b h =
     (l, m)
 
 module _ (n b : ℕ) where
-  pub digit_low : b < 48 → number.None ≡ with_digit n b
+  low_none : b < 48 → None ≡ with_digit n b
   unfolding with_digit
-  digit_low h = rw (lt-ltb b 48 h)
+  low_none h = rw (lt-ltb b 48 h)
 
-  pub digit_high : 48 ≤ b → 57 < b → number.None ≡ with_digit n b
+  high_none : 48 ≤ b → 57 < b → None ≡ with_digit n b
   unfolding with_digit
-  digit_high l h = rw (le-ltb b 48 l, lt-ltb 57 b h)
+  high_none l h = rw (le-ltb b 48 l, lt-ltb 57 b h)
 
-  fits : 48 ≤ b → b ≤ 57 → (m : ℕ) → m ≡ n * 10 + (b - 48) → m < 18446744073709551616 → number.Is m ≡ with_digit n b
+  fits : 48 ≤ b → b ≤ 57 → (m : ℕ) → m ≡ n * 10 + (b - 48) → m < 18446744073709551616 → Some m ≡ with_digit n b
   unfolding with_digit
   fits l h m e f =
       let i : IsDigit b = (l, h) in
       rw (digit_of_lem b i, le-ltb b 48 l, le-ltb 57 b h, ← e, lt-ltb m 18446744073709551616 f)
 
-  over : 48 ≤ b → b ≤ 57 → 18446744073709551616 ≤ n * 10 + (b - 48) → number.None ≡ with_digit n b
+  over : 48 ≤ b → b ≤ 57 → 18446744073709551616 ≤ n * 10 + (b - 48) → None ≡ with_digit n b
   unfolding with_digit
   over l h f =
       let i : IsDigit b = (l, h) in
       rw (digit_of_lem b i, le-ltb b 48 l, le-ltb 57 b h, le-ltb (n * 10 + (b - 48)) 18446744073709551616 f)
 
-  -- the largest number is ten times 1,844,674,407,370,955,161, and 5
-  module _ (low : 48 ≤ b) (high : b ≤ 57) (d : ℕ) (ed : d ≡ b - 48) where
-    pub fits_below : n < 1844674407370955161 → number.Is (n * 10 + d) ≡ with_digit n b
-    fits_below h = fits low high (n * 10 + d) (omega arith) (omega arith)
+  pub no_digit : IsNotAsciiDigit b → None ≡ with_digit n b
+  no_digit (inl h) = low_none h
+  no_digit (inr h) = high_none (omega arith) h
 
-    pub over_above : 1844674407370955161 < n → number.None ≡ with_digit n b
-    over_above h = over low high (omega arith)
+  module _ (digit : IsAsciiDigit b) where
+    pub product_over : (n * 10 < 2 ^ 64 → ⊥) → None ≡ with_digit n b
+    product_over full = over digit.0 digit.1 (omega (arith, full))
 
-    pub over_last : 1844674407370955161 ≤ n → 5 < d → number.None ≡ with_digit n b
-    over_last h m = over low high (omega arith)
-
-    pub fits_last : n ≤ 1844674407370955161 → d ≤ 5 → number.Is (n * 10 + d) ≡ with_digit n b
-    fits_last h m = fits low high (n * 10 + d) (omega arith) (omega arith)
+    pub sum_fits : (s : Option ℕ) (m d : ℕ) → m ≡ n * 10 → d ≡ b - 48 → SomeIff s (m + d < 2 ^ 64) (m + d) → s ≡ with_digit n b
+    sum_fits None m d em ed full = over digit.0 digit.1 (omega (arith, full))
+    sum_fits (Some x) m d em ed fact = let f = fact.0 in let g = fact.1 in fits digit.0 digit.1 x (omega arith) (omega arith)
 
 -- ---- the loop
 
@@ -73,20 +72,20 @@ unfolding shown_after
 more_shown n [] = omega arith
 more_shown n (b ∷ digits) = let h = more_shown (n * 10 + digit_of b) digits in omega arith
 
-not_fitting : (a : Bool) (n : ℕ) → 18446744073709551616 ≤ n → fitting a n ≡ number.None
+not_fitting : (a : Bool) (n : ℕ) → 18446744073709551616 ≤ n → fitting a n ≡ None
 not_fitting true n h = rw (le-ltb n 18446744073709551616 h)
 not_fitting false n h = refl
 
 -- one digit in front
 next_by : (z w : Bool) (n b m : ℕ) (digits : List ℕ) → is_a_digit b ≡ z → ltb (n * 10 + digit_of b) 18446744073709551616 ≡ w
-    → cond (z && w) (number.Is (n * 10 + digit_of b)) number.None ≡ number.Is m → number_from n (b ∷ digits) ≡ number_from m digits
+    → cond (z && w) (Some (n * 10 + digit_of b)) None ≡ Some m → number_from n (b ∷ digits) ≡ number_from m digits
 unfolding number_from only_digits shown_after
 next_by true true n b m digits ez ew e = let h : n * 10 + digit_of b ≡ m = cc in rw (ez, h)
 next_by true false n b m digits ez ew e = let h : ◌≡◌ {A = ℕ} 0 1 = cc in absurd (omega arith)
 next_by false w n b m digits ez ew e = let h : ◌≡◌ {A = ℕ} 0 1 = cc in absurd (omega arith)
 
 fits_by : (z w : Bool) (n b m : ℕ) → ltb (n * 10 + digit_of b) 18446744073709551616 ≡ w
-    → cond (z && w) (number.Is (n * 10 + digit_of b)) number.None ≡ number.Is m → m < 18446744073709551616
+    → cond (z && w) (Some (n * 10 + digit_of b)) None ≡ Some m → m < 18446744073709551616
 fits_by true true n b m ew e =
     let h : n * 10 + digit_of b ≡ m = cc in
     let l = ltb-true (n * 10 + digit_of b) 18446744073709551616 ew in
@@ -95,7 +94,7 @@ fits_by true false n b m ew e = let h : ◌≡◌ {A = ℕ} 0 1 = cc in absurd (
 fits_by false w n b m ew e = let h : ◌≡◌ {A = ℕ} 0 1 = cc in absurd (omega arith)
 
 none_by : (z w : Bool) (n b : ℕ) (digits : List ℕ) → is_a_digit b ≡ z → ltb (n * 10 + digit_of b) 18446744073709551616 ≡ w
-    → cond (z && w) (number.Is (n * 10 + digit_of b)) number.None ≡ number.None → number_from n (b ∷ digits) ≡ number.None
+    → cond (z && w) (Some (n * 10 + digit_of b)) None ≡ None → number_from n (b ∷ digits) ≡ None
 unfolding number_from only_digits shown_after
 none_by true true n b digits ez ew e = let h : ◌≡◌ {A = ℕ} 0 1 = cc in absurd (omega arith)
 none_by true false n b digits ez ew e =
@@ -104,21 +103,21 @@ none_by true false n b digits ez ew e =
     rw ez (not_fitting (only_digits digits) (shown_after (n * 10 + digit_of b) digits) (omega arith))
 none_by false w n b digits ez ew e = rw ez
 
-module _ (digits : List ℕ) (n i : ℕ) (h : i < length digits) (w : Number) (ew : w ≡ with_digit n (get_or digits i 0)) where
+module _ (digits : List ℕ) (n i : ℕ) (h : i < length digits) (w : Option ℕ) (ew : w ≡ with_digit n (get_or digits i 0)) where
   split : drop i digits ≡ get_or digits i 0 ∷ drop (i + 1) digits
   split = rw (add-one, drop-cons digits i 0 h)
 
-  pub goes_on : (m : ℕ) → w ≡ number.Is m → number_from n (drop i digits) ≡ number_from 0 digits
+  pub goes_on : (m : ℕ) → w ≡ Some m → number_from n (drop i digits) ≡ number_from 0 digits
       → number_from m (drop (i + 1) digits) ≡ number_from 0 digits
   unfolding with_digit
   goes_on m em e =
       sym (ap (number_from n) split ∙ next_by _ _ n (get_or digits i 0) m (drop (i + 1) digits) refl refl (sym ew ∙ em)) ∙ e
 
-  pub still_fits : (m : ℕ) → w ≡ number.Is m → m < 18446744073709551616
+  pub still_fits : (m : ℕ) → w ≡ Some m → m < 18446744073709551616
   unfolding with_digit
   still_fits m em = fits_by (is_a_digit (get_or digits i 0)) _ n (get_or digits i 0) m refl (sym ew ∙ em)
 
-  stops : w ≡ number.None → number_from n (drop i digits) ≡ number_from 0 digits → number.None ≡ number_from 0 digits
+  stops : w ≡ None → number_from n (drop i digits) ≡ number_from 0 digits → None ≡ number_from 0 digits
   unfolding with_digit
   stops em e =
       sym (ap (number_from n) split ∙ none_by _ _ n (get_or digits i 0) (drop (i + 1) digits) refl refl (sym ew ∙ em)) ∙ e
@@ -131,16 +130,16 @@ number_within digits some few =
     let m : length digits < 21 = omega arith in
     rw (lt-ltb 0 (length digits) l, lt-ltb (length digits) 21 m)
 
-last : (n : ℕ) → n < 18446744073709551616 → number_from n [] ≡ number.Is n
+last : (n : ℕ) → n < 18446744073709551616 → number_from n [] ≡ Some n
 unfolding number_from only_digits shown_after
 last n h = rw (lt-ltb n 18446744073709551616 h)
 
 module _ (digits : List ℕ) where
-  pub too_few : length digits ≡ 0 → number.None ≡ number_of digits
+  pub too_few : length digits ≡ 0 → None ≡ number_of digits
   unfolding number_of
   too_few e = rw e
 
-  pub too_many : 20 < length digits → number.None ≡ number_of digits
+  pub too_many : 20 < length digits → None ≡ number_of digits
   unfolding number_of
   too_many h =
       let l : 0 < length digits = omega arith in
@@ -148,12 +147,12 @@ module _ (digits : List ℕ) where
       rw (lt-ltb 0 (length digits) l, le-ltb (length digits) 21 m)
 
   module _ (some : length digits ≢ 0) (few : length digits ≤ 20) where
-    pub no_number : (n i : ℕ) → i < length digits → (w : Number) → w ≡ with_digit n (get_or digits i 0) → w ≡ number.None
-        → number_from n (drop i digits) ≡ number_from 0 digits → number.None ≡ number_of digits
+    pub no_number : (n i : ℕ) → i < length digits → (w : Option ℕ) → w ≡ with_digit n (get_or digits i 0) → w ≡ None
+        → number_from n (drop i digits) ≡ number_from 0 digits → None ≡ number_of digits
     no_number n i h w ew em e = stops digits n i h w ew em e ∙ sym (number_within digits some few)
 
     pub ends : (n i : ℕ) → length digits ≤ i → n < 18446744073709551616 → number_from n (drop i digits) ≡ number_from 0 digits
-        → number.Is n ≡ number_of digits
+        → Some n ≡ number_of digits
     ends n i h f e = sym (number_within digits some few ∙ (sym e ∙ (ap (number_from n) (drop_of_length-le digits h) ∙ last n f)))
 
 -- ---- what is found
@@ -169,7 +168,7 @@ unfolding only_digits
 digits_all none = refl
 digits_all (more {b = b} h ds) = rw (digit_is b h, digits_all ds)
 
-pub number_is : (digits : List ℕ) (n : ℕ) → IsNumber digits n → number_of digits ≡ number.Is n
+pub number_is : (digits : List ℕ) (n : ℕ) → IsNumber digits n → number_of digits ≡ Some n
 unfolding number_of number_from
 number_is digits n i =
     let l : 0 < length digits = i.some in
@@ -178,7 +177,7 @@ number_is digits n i =
 
 is_number_by : (digits : List ℕ) (n : ℕ) (p q r s : Bool) → ltb 0 (length digits) ≡ p → ltb (length digits) 21 ≡ q → only_digits digits ≡ r
     → ltb (shown_after 0 digits) 18446744073709551616 ≡ s
-    → cond (p && q) (cond (r && s) (number.Is (shown_after 0 digits)) number.None) number.None ≡ number.Is n → IsNumber digits n
+    → cond (p && q) (cond (r && s) (Some (shown_after 0 digits)) None) None ≡ Some n → IsNumber digits n
 is_number_by digits n true true true true ep eq er es e =
     let v : shown_after 0 digits ≡ n = cc in
     let f = ltb-true (length digits) 21 eq in
@@ -189,6 +188,6 @@ is_number_by digits n true true false s ep eq er es e = let h : ◌≡◌ {A = �
 is_number_by digits n true false r s ep eq er es e = let h : ◌≡◌ {A = ℕ} 0 1 = cc in absurd (omega arith)
 is_number_by digits n false q r s ep eq er es e = let h : ◌≡◌ {A = ℕ} 0 1 = cc in absurd (omega arith)
 
-pub is_number : (digits : List ℕ) (n : ℕ) → number_of digits ≡ number.Is n → IsNumber digits n
+pub is_number : (digits : List ℕ) (n : ℕ) → number_of digits ≡ Some n → IsNumber digits n
 unfolding number_of number_from
 is_number digits n e = is_number_by digits n _ _ _ _ refl refl refl refl e

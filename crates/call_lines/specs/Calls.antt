@@ -1,10 +1,9 @@
 -- What the line of a desk call says, without its byte 10: "`load N`, `advance N`, `verdict`, `measure N`, `drop`" (`IsCall`). `call_of` finds
 -- the call of a line; that it does, and that no line is two calls, is proved in proofs/Calls.
-use Rattle.std.specs.Prelude.{ℕ, cond, List, [], ◌∷◌, ◌++◌, length, take, drop}
-use Rattle.columns.specs.Columns.{bytes_agree}
+use Rattle.std.specs.Prelude.{ℕ, cond, List, [], ◌∷◌, ◌++◌, length, take, drop, None, Some}
+use Rattle.std.specs.declared.option.Option.{Option}
+use Rattle.std.specs.Str.{bytes_eq}
 use Rattle.call_lines.specs.Number.{IsNumber, number_of}
-use Rattle.call_lines.specs.declared.Number.{Number}
-use Rattle.call_lines.specs.declared.Number.TheVariants as number
 use Rattle.call_lines.specs.declared.Call.{Call}
 use Rattle.call_lines.specs.declared.Call.TheVariants as call
 
@@ -35,25 +34,25 @@ pub data IsCall : List ℕ → Call → Type 0 where
 -- ---- which call a line is
 
 -- the number that is all of a line after a word
-unfoldable pub number_behind : List ℕ → List ℕ → Number
-number_behind word line = cond (bytes_agree (take (length word) line) word) (number_of (drop (length word) line)) number.None
+unfoldable pub number_behind : List ℕ → List ℕ → Option ℕ
+number_behind word line = cond (bytes_eq (take (length word) line) word) (number_of (drop (length word) line)) None
 
-abbrev pub load_or : Number → Call → Call
-load_or (number.Is n) other = call.Load n
-load_or number.None other = other
+abbrev pub load_or : Option ℕ → Option Call → Option Call
+load_or (Some n) other = Some (call.Load n)
+load_or None other = other
 
-abbrev pub advance_or : Number → Call → Call
-advance_or (number.Is n) other = call.Advance n
-advance_or number.None other = other
+abbrev pub advance_or : Option ℕ → Option Call → Option Call
+advance_or (Some n) other = Some (call.Advance n)
+advance_or None other = other
 
-abbrev pub measure_or : Number → Call → Call
-measure_or (number.Is n) other = call.Measure n
-measure_or number.None other = other
+abbrev pub measure_or : Option ℕ → Option Call → Option Call
+measure_or (Some n) other = Some (call.Measure n)
+measure_or None other = other
 
-unfoldable pub call_of : List ℕ → Call
+unfoldable pub call_of : List ℕ → Option Call
 call_of line =
-    cond (bytes_agree line verdict_word) call.Verdict
-    (cond (bytes_agree line drop_word) call.Drop
+    cond (bytes_eq line verdict_word) (Some call.Verdict)
+    (cond (bytes_eq line drop_word) (Some call.Drop)
     (load_or (number_behind load_word line)
     (advance_or (number_behind advance_word line)
-    (measure_or (number_behind measure_word line) call.NoCall))))
+    (measure_or (number_behind measure_word line) None))))

@@ -1,9 +1,8 @@
 -- A number as a line says it: "decimal, 1 to 20 digits, up to the largest u64" (`IsNumber`). `number_of` finds the number of digits; that
 -- it does is proved in proofs/Digits. `decimal_of` writes a number without zeros in front.
-use Rattle.std.specs.Prelude.{ℕ, zero, suc, ◌+◌, ◌*◌, ◌/◌, ◌%◌, ◌<◌, ◌≤◌, ◌≡◌, Bool, true, cond, not, ◌&&◌, List, [], ◌∷◌, ◌++◌, ltb, length}
+use Rattle.std.specs.Prelude.{ℕ, zero, suc, ◌+◌, ◌*◌, ◌/◌, ◌%◌, ◌<◌, ◌≤◌, ◌≡◌, Bool, true, cond, not, ◌&&◌, List, [], ◌∷◌, ◌++◌, None, Some, ltb, length}
 use Rattle.columns.specs.Columns.{digit_of, shown_after}
-use Rattle.call_lines.specs.declared.Number.{Number}
-use Rattle.call_lines.specs.declared.Number.TheVariants as number
+use Rattle.std.specs.declared.option.Option.{Option}
 
 -- a digit is a byte from 48 to 57
 abbrev pub IsDigit : ℕ → Type 0
@@ -31,19 +30,19 @@ only_digits [] = true
 only_digits (b ∷ bytes) = is_a_digit b && only_digits bytes
 
 -- a number that fits, or none
-abbrev pub fitting : Bool → ℕ → Number
-fitting digits n = cond (digits && ltb n 18446744073709551616) (number.Is n) number.None
+abbrev pub fitting : Bool → ℕ → Option ℕ
+fitting digits n = cond (digits && ltb n 18446744073709551616) (Some n) None
 
 -- the number with one more digit at its end
-unfoldable pub with_digit : ℕ → ℕ → Number
+unfoldable pub with_digit : ℕ → ℕ → Option ℕ
 with_digit n b = fitting (is_a_digit b) (n * 10 + digit_of b)
 
 -- the number that digits say after the number n
-unfoldable pub number_from : ℕ → List ℕ → Number
+unfoldable pub number_from : ℕ → List ℕ → Option ℕ
 number_from n digits = fitting (only_digits digits) (shown_after n digits)
 
-unfoldable pub number_of : List ℕ → Number
-number_of digits = cond (ltb 0 (length digits) && ltb (length digits) 21) (number_from 0 digits) number.None
+unfoldable pub number_of : List ℕ → Option ℕ
+number_of digits = cond (ltb 0 (length digits) && ltb (length digits) 21) (number_from 0 digits) None
 
 -- ---- a number in decimal
 

@@ -2,14 +2,14 @@
 // specs/Calls, for every desk and every argument. Of a measure's line it is the head; the places follow in pieces (answer_lines).
 #![tactic(auto)]
 
-ghost use Rattle.std.specs.Prelude.{ℕ, min, ◌≡◌, List, length, take, replicate};
+ghost use Rattle.std.specs.Prelude.{ℕ, min, ◌≡◌, List, length, take};
 ghost use Rattle.io.specs.Counts.{IsPrefixLen};
 ghost use Rattle.desk.specs.Desk.{load_of, advance_of, tell_of, drop_of};
 ghost use Rattle.answer_lines.specs.Answers.{drop_word, done_line, advance_line, verdict_line};
 ghost use Rattle.calls.specs.Calls.{IsText, line_loaded, MeasureSaid};
 
 use answer_lines::{Head, ROOM};
-use desk::{AfterLoad, Desk};
+use desk::Desk;
 
 // The longest text that is not turned down for its length, and one byte: no answer depends on more.
 pub const ENOUGH: usize = limits::MAX_BYTES + 1;
@@ -31,18 +31,21 @@ pub struct AnsweredMeasure {
     pub head: Head,
 }
 
+// The four calls that answer in one line have a call, an answer's type and a line each: one function over these is no plainer.
+
 // Loads a text of n bytes, of which as many as there is room for were read.
 pub fn run_load(desk: Desk, room: &[u8; ENOUGH], n: u64, line: &mut [u8; ROOM]) -> Answered
     ensures prefix_len { IsPrefixLen result.length line.new }
     ensures by_index { (text : List ℕ) → IsText n room.now text → result.desk ≡ (load_of desk text).desk }
     ensures by_index_2 { (text : List ℕ) → IsText n room.now text → take result.length line.new ≡ line_loaded desk text }
 {
-    let bytes: &[u8] = room;
-    let loaded = load_start(desk, bytes, n);
-    let answer = loaded.answer;
-    let length = answer_lines::put_load(line, answer);
-    let next = loaded.desk;
-    Answered { desk: next, length }
+    let kept = n.min(ENOUGH as u64) as usize;
+    let loaded = desk.load(&room[..kept]);
+    let length = answer_lines::put_load(line, loaded.answer);
+    Answered {
+        desk: loaded.desk,
+        length,
+    }
 }
 
 pub fn run_advance(desk: Desk, n: u64, line: &mut [u8; ROOM]) -> Answered
@@ -51,10 +54,11 @@ pub fn run_advance(desk: Desk, n: u64, line: &mut [u8; ROOM]) -> Answered
     ensures line_after { take result.length line.new ≡ advance_line (advance_of desk n).answer }
 {
     let advanced = desk.advance(n);
-    let answer = advanced.answer;
-    let length = answer_lines::put_advance(line, answer);
-    let next = advanced.desk;
-    Answered { desk: next, length }
+    let length = answer_lines::put_advance(line, advanced.answer);
+    Answered {
+        desk: advanced.desk,
+        length,
+    }
 }
 
 pub fn run_verdict(desk: Desk, line: &mut [u8; ROOM]) -> Answered
@@ -63,10 +67,11 @@ pub fn run_verdict(desk: Desk, line: &mut [u8; ROOM]) -> Answered
     ensures line_after { take result.length line.new ≡ verdict_line (tell_of desk).answer }
 {
     let told = desk.verdict();
-    let answer = told.answer;
-    let length = answer_lines::put_verdict(line, answer);
-    let next = told.desk;
-    Answered { desk: next, length }
+    let length = answer_lines::put_verdict(line, told.answer);
+    Answered {
+        desk: told.desk,
+        length,
+    }
 }
 
 // Makes a measure in the first n of the places lent, or all; they hold 65535 before it.
@@ -75,11 +80,14 @@ pub fn run_measure(desk: Desk, places: &mut [u16], n: u64, line: &mut [u8; ROOM]
     ensures desk_value { result.desk ≡ desk }
     ensures measure_said { MeasureSaid desk (min n (length places.old)) (take n places.new) (take result.head.length line.new) result.head.places }
 {
-    if n < places.len() as u64 {
-        let count = n as usize;
-        measure_in(desk, &mut places[0..count], line)
-    } else {
-        measure_in(desk, places, line)
+    let count = n.min(places.len() as u64) as usize;
+    let slice = &mut places[..count];
+    slice.fill(65535);
+    let measured = desk.measure(slice);
+    let head = answer_lines::put_measured(line, measured.answer);
+    AnsweredMeasure {
+        desk: measured.desk,
+        head,
     }
 }
 
@@ -89,45 +97,9 @@ pub fn run_drop(desk: Desk, line: &mut [u8; ROOM]) -> Answered
     ensures line_after { take result.length line.new ≡ done_line drop_word (drop_of desk).answer }
 {
     let dropped = desk.drop();
-    let answer = dropped.answer;
-    let length = answer_lines::put_drop(line, answer);
-    let next = dropped.desk;
-    Answered { desk: next, length }
-}
-
-// Loads the first n bytes, or all.
-fn load_start(desk: Desk, bytes: &[u8], n: u64) -> AfterLoad
-    ensures { result ≡ load_of desk (take n bytes.now) }
-{
-    if n < bytes.len() as u64 {
-        let k = n as usize;
-        desk.load(&bytes[0..k])
-    } else {
-        desk.load(bytes)
-    }
-}
-
-// Makes a measure in a slice.
-fn measure_in(desk: Desk, slice: &mut [u16], line: &mut [u8; ROOM]) -> AnsweredMeasure
-    ensures prefix_len { IsPrefixLen result.head.length line.new }
-    ensures desk_value { result.desk ≡ desk }
-    ensures measure_said { MeasureSaid desk (length slice.old) slice.new (take result.head.length line.new) result.head.places }
-{
-    fill(slice);
-    let measured = desk.measure(slice);
-    let answer = measured.answer;
-    let head = answer_lines::put_measured(line, answer);
-    let next = measured.desk;
-    AnsweredMeasure { desk: next, head }
-}
-
-// 65535 in each place.
-fn fill(slice: &mut [u16])
-    ensures { slice.new ≡ replicate (length slice.old) 65535 }
-{
-    let mut i = 0;
-    while i < slice.len() {
-        slice[i] = 65535;
-        i += 1;
+    let length = answer_lines::put_drop(line, dropped.answer);
+    Answered {
+        desk: dropped.desk,
+        length,
     }
 }

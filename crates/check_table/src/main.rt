@@ -3,14 +3,12 @@
 // where the report can't be written it may not be there in full: a line on standard error says so.
 #![tactic(auto)]
 
-use streams::Input;
-
 fn main(rt: HostRuntime) {
     let mut room = [0u8; table_input::ENOUGH];
     let input = streams::read_input(&mut rt.stdin(), &mut room);
     let mut output = [0u8; writer::REPORT_BYTES];
     let n = table_input::put_output(&room, input, &mut output);
-    if let Input::Failed(error) = input {
+    if let Err(error) = input {
         let _ = streams::fail(&mut rt.stderr(), b"check_table: standard input", error);
     } else if let Err(error) = streams::write_all(&mut rt.stdout(), &output[..n]) {
         let _ = streams::fail(&mut rt.stderr(), b"check_table: standard output", error);

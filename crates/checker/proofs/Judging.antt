@@ -1,7 +1,6 @@
 -- The one-call check gives the verdict on the text's design.
 use Prim.Native.Nat.{ℕ, ◌≤◌, ◌<◌}
-use mathlib.Core.Path.{◌≡◌, refl, sym, ◌∙◌}
-use mathlib.Core.Logic.{◌≢◌}
+use mathlib.Core.Path.{◌≡◌, refl, ◌∙◌}
 use mathlib.Core.Bool.{Bool, true, false, cond}
 use mathlib.Core.List.{List}
 use native.Mathlib.Omega.{arith}
@@ -25,7 +24,11 @@ use Rattle.design.specs.Lines.{counts_of, design_text}
 use Rattle.design.specs.Loaded.{fields_held, starts_held}
 use Rattle.loader.specs.Load.{fault_of, held_by, loaded_of}
 use Rattle.loader.specs.declared.Loaded.{Loaded}
-use Rattle.loader.proofs.Passed.{fault_kept}
+use Rattle.loader.proofs.Passed.{of_ok, of_err}
+use Rattle.std.specs.Prelude.{Result, Ok, Err}
+use Rattle.verdicts.specs.declared.Fault.{Fault}
+use Rattle.verdicts.specs.Refusals.{fault_number}
+use Rattle.verdicts.proofs.Refusals.{number_is_some}
 use Rattle.start.specs.Start.{acceptance_in}
 use Rattle.walk.specs.Told.{said}
 use Rattle.walk.specs.Walk.{checked_in}
@@ -51,21 +54,18 @@ checked_held text ok =
     go true = refl
     go false = refl
 
-module _ (text : List ℕ) (l : Loaded) (el : l ≡ loaded_of text) where
-  fault_is : l.fault ≡ fault_of text
-  fault_is = rw el (fault_kept text)
-
-  pub judge_refused : l.fault ≢ 0 → (r : Report) → r ≡ refused_report l.fault → r ≡ judged_of text
+module _ (text : List ℕ) (q : Result Loaded Fault) (eq : q ≡ loaded_of text) where
+  pub judge_refused : (f : Fault) → q ≡ Err f → (k : ℕ) → k ≡ fault_number f → (r : Report) → r ≡ refused_report k → r ≡ judged_of text
   unfolding judged_of
-  judge_refused h r er = er ∙ rw (fault_is, ne_eqb (fault_of text) 0 (λ z. h (fault_is ∙ z)))
+  judge_refused f e k ek r er = let is = of_err text q eq f e in er ∙ rw (is, ek, ne_eqb (fault_number f) 0 (number_is_some f))
 
-  pub judge_loaded : l.fault ≡ 0 → (o : Outcome) → o ≡ checked_in l.fields l.starts l.counts
-      → (p : Phase) → p ≡ phase_after o true (acceptance_in l.fields l.starts l.counts) → (v : Verdict) → v ≡ told_by p
+  pub judge_loaded : (l : Loaded) → q ≡ Ok l → (o : Outcome) → o ≡ checked_in l.lines.fields l.lines.starts l.counts
+      → (p : Phase) → p ≡ phase_after o true (acceptance_in l.lines.fields l.lines.starts l.counts) → (v : Verdict) → v ≡ told_by p
       → (r : Report) → r ≡ verdict_numbers v → r ≡ judged_of text
-  unfolding judged_of loaded_of
-  judge_loaded z o eo p ep v ev r er =
-      let ok : fault_of text ≡ 0 = sym fault_is ∙ z in
-      let held : l ≡ held_by (fields_by_line text) = el ∙ rw ok in
+  unfolding judged_of
+  judge_loaded l e o eo p ep v ev r er =
+      let ok : fault_of text ≡ 0 = (of_ok text q eq l e).0 in
+      let held : l ≡ held_by (fields_by_line text) = (of_ok text q eq l e).1 in
       er ∙ rw (ev, ep, eo, held, ok, checked_held text ok, accepted_held text ok) (same_report (acceptance_of (design_text text)) (checked (design_text text)))
     where
       same_report : (how : Acceptance) (w : first.Outcome Failure) → verdict_numbers (told_by (phase_after (said w) true how)) ≡ design_report (by_outcome how w)

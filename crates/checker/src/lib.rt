@@ -26,15 +26,15 @@ pub fn check_design(text: &[u8], report: &mut [u8]) -> u32
 pub fn judge(text: &[u8]) -> Report
     ensures { result ≡ judged_of text.now }
 {
-    let loaded = loader::load(text);
-    let fault = loaded.fault;
-    if fault != 0 {
-        return turned_down(fault);
+    match loader::load(text) {
+        Ok(loaded) => {
+            let outcome = walk::check(&loaded.lines, loaded.counts);
+            let phase = phases::after(&loaded.lines, loaded.counts, outcome, true);
+            let verdict = answers::verdict_of(phase);
+            answers::verdict_numbers(verdict)
+        }
+        Err(fault) => turned_down(fault.number()),
     }
-    let outcome = walk::check(&loaded.fields, &loaded.starts, loaded.counts);
-    let phase = phases::after(&loaded.fields, &loaded.starts, loaded.counts, outcome, true);
-    let verdict = answers::verdict_of(phase);
-    answers::verdict_numbers(verdict)
 }
 
 fn turned_down(number: u16) -> Report

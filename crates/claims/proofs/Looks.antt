@@ -18,7 +18,7 @@ use Rattle.design.specs.Line.{value_in, formula_in}
 use Rattle.design.specs.Lines.{design_text}
 use Rattle.design.specs.Loaded.{design_at}
 use Rattle.layout.specs.Sizes.{shape_of}
-use Rattle.loader.specs.Load.{fault_of, loaded_of}
+use Rattle.loader.specs.Load.{fault_of}
 use Rattle.loader.proofs.Lowest.{free_exactly, lowest_fault}
 use Rattle.loader.proofs.Passed.{admitted}
 use Rattle.lowest_failure.specs.Search.{criterion_for, holds_for, at_impl, at_impl_by, at_spec}
@@ -28,7 +28,7 @@ use Rattle.desk_numbers.specs.Numbers.{counts_told, counts_in}
 use Rattle.told_terms.specs.Terms.{value_told, formula_told}
 use Rattle.told_terms.proofs.Laws.{value_at_state, formula_at_state}
 use Rattle.told_rows.specs.Rows.{told_row}
-use Rattle.looking.specs.Told.{state_told, criterion_told}
+use Rattle.looking.specs.Told.{arrays_of, state_told, criterion_told}
 use Rattle.looking.proofs.Held.{held_design}
 use Rattle.claims.specs.Looks.{Holds, holds, Names, names, SeesValue, SeesFormula, SeesState, SeesRow, SeesCriterion, Asks, second, third, fourth, fifth, sixth, seventh, eighth, ninth, Looks}
 use Rattle.claims.specs.Looks as looks_specs
@@ -42,8 +42,8 @@ number_told_lem (holds κs text f₀ s₀ c₀ f s c r p) = p.0
 design_told : {text f s c : List ℕ} → Holds text 0 f s c → design_at f s (shape_of (counts_in c)) ≡ design_text text
 design_told (holds κs text f₀ s₀ c₀ f s c r p) =
     ap (λ (l : List ℕ). design_at l s.now (shape_of (counts_in c.now))) p.1.0
-    ∙ ap (λ (l : List ℕ). design_at (loaded_of text.now).fields l (shape_of (counts_in c.now))) p.1.1.0
-    ∙ ap (λ (l : List ℕ). design_at (loaded_of text.now).fields (loaded_of text.now).starts (shape_of (counts_in l))) p.1.1.1
+    ∙ ap (λ (l : List ℕ). design_at (arrays_of text.now).lines.fields l (shape_of (counts_in c.now))) p.1.1.0
+    ∙ ap (λ (l : List ℕ). design_at (arrays_of text.now).lines.fields (arrays_of text.now).lines.starts (shape_of (counts_in l))) p.1.1.1
     ∙ held_design text.now (sym p.0)
 
 line_told_lem : {text : List ℕ} {from r : ℕ} → Names text from r → Tells text from r
@@ -123,9 +123,9 @@ looks = record {
   criterion_asks = λ κs f s c v n k e. tt;
   hold_there = λ text. (
     fault_of text,
-    (loaded_of text).fields,
-    (loaded_of text).starts,
-    counts_told (loaded_of text).counts,
+    (arrays_of text).lines.fields,
+    (arrays_of text).lines.starts,
+    counts_told (arrays_of text).counts,
     holds ([], ([], ([], ([], tt)))) (lent text) (lent_out []) (lent_out []) (lent_out []) (lent_out _) (lent_out _) (lent_out _) _ (refl, (refl, (refl, refl))),
   );
   state_there = λ f s c v. (

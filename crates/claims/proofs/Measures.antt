@@ -6,7 +6,6 @@ use mathlib.Core.Bool.{Bool, true, false, cond}
 use mathlib.Core.List.{List}
 use native.Mathlib.Omega.{arith}
 use native.Mathlib.Decide.{dec_le}
-use borrow.Author.Tests.{eq-eqb}
 use lib.ListN.{length}
 use Rattle.foundation.specs.Radix.{below_b}
 use Rattle.foundation.proofs.Reflects.{says_yes, is_so, by_below}
@@ -21,8 +20,7 @@ use Rattle.design.specs.Loaded.{fields_held, starts_held, design_at, design_in}
 use Rattle.design.specs.declared.Shape.{Shape}
 use Rattle.layout.specs.Sizes.{shape_of}
 use Rattle.layout.proofs.Sizes.{sections_kept}
-use Rattle.loader.specs.Load.{fault_of, held_by, loaded_of}
-use Rattle.loader.specs.declared.Loaded.{Loaded}
+use Rattle.loader.specs.Load.{fault_of}
 use Rattle.loader.proofs.Lowest.{free_exactly}
 use Rattle.loader.proofs.Passed.{admitted, design_in_lem, counts_allowed_lem}
 use Rattle.marked_edges.specs.Edges.{SumsNumbered}
@@ -185,11 +183,6 @@ module _ (text : List ℕ) (free : fault_of text ≡ 0) where
       let p = room.places in
       by_case d few_states before after (omega arith) r (subst (λ (x : Design). Made x before after r) (design_in_lem text free) m)
 
-  -- what a load comes to
-  loaded_held : loaded_of text ≡ held_by lines
-  unfolding loaded_of
-  loaded_held = rw (eq-eqb (fault_of text) 0 free)
-
 -- ---- on a desk that holds a text
 
 ready : {text : List ℕ} {desk : Desk} → Stage text desk → Ready text desk
@@ -216,7 +209,7 @@ desk_made {text} {desk = desk} s (on_loaded some m) =
 one_call : {text before after : List ℕ} {r : Measured} → fault_of text ≡ 0 → MeasureText text before after r → MadeOf (design_text text) before after r
 one_call free (faulty some same) = absurd (some free)
 one_call {text} {before} {after} {r} free (design_text_lem none m) =
-    text_made text free (subst (λ (l : Loaded). MeasureIn l.fields l.starts l.counts before after r) (loaded_held text free) m)
+    text_made text free m
 
 -- what is told of two answers that are the same but for the state
 told_same : {a b : Measured} → SameAnswer a b → (result_of a ≡ result_of b) × (result_of a ≢ 1 → number_told a ≡ number_told b)

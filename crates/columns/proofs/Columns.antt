@@ -12,8 +12,7 @@ use lib.Dec.{eqb, ltb}
 use lib.ListN.{length, take, drop, length-take, length-drop}
 use lib.Seq.{take_all}
 use Rattle.columns.specs.Columns.{column_of, columns_of, IsField, digit_of, shown_after, bytes_agree, field_of}
-use Rattle.columns.specs.declared.Field.{Field}
-use Rattle.columns.specs.declared.Field.TheVariants.{Number, Malformed}
+use Rattle.std.specs.Prelude.{Option, Some, None}
 
 -- ---- tests
 
@@ -68,7 +67,7 @@ shown n h =
     (div-add-mod' n 10)
 
 -- a field that is written is read back as the same number
-pub read_back : (n : ℕ) → n < 65536 → field_of (columns_of n) ≡ Number n
+pub read_back : (n : ℕ) → n < 65536 → field_of (columns_of n) ≡ Some n
 unfolding field_of
 read_back n h = rw (shown n h, lt-ltb n 65536 h, same_refl (columns_of n))
 
@@ -76,7 +75,7 @@ read_back n h = rw (shown n h, lt-ltb n 65536 h, same_refl (columns_of n))
 
 read_by : (columns : List ℕ) (m n : ℕ) (test : Bool)
     → test ≡ ltb m 65536 && bytes_agree columns (columns_of m)
-    → cond test (Number m) Malformed ≡ Number n
+    → cond test (Some m) None ≡ Some n
     → IsField columns n
 read_by columns m n true e h =
     let k : m ≡ n = cc in
@@ -87,15 +86,15 @@ read_by columns m n true e h =
     })
 read_by columns m n false e h = let z : ◌≡◌ {A = ℕ} 0 1 = cc in let z' : ⊥ = omega arith in absurd z'
 
-pub is_field : (columns : List ℕ) (n : ℕ) → field_of columns ≡ Number n → IsField columns n
+pub is_field : (columns : List ℕ) (n : ℕ) → field_of columns ≡ Some n → IsField columns n
 unfolding field_of
 is_field columns n h = read_by columns (shown_after 0 columns) n _ refl h
 
-pub field_is : {columns : List ℕ} {n : ℕ} → IsField columns n → field_of columns ≡ Number n
+pub field_is : {columns : List ℕ} {n : ℕ} → IsField columns n → field_of columns ≡ Some n
 field_is {columns} {n} f = rw f.written (read_back n f.small)
 
 -- the number is found exactly where the columns are its field
-pub exactly : (columns : List ℕ) (n : ℕ) → (field_of columns ≡ Number n) ↔ IsField columns n
+pub exactly : (columns : List ℕ) (n : ℕ) → (field_of columns ≡ Some n) ↔ IsField columns n
 exactly columns n = (is_field columns n, field_is)
 
 -- ---- a field's length, and that no column ends a line
@@ -104,18 +103,18 @@ pub six : {columns : List ℕ} {n : ℕ} → IsField columns n → length column
 unfolding columns_of
 six f = rw f.written
 
-read_long : (columns : List ℕ) (f : Field) → field_of columns ≡ f → length columns ≢ 6 → f ≡ Malformed
-read_long columns Malformed e h = refl
-read_long columns (Number n) e h = absurd (h (six (is_field columns n e)))
+read_long : (columns : List ℕ) (f : Option ℕ) → field_of columns ≡ f → length columns ≢ 6 → f ≡ None
+read_long columns None e h = refl
+read_long columns (Some n) e h = absurd (h (six (is_field columns n e)))
 
 -- past a line's last six columns there is no field
-pub past_end : (bytes : List ℕ) (k : ℕ) → length bytes / 6 ≤ k → Malformed ≡ field_of (take 6 (drop (6 * k) bytes))
+pub past_end : (bytes : List ℕ) (k : ℕ) → length bytes / 6 ≤ k → None ≡ field_of (take 6 (drop (6 * k) bytes))
 past_end bytes k h =
     let columns = take 6 (drop (6 * k) bytes) in
     sym (read_long columns _ refl (rw (length-take 6 (drop (6 * k) bytes), length-drop (6 * k) bytes) (λ e. omega arith)))
 
 -- what the part that starts at the k-th six columns begins with
-pub field_in : (bytes : List ℕ) (k : ℕ) (r : Field) → r ≡ field_of (take 6 (take (length bytes - 6 * k) (drop (6 * k) bytes)))
+pub field_in : (bytes : List ℕ) (k : ℕ) (r : Option ℕ) → r ≡ field_of (take 6 (take (length bytes - 6 * k) (drop (6 * k) bytes)))
     → r ≡ field_of (take 6 (drop (6 * k) bytes))
 field_in bytes k r e =
     e ∙ rw (take_all (length bytes - 6 * k) (drop (6 * k) bytes) (rw (length-drop (6 * k) bytes) (omega arith)))

@@ -12,11 +12,10 @@ use lib.Dec.{eqb, ltb}
 use lib.ListN.{length}
 use Rattle.columns.specs.Columns.{column_of, columns_of, IsField, field_of}
 use Rattle.columns.specs.Scan.{blanks_of, digits_from, alone, after_blanks, scanned}
-use Rattle.columns.specs.declared.Field.{Field}
-use Rattle.columns.specs.declared.Field.TheVariants.{Number, Malformed}
+use Rattle.std.specs.Prelude.{Option, Some, None}
 use Rattle.columns.proofs.Columns.{is_field, field_is, tens}
 
-never : {n : ℕ} → Malformed ≡ Number n → ⊥
+never : {n : ℕ} → None ≡ Some n → ⊥
 never e = let z : ◌≡◌ {A = ℕ} 0 1 = cc in omega arith
 
 -- ---- digits one by one
@@ -45,7 +44,7 @@ digit_lead : (n weight : ℕ) (columns : List ℕ) → n / weight < 10 → n / w
     → scanned ((48 + n / weight % 10) ∷ columns) ≡ digits_from (n / weight) columns
 digit_lead n weight columns h z = rw (mod-eq_of_lt h) (digit_first (n / weight) columns h z)
 
-last_digit : (n : ℕ) → n < 65536 → digits_from (n / 10) ((48 + n % 10) ∷ []) ≡ Number n
+last_digit : (n : ℕ) → n < 65536 → digits_from (n / 10) ((48 + n % 10) ∷ []) ≡ Some n
 unfolding digits_from
 last_digit n h = rw (digit_next (n / 10) (n % 10) [] (omega arith) (omega arith), div-add-mod' n 10)
 
@@ -79,14 +78,14 @@ is_blank n weight h = rw (lt-ltb n weight h)
 
 -- ---- what is written is scanned
 
-digits_down : (k n : ℕ) → n < 65536 → 10 ^ k ≤ n → digits_from (n / 10 ^ suc k) (columns_in k n) ≡ Number n
+digits_down : (k n : ℕ) → n < 65536 → 10 ^ k ≤ n → digits_from (n / 10 ^ suc k) (columns_in k n) ≡ Some n
 unfolding columns_in
 digits_down zero n small h = last_digit n small
 digits_down (suc k) n small h =
     rw (is_digit n (10 ^ suc k) h, pow-suc 10 (suc k), digit_down n (10 ^ suc k) (columns_in k n) small)
     (digits_down k n small (less_weight k n h))
 
-one_by : (n : ℕ) (none : Bool) → eqb n 0 ≡ none → n < 10 → scanned ((48 + n % 10) ∷ []) ≡ Number n
+one_by : (n : ℕ) (none : Bool) → eqb n 0 ≡ none → n < 10 → scanned ((48 + n % 10) ∷ []) ≡ Some n
 unfolding scanned blanks_of after_blanks alone digits_from
 one_by n true e h = rw (eqb-true n 0 e)
 one_by n false e h = rw (mod-eq_of_lt h) (digit_first n [] h (eqb-false n 0 e))
@@ -104,8 +103,8 @@ weight_some (suc k) = let h = weight_some k in rw (pow-suc 10 k) (omega arith)
 
 -- a column more on the left: a blank, or the first digit
 columns_by : (k n : ℕ) (less : Bool) → ltb n (10 ^ suc k) ≡ less → n < 65536 → n < 10 ^ suc (suc k)
-    → (n < 10 ^ suc k → scanned (columns_in k n) ≡ Number n)
-    → scanned (columns_in (suc k) n) ≡ Number n
+    → (n < 10 ^ suc k → scanned (columns_in k n) ≡ Some n)
+    → scanned (columns_in (suc k) n) ≡ Some n
 unfolding columns_in
 columns_by k n true e small h ih =
     let l = ltb-true n (10 ^ suc k) e in
@@ -117,12 +116,12 @@ columns_by k n false e small h ih =
     (is_digit n (10 ^ suc k) g, digit_lead n (10 ^ suc k) (columns_in k n) (lead_small n (10 ^ suc k) p (rw (pow-suc 10 (suc k)) at h)) (lead_some n (10 ^ suc k) p g))
     (digits_down k n small (less_weight k n g))
 
-columns_down : (k n : ℕ) → n < 65536 → n < 10 ^ suc k → scanned (columns_in k n) ≡ Number n
+columns_down : (k n : ℕ) → n < 65536 → n < 10 ^ suc k → scanned (columns_in k n) ≡ Some n
 unfolding columns_in
 columns_down zero n small h = one_by n (eqb n 0) refl h
 columns_down (suc k) n small h = columns_by k n (ltb n (10 ^ suc k)) refl small h (columns_down k n small)
 
-pub written_scan : (n : ℕ) → n < 65536 → scanned (columns_of n) ≡ Number n
+pub written_scan : (n : ℕ) → n < 65536 → scanned (columns_of n) ≡ Some n
 written_scan n h = rw (all_six n) (columns_down 5 n h (omega arith))
 
 -- ---- what is scanned was written so
@@ -134,16 +133,16 @@ record Digit (v b : ℕ) : Type 0 where
   small : v * 10 + (b - 48) < 65536
 
 digit_by : (v b : ℕ) (columns : List ℕ) (n : ℕ) (l h m : Bool) → ltb b 48 ≡ l → ltb 57 b ≡ h → ltb (v * 10 + (b - 48)) 65536 ≡ m
-    → cond l Malformed (cond h Malformed (cond m (digits_from (v * 10 + (b - 48)) columns) Malformed)) ≡ Number n
-    → Digit v b × (digits_from (v * 10 + (b - 48)) columns ≡ Number n)
+    → cond l None (cond h None (cond m (digits_from (v * 10 + (b - 48)) columns) None)) ≡ Some n
+    → Digit v b × (digits_from (v * 10 + (b - 48)) columns ≡ Some n)
 digit_by v b columns n true h m el eh em e = absurd (never e)
 digit_by v b columns n false true m el eh em e = absurd (never e)
 digit_by v b columns n false false false el eh em e = absurd (never e)
 digit_by v b columns n false false true el eh em e =
     (record { low = ltb-false b 48 el; high = ltb-false 57 b eh; small = ltb-true _ 65536 em }, e)
 
-digit_was : (v b : ℕ) (columns : List ℕ) (n : ℕ) → digits_from v (b ∷ columns) ≡ Number n
-    → Digit v b × (digits_from (v * 10 + (b - 48)) columns ≡ Number n)
+digit_was : (v b : ℕ) (columns : List ℕ) (n : ℕ) → digits_from v (b ∷ columns) ≡ Some n
+    → Digit v b × (digits_from (v * 10 + (b - 48)) columns ≡ Some n)
 unfolding digits_from
 digit_was v b columns n e = digit_by v b columns n _ _ _ refl refl refl e
 
@@ -153,7 +152,7 @@ record Digits (v : ℕ) (columns : List ℕ) (k n : ℕ) : Type 0 where
   higher : n / 10 ^ suc k ≡ v
   digits : columns ≡ digits_in k n
 
-last_were : (v b n : ℕ) → Digit v b → digits_from (v * 10 + (b - 48)) [] ≡ Number n → Digits v (b ∷ []) 0 n
+last_were : (v b n : ℕ) → Digit v b → digits_from (v * 10 + (b - 48)) [] ≡ Some n → Digits v (b ∷ []) 0 n
 unfolding digits_from digits_in
 last_were v b n d e =
     let m : v * 10 + (b - 48) ≡ n = cc in
@@ -175,7 +174,7 @@ next_were k v b columns n d ds =
       digits = rw (ds.higher, digit, ← ds.digits);
     }
 
-digits_were : (k v : ℕ) (columns : List ℕ) (n : ℕ) → length columns ≡ suc k → digits_from v columns ≡ Number n → Digits v columns k n
+digits_were : (k v : ℕ) (columns : List ℕ) (n : ℕ) → length columns ≡ suc k → digits_from v columns ≡ Some n → Digits v columns k n
 digits_were k v [] n l e = let z : ⊥ = omega arith in absurd z
 digits_were zero v (b ∷ []) n l e = let w = digit_was v b [] n e in last_were v b n w.0 w.1
 digits_were zero v (b ∷ c ∷ columns) n l e = let z : ⊥ = omega arith in absurd z
@@ -195,7 +194,7 @@ record Columns (columns : List ℕ) (k n : ℕ) : Type 0 where
   below : n < 10 ^ suc k
   written : columns ≡ columns_in k n
 
-zero_was : (k : ℕ) (columns : List ℕ) (n : ℕ) → length columns ≡ k → alone columns ≡ Number n → Columns (48 ∷ columns) k n
+zero_was : (k : ℕ) (columns : List ℕ) (n : ℕ) → length columns ≡ k → alone columns ≡ Some n → Columns (48 ∷ columns) k n
 unfolding alone columns_in
 zero_was zero [] n l e = let z : 0 ≡ n = cc in rw (← z) (record { small = omega arith; below = omega arith; written = refl })
 zero_was zero (b ∷ columns) n l e = absurd (never e)
@@ -218,7 +217,7 @@ lead_weight (suc k) n b columns e z =
     let d : b ≡ 48 + n / 10 ^ suc k % 10 = cc in
     above_by n (10 ^ suc k) _ refl (λ q. z (d ∙ rw q))
 
-digits_start : (k b : ℕ) (columns : List ℕ) (n : ℕ) → length columns ≡ k → b ≢ 48 → digits_from 0 (b ∷ columns) ≡ Number n → Columns (b ∷ columns) k n
+digits_start : (k b : ℕ) (columns : List ℕ) (n : ℕ) → length columns ≡ k → b ≢ 48 → digits_from 0 (b ∷ columns) ≡ Some n → Columns (b ∷ columns) k n
 digits_start k b columns n l z e =
     let ds = digits_were k 0 (b ∷ columns) n (omega arith) e in
     record {
@@ -238,8 +237,8 @@ blank_was k columns n c =
     }
 
 first_was : (k b : ℕ) (columns : List ℕ) (n : ℕ) (blank none : Bool) → eqb b 32 ≡ blank → eqb b 48 ≡ none → length columns ≡ k
-    → scanned (b ∷ columns) ≡ Number n
-    → ((j : ℕ) → length columns ≡ suc j → scanned columns ≡ Number n → Columns columns j n)
+    → scanned (b ∷ columns) ≡ Some n
+    → ((j : ℕ) → length columns ≡ suc j → scanned columns ≡ Some n → Columns columns j n)
     → Columns (b ∷ columns) k n
 unfolding scanned blanks_of after_blanks
 first_was zero b [] n true none eb en l e ih = absurd (never (rw (eqb-true b 32 eb) at e))
@@ -252,21 +251,21 @@ first_was k b columns n false true eb en l e ih =
     rw is (zero_was k columns n l (rw is at e))
 first_was k b columns n false false eb en l e ih = digits_start k b columns n l (eqb-false b 48 en) (rw (eb, en) at e)
 
-scan_was : (k : ℕ) (columns : List ℕ) (n : ℕ) → length columns ≡ suc k → scanned columns ≡ Number n → Columns columns k n
+scan_was : (k : ℕ) (columns : List ℕ) (n : ℕ) → length columns ≡ suc k → scanned columns ≡ Some n → Columns columns k n
 scan_was k [] n l e = let z : ⊥ = omega arith in absurd z
 scan_was k (b ∷ columns) n l e = first_was k b columns n _ _ refl refl (omega arith) e (λ j m f. scan_was j columns n m f)
 
 -- ---- so six columns are scanned as the field that they are
 
-scan_is : (columns : List ℕ) (n : ℕ) → length columns ≡ 6 → scanned columns ≡ Number n → IsField columns n
+scan_is : (columns : List ℕ) (n : ℕ) → length columns ≡ 6 → scanned columns ≡ Some n → IsField columns n
 scan_is columns n l e =
     let c = scan_was 5 columns n l e in
     record { small = c.small; written = c.written ∙ sym (all_six n) }
 
-agree : (columns : List ℕ) → length columns ≡ 6 → (s f : Field) → scanned columns ≡ s → field_of columns ≡ f → s ≡ f
-agree columns l (Number n) f es ef = sym (field_is (scan_is columns n l es)) ∙ ef
-agree columns l Malformed Malformed es ef = refl
-agree columns l Malformed (Number n) es ef =
+agree : (columns : List ℕ) → length columns ≡ 6 → (s f : Option ℕ) → scanned columns ≡ s → field_of columns ≡ f → s ≡ f
+agree columns l (Some n) f es ef = sym (field_is (scan_is columns n l es)) ∙ ef
+agree columns l None None es ef = refl
+agree columns l None (Some n) es ef =
     let f = is_field columns n ef in
     sym es ∙ (ap scanned f.written ∙ written_scan n f.small)
 

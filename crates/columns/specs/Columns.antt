@@ -2,9 +2,7 @@
 -- "A field is a decimal number from 0 to 65,535, right-justified, blanks (byte 32) before it, no leading zero, 0 written as one
 -- digit." So a field is the one way of writing a number, and that way is `columns_of`; six columns are the field of a number if they
 -- are what it is written as (`IsField`). `field_of` finds that number. That it does is proved in proofs/Columns.
-use Rattle.std.specs.Prelude.{ℕ, ◌+◌, ◌-◌, ◌*◌, ◌/◌, ◌%◌, ◌<◌, ◌≡◌, Bool, true, false, cond, ◌&&◌, List, [], ◌∷◌, eqb, ltb}
-use Rattle.columns.specs.declared.Field.{Field}
-use Rattle.columns.specs.declared.Field.TheVariants.{Number, Malformed}
+use Rattle.std.specs.Prelude.{ℕ, ◌+◌, ◌-◌, ◌*◌, ◌/◌, ◌%◌, ◌<◌, ◌≡◌, Bool, true, false, cond, ◌&&◌, List, [], ◌∷◌, eqb, ltb, Option, Some, None}
 
 -- the byte in the column of a weight: the digit, or a blank before the first digit
 unfoldable pub column_of : ℕ → ℕ → ℕ
@@ -39,7 +37,7 @@ bytes_agree (b ∷ bs) [] = false
 bytes_agree (b ∷ bs) (c ∷ cs) = eqb b c && bytes_agree bs cs
 
 -- the number whose field the columns are, if they are one
-unfoldable pub field_of : List ℕ → Field
+unfoldable pub field_of : List ℕ → Option ℕ
 field_of columns =
     let n = shown_after 0 columns in
-    cond (ltb n 65536 && bytes_agree columns (columns_of n)) (Number n) Malformed
+    cond (ltb n 65536 && bytes_agree columns (columns_of n)) (Some n) None

@@ -2,17 +2,10 @@
 // eight bytes (specs/Word), and digits behind them (specs/Scan); that this finds the same is proved in proofs/Scan.
 #![tactic(auto)]
 
-ghost use Rattle.std.specs.Prelude.{◌≡◌, ◌+◌, ◌*◌, ◌≤◌, min, [], ◌∷◌, length, take, drop};
+ghost use Rattle.std.specs.Prelude.{ℕ, ◌≡◌, ◌==◌, ◌+◌, ◌*◌, ◌≤◌, [], ◌∷◌, length, take, drop, take_while};
 ghost use Rattle.columns.specs.Columns.{field_of};
 ghost use Rattle.columns.specs.Scan.{blanks_of, digits_from};
 ghost use Rattle.columns.specs.Word.{bytes_of, word_of};
-
-// What six columns are.
-#[derive(Clone, Copy)]
-pub enum Field {
-    Number(u16),
-    Malformed,
-}
 
 // The columns of a field.
 pub const COLUMNS: usize = 6;
@@ -20,11 +13,9 @@ pub const COLUMNS: usize = 6;
 // The last of them, counted from 0: that of a number's ones.
 const ONES: usize = 5;
 
-const BLANK: u8 = 32;
+const BLANK: u8 = b' ';
 
-const DIGIT_0: u8 = 48;
-
-const DIGIT_9: u8 = 57;
+const DIGIT_0: u8 = b'0';
 
 // The bytes of a word, and a word of blanks.
 const WORD_BYTES: usize = 8;
@@ -33,21 +24,21 @@ const BLANKS: u64 = 0x2020_2020_2020_2020;
 
 const BYTE_BITS: u32 = 8;
 
-// The field in the k-th six columns of a line, counted from 0; malformed also where the line has no k-th six columns.
-pub fn field_in(line: &[u8], k: usize) -> Field
+// The number of the field in the k-th six columns of a line, counted from 0; none where they are no field, or the line has no k-th six.
+pub fn field_in(line: &[u8], k: usize) -> Option<u16>
     ensures { result ≡ field_of (take 6 (drop (6 * k) line.now)) }
 {
     if k < line.len() / COLUMNS {
         let at = COLUMNS * k;
         first_field(&line[at..])
     } else {
-        Field::Malformed
+        None
     }
 }
 
 // The field in the first six columns: blanks, then digits, of which only a single one may begin with 0. One digit is the usual, and needs
 // no loop.
-fn first_field(part: &[u8]) -> Field
+fn first_field(part: &[u8]) -> Option<u16>
     requires { 6 ≤ length part.now }
     ensures { result ≡ field_of (take 6 part.now) }
 {
@@ -56,10 +47,10 @@ fn first_field(part: &[u8]) -> Field
         return digit(part[ONES]);
     }
     if COLUMNS <= b {
-        return Field::Malformed;
+        return None;
     }
     if part[b] == DIGIT_0 {
-        return Field::Malformed;
+        return None;
     }
     digits(part, b)
 }
@@ -71,7 +62,7 @@ fn blanks(part: &[u8]) -> usize
     if WORD_BYTES <= part.len() {
         blanks_in(eight_bytes(part))
     } else {
-        blanks_by_bytes(part)
+        COLUMNS.min(blanks_by_bytes(part))
     }
 }
 
@@ -106,66 +97,38 @@ fn blanks_in(word: u64) -> usize
     ensures { result ≡ blanks_of (take 6 (bytes_of 8 word)) }
 {
     let count = u64::trailing_zeros(word ^ BLANKS) / BYTE_BITS;
-    lesser(COLUMNS, count as usize)
+    COLUMNS.min(count as usize)
 }
 
-// The blanks that begin the first six bytes of a part, one after the other. The loop goes to the part's end, at most the seventh byte: one to
-// the sixth would be unrolled and make the reader too large to be put into its callers.
+// The blanks that begin a part, one after the other. They are counted to the part's end, at most the seventh byte: a loop to the sixth would be
+// unrolled and make the reader too large to be put into its callers.
 fn blanks_by_bytes(part: &[u8]) -> usize
-    ensures { result ≡ blanks_of (take 6 part.now) }
+    ensures { result ≡ length (take_while (λ (b : ℕ). b == 32) part.now) }
 {
-    let mut b = 0;
-    while b < part.len() {
-        if part[b] != BLANK {
-            return lesser(COLUMNS, b);
-        }
-        b += 1;
-    }
-    lesser(COLUMNS, b)
-}
-
-// The smaller of two numbers.
-fn lesser(a: usize, b: usize) -> usize
-    ensures { result ≡ min a b }
-{
-    if a < b { a } else { b }
+    part.iter().take_while(|b| **b == BLANK).count()
 }
 
 // The number of a digit, if the byte is one.
-fn digit(b: u8) -> Field
+fn digit(b: u8) -> Option<u16>
     ensures { result ≡ digits_from 0 (b ∷ []) }
 {
-    if b < DIGIT_0 {
-        return Field::Malformed;
+    if b.is_ascii_digit() {
+        Some((b - DIGIT_0) as u16)
+    } else {
+        None
     }
-    if DIGIT_9 < b {
-        return Field::Malformed;
-    }
-    Field::Number((b - DIGIT_0) as u16)
 }
 
 // The number that the columns from one on to the sixth are the digits of, read from the sixth back.
-fn digits(part: &[u8], from: usize) -> Field
+fn digits(part: &[u8], from: usize) -> Option<u16>
     requires { (6 ≤ length part.now) × (from ≤ 6) }
     ensures { result ≡ digits_from 0 (drop from (take 6 part.now)) }
 {
     let mut n: u32 = 0;
     let mut weight: u32 = 1;
-    let mut i = COLUMNS;
-    while from < i {
-        i -= 1;
-        let b = part[i];
-        if b < DIGIT_0 {
-            return Field::Malformed;
-        }
-        if DIGIT_9 < b {
-            return Field::Malformed;
-        }
-        n += (b as u32 - DIGIT_0 as u32) * weight;
+    for i in (from..COLUMNS).rev() {
+        n += digit(part[i])? as u32 * weight;
         weight *= 10;
     }
-    if 65535 < n {
-        return Field::Malformed;
-    }
-    Field::Number(n as u16)
+    u16::try_from(n).ok()
 }

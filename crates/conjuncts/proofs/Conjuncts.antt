@@ -19,7 +19,9 @@ use Rattle.eval.specs.declared.Held.{Held}
 use Rattle.sum_free.specs.SumFree.{found_f, sum_free_f}
 use Rattle.sum_free.specs.declared.Found.{Found}
 use Rattle.sum_free.proofs.SumFree.{same_f}
-use Rattle.conjuncts.specs.Conjuncts.{is_and, front_of, no_conjunct, conjunct_in, guard_in}
+use Rattle.conjuncts.specs.Conjuncts.{is_and, front_of, conjunct_in, after, guard_in}
+use Rattle.std.specs.Prelude.{Some, None}
+use Rattle.std.specs.declared.option.Option.{Option}
 use Rattle.conjuncts.specs.declared.Conjunct.{Conjunct}
 use Rattle.conjuncts.specs.declared.Guarded.{Guarded}
 
@@ -170,63 +172,69 @@ module _ (f : List ℕ) (at : ℕ) where
   unfoldable pub front_left : ℕ → ℕ → ℕ → ℕ
   front_left p d n = n + front_of f p d
 
-  pub front_begin : front_left at 32 0 ≡ front_of f at 32
+  pub front_begin : front_left at (32 - 0) 0 ≡ front_of f at 32
   unfolding front_left
   front_begin = omega arith
 
-  module _ (p d n : ℕ) (deep : 0 < d) (inv : front_left p d n ≡ front_of f at 32) where
-    none : is_and f p d ≡ false → n ≡ front_of f at 32
+  -- n are counted, and so deep the rest may be
+  module _ (p n : ℕ) (few : n < 32) (inv : front_left p (32 - n) n ≡ front_of f at 32) where
+    deep : 0 < 32 - n
+    deep = omega arith
+
+    none : is_and f p (32 - n) ≡ false → n ≡ front_of f at 32
     unfolding front_left
-    none h = go d deep h inv
+    none h = go (32 - n) deep h inv
       where
         go : (d : ℕ) → 0 < d → is_and f p d ≡ false → front_left p d n ≡ front_of f at 32 → n ≡ front_of f at 32
         go zero l h i = absurd (omega arith)
         go (suc d) l h i = ended f p d n h ∙ i
 
     pub front_past : length f ≤ p → n ≡ front_of f at 32
-    front_past l = none (not_and_past f p d l)
+    front_past l = none (not_and_past f p (32 - n) l)
 
     pub front_other : (get_or f p 0 ≡ 15 → ⊥) → n ≡ front_of f at 32
-    front_other h = none (not_and_mark f p d h)
+    front_other h = none (not_and_mark f p (32 - n) h)
 
-    module _ (x : Found) (inside : p < length f) (mark : get_or f p 0 ≡ 15) (ex : x ≡ found_f (p + 1) (read_f (d - 1) (drop (p + 1) f))) where
+    module _ (x : Found) (inside : p < length f) (mark : get_or f p 0 ≡ 15) (ex : x ≡ found_f (p + 1) (read_f (32 - n - 1) (drop (p + 1) f))) where
       pub front_reads : not x.free ≡ true → n ≡ front_of f at 32
       unfolding front_left
-      front_reads h = go d deep (is_and_lem f p d (omega arith) inside mark) ex inv
+      front_reads h = go (32 - n) deep (is_and_lem f p (32 - n) (λ z. omega arith) inside mark) ex inv
         where
           go : (d : ℕ) → 0 < d → is_and f p d ≡ true → x ≡ found_f (p + 1) (read_f (d - 1) (drop (p + 1) f)) → front_left p d n ≡ front_of f at 32 → n ≡ front_of f at 32
           go zero l a e i = absurd (omega arith)
           go (suc d) l a e i = reads f p d n x a (e ∙ rw sub-one) (not-true x.free h) ∙ i
 
-      pub front_turn : not x.free ≡ false → front_left x.next (d - 1) (n + 1) ≡ front_of f at 32
+      pub front_turn : not x.free ≡ false → front_left x.next (32 - (n + 1)) (n + 1) ≡ front_of f at 32
       unfolding front_left
-      front_turn h = go d deep (is_and_lem f p d (omega arith) inside mark) ex inv
+      front_turn h =
+          let less : 32 - (n + 1) ≡ 32 - n - 1 = omega arith in
+          rw less (go (32 - n) deep (is_and_lem f p (32 - n) (λ z. omega arith) inside mark) ex inv)
         where
           go : (d : ℕ) → 0 < d → is_and f p d ≡ true → x ≡ found_f (p + 1) (read_f (d - 1) (drop (p + 1) f)) → front_left p d n ≡ front_of f at 32 → front_left x.next (d - 1) (n + 1) ≡ front_of f at 32
           go zero l a e i = absurd (omega arith)
           go (suc d) l a e i = rw sub-one (turns f p d n x a (e ∙ rw sub-one) (not-false x.free h) ∙ i)
 
-  pub front_end : (p d n : ℕ) → d ≤ 0 → front_left p d n ≡ front_of f at 32 → n ≡ front_of f at 32
+  pub front_end : (p n : ℕ) → n ≤ 32 → 32 ≤ n → front_left p (32 - n) n ≡ front_of f at 32 → 32 ≡ front_of f at 32
   unfolding front_left
-  front_end p d n l inv = at_the_end f p d n (omega arith) ∙ inv
+  front_end p n l h inv = let z : n ≡ 32 = omega arith in sym z ∙ at_the_end f p (32 - n) n (omega arith) ∙ inv
 
 -- ---- the loop that evaluates them
 
 module _ (f v : List ℕ) (e p d : ℕ) where
-  pub conjunct_shallow : (r : Conjunct) → d ≡ 0 → r ≡ no_conjunct p d → r ≡ conjunct_in f v e p d
+  pub conjunct_shallow : d ≡ 0 → None ≡ conjunct_in f v e p d
   unfolding conjunct_in
-  conjunct_shallow r h er = er ∙ rw (not_and_shallow f p d h)
+  conjunct_shallow h = rw (not_and_shallow f p d h)
 
-  pub conjunct_past : (r : Conjunct) → length f ≤ p → r ≡ no_conjunct p d → r ≡ conjunct_in f v e p d
+  pub conjunct_past : length f ≤ p → None ≡ conjunct_in f v e p d
   unfolding conjunct_in
-  conjunct_past r h er = er ∙ rw (not_and_past f p d h)
+  conjunct_past h = rw (not_and_past f p d h)
 
-  pub conjunct_other : (r : Conjunct) → (get_or f p 0 ≡ 15 → ⊥) → r ≡ no_conjunct p d → r ≡ conjunct_in f v e p d
+  pub conjunct_other : (get_or f p 0 ≡ 15 → ⊥) → None ≡ conjunct_in f v e p d
   unfolding conjunct_in
-  conjunct_other r h er = er ∙ rw (not_and_mark f p d h)
+  conjunct_other h = rw (not_and_mark f p d h)
 
   pub conjunct_is : (x : Held) → (d ≡ 0 → ⊥) → p < length f → get_or f p 0 ≡ 15 → x ≡ answer_f (p + 1) v e (read_f (d - 1) (drop (p + 1) f))
-      → record { there = true; holds = x.holds; next = x.next; depth = d - 1 } ≡ conjunct_in f v e p d
+      → Some (record { holds = x.holds; next = x.next; depth = d - 1 }) ≡ conjunct_in f v e p d
   unfolding conjunct_in
   conjunct_is x deep inside mark ex = rw (is_and_lem f p d deep inside mark, ex)
 
@@ -241,19 +249,21 @@ module _ (f v : List ℕ) (e at n : ℕ) where
   unfolding guard_left
   guard_begin = let z : n - 0 ≡ n = omega arith in rw z
 
-  module _ (p d i : ℕ) (x : Conjunct) (l : i < n) (ex : x ≡ conjunct_in f v e p d) (inv : guard_left p d i ≡ whole) where
-    goes : guard_left p d i ≡ cond x.there (cond x.holds (guard_left x.next x.depth (i + 1)) (record { holds = false; at = p; depth = d })) (record { holds = true; at = p; depth = d })
+  module _ (p d i : ℕ) (x : Option Conjunct) (l : i < n) (ex : x ≡ conjunct_in f v e p d) (inv : guard_left p d i ≡ whole) where
+    goes : guard_left p d i
+        ≡ after x (λ c. cond c.holds (guard_left c.next c.depth (i + 1)) (record { holds = false; at = p; depth = d })) (record { holds = true; at = p; depth = d })
     unfolding guard_left guard_in
     goes = let z : n - i ≡ suc (n - (i + 1)) = omega arith in rw (z, ← ex)
 
-    pub guard_none : not x.there ≡ true → record { holds = true; at = p; depth = d } ≡ whole
-    guard_none h = sym (goes ∙ rw (not-true x.there h)) ∙ inv
+    pub guard_none : x ≡ None → record { holds = true; at = p; depth = d } ≡ whole
+    guard_none h = sym (goes ∙ rw h) ∙ inv
 
-    pub guard_off : not x.there ≡ false → not x.holds ≡ true → record { holds = false; at = p; depth = d } ≡ whole
-    guard_off y h = sym (goes ∙ rw (not-false x.there y, not-true x.holds h)) ∙ inv
+    module _ (c : Conjunct) (ec : x ≡ Some c) where
+      pub guard_off : not c.holds ≡ true → record { holds = false; at = p; depth = d } ≡ whole
+      guard_off h = sym (goes ∙ rw (ec, not-true c.holds h)) ∙ inv
 
-    pub guard_turn : not x.there ≡ false → not x.holds ≡ false → guard_left x.next x.depth (i + 1) ≡ whole
-    guard_turn y h = sym (goes ∙ rw (not-false x.there y, not-false x.holds h)) ∙ inv
+      pub guard_turn : not c.holds ≡ false → guard_left c.next c.depth (i + 1) ≡ whole
+      guard_turn h = sym (goes ∙ rw (ec, not-false c.holds h)) ∙ inv
 
   pub guard_end : (p d i : ℕ) → n ≤ i → guard_left p d i ≡ whole → record { holds = true; at = p; depth = d } ≡ whole
   unfolding guard_left guard_in

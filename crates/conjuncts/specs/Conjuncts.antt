@@ -1,7 +1,8 @@
 -- The conjuncts in front of a formula: of `15 f g` f is one, and those in front of g are more. Those that do not read the sum value
 -- may be evaluated once for all sum values, and what is left of the formula is then evaluated alone (proofs/Conjuncts). f the
 -- fields, v parameter values, e a sum value, at a place, d the depth that a term there may have.
-use Rattle.std.specs.Prelude.{Bool, true, false, not, ◌&&◌, cond, List, ℕ, zero, suc, ◌+◌, ◌-◌, eqb, ltb, length, get_or, drop}
+use Rattle.std.specs.Prelude.{Bool, true, false, not, ◌&&◌, cond, List, ℕ, zero, suc, ◌+◌, ◌-◌, eqb, ltb, length, get_or, drop, Some, None, option_map, unwrap_or}
+use Rattle.std.specs.declared.option.Option.{Option}
 use Rattle.terms.specs.Read.{read_f}
 use Rattle.eval.specs.Answer.{answer_f}
 use Rattle.sum_free.specs.SumFree.{found_f}
@@ -20,18 +21,18 @@ front_of f at (suc d) =
     cond (is_and f at (suc d) && left.free) (suc (front_of f left.next d)) 0
 
 -- the first conjunct, if there is one
-abbrev pub no_conjunct : ℕ → ℕ → Conjunct
-no_conjunct at d = record { there = false; holds = false; next = at; depth = d }
-
-unfoldable pub conjunct_in : List ℕ → List ℕ → ℕ → ℕ → ℕ → Conjunct
+unfoldable pub conjunct_in : List ℕ → List ℕ → ℕ → ℕ → ℕ → Option Conjunct
 conjunct_in f v e at d =
     let left = answer_f (at + 1) v e (read_f (d - 1) (drop (at + 1) f)) in
-    cond (is_and f at d) (record { there = true; holds = left.holds; next = left.next; depth = d - 1 }) (no_conjunct at d)
+    cond (is_and f at d) (Some (record { holds = left.holds; next = left.next; depth = d - 1 })) None
 
 -- whether n conjuncts in front hold, and where the rest stands
+abbrev pub after : Option Conjunct → (Conjunct → Guarded) → Guarded → Guarded
+after left go_on none_left = unwrap_or (option_map go_on left) none_left
+
 unfoldable pub guard_in : List ℕ → List ℕ → ℕ → ℕ → ℕ → ℕ → Guarded
 guard_in f v e zero at d = record { holds = true; at = at; depth = d }
 guard_in f v e (suc n) at d =
-    let left = conjunct_in f v e at d in
-    let go_on = guard_in f v e n left.next left.depth in
-    cond left.there (cond left.holds go_on (record { holds = false; at = at; depth = d })) (record { holds = true; at = at; depth = d })
+    after (conjunct_in f v e at d)
+    (λ left. cond left.holds (guard_in f v e n left.next left.depth) (record { holds = false; at = at; depth = d }))
+    (record { holds = true; at = at; depth = d })

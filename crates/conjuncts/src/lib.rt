@@ -6,12 +6,11 @@
 ghost use Rattle.std.specs.Prelude.{◌≡◌, drop};
 ghost use Rattle.terms.specs.Tree.{eval_f};
 ghost use Rattle.terms.specs.Read.{read_f};
-ghost use Rattle.conjuncts.specs.Conjuncts.{front_of, conjunct_in, no_conjunct, guard_in};
+ghost use Rattle.conjuncts.specs.Conjuncts.{front_of, conjunct_in, guard_in};
 
-// The conjunct in front of a formula, if there is one: whether it holds; where the rest stands, and how deep that may be.
+// The conjunct in front of a formula: whether it holds; where the rest stands, and how deep that may be.
 #[derive(Clone, Copy)]
 pub struct Conjunct {
-    pub there: bool,
     pub holds: bool,
     pub next: usize,
     pub depth: usize,
@@ -37,9 +36,8 @@ pub fn front(desk: &limits::Fields, at: usize) -> u16
 {
     let fields: &[u16] = desk;
     let mut place = at;
-    let mut depth = limits::MAX_DEPTH;
-    let mut n = 0;
-    while 0 < depth {
+    for n in 0..MOST {
+        let depth = limits::MAX_DEPTH - n as usize;
         if fields.len() <= place {
             return n;
         }
@@ -51,10 +49,8 @@ pub fn front(desk: &limits::Fields, at: usize) -> u16
             return n;
         }
         place = left.next;
-        depth -= 1;
-        n += 1;
     }
-    n
+    MOST
 }
 
 // The first conjunct of the formula at a place, if there is one: whether it holds.
@@ -64,37 +60,25 @@ fn first_conjunct(
     depth: usize,
     v: &limits::Values,
     sum: u16,
-) -> Conjunct
+) -> Option<Conjunct>
     ensures { result ≡ conjunct_in desk.now v.now sum at depth }
 {
     let fields: &[u16] = desk;
     if depth == 0 {
-        return no_conjunct(at, depth);
+        return None;
     }
     if fields.len() <= at {
-        return no_conjunct(at, depth);
+        return None;
     }
     if fields[at] != AND {
-        return no_conjunct(at, depth);
+        return None;
     }
     let left = eval::formula(desk, at + 1, v, sum, depth - 1);
-    Conjunct {
-        there: true,
+    Some(Conjunct {
         holds: left.holds,
         next: left.next,
         depth: depth - 1,
-    }
-}
-
-fn no_conjunct(at: usize, depth: usize) -> Conjunct
-    ensures { result ≡ no_conjunct at depth }
-{
-    Conjunct {
-        there: false,
-        holds: false,
-        next: at,
-        depth: depth,
-    }
+    })
 }
 
 // Whether the first n conjuncts of the condition at a place hold.
@@ -103,31 +87,31 @@ pub fn guard(fields: &limits::Fields, at: usize, v: &limits::Values, sum: u16, n
 {
     let mut place = at;
     let mut depth = limits::MAX_DEPTH;
-    let mut i = 0;
-    while i < n {
-        let left = first_conjunct(fields, place, depth, v, sum);
-        if !left.there {
-            return Guarded {
-                holds: true,
-                at: place,
-                depth: depth,
-            };
-        }
+    for _ in 0..n {
+        let left = match first_conjunct(fields, place, depth, v, sum) {
+            Some(left) => left,
+            None => {
+                return Guarded {
+                    holds: true,
+                    at: place,
+                    depth,
+                };
+            }
+        };
         if !left.holds {
             return Guarded {
                 holds: false,
                 at: place,
-                depth: depth,
+                depth,
             };
         }
         place = left.next;
         depth = left.depth;
-        i += 1;
     }
     Guarded {
         holds: true,
         at: place,
-        depth: depth,
+        depth,
     }
 }
 

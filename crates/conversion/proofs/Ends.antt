@@ -16,7 +16,7 @@ use Rattle.criteria.specs.Design.{Design}
 use Rattle.design.specs.Lines.{design_text}
 use Rattle.design.specs.Print.{parameter_line, row_line, last_lines, line_of_marks, print_lines}
 use Rattle.loader.specs.Load.{fault_of}
-use Rattle.conversion.specs.declared.Written.{Written}
+use Rattle.conversion.specs.Written.{Written}
 use Rattle.conversion.specs.Result.{Way, converted, result_of}
 use Rattle.conversion.specs.Answer.{plain_b, too_long_b, number_of, answer_of, buffer_written}
 use Rattle.conversion.specs.Lines.{refused_by, done_with}

@@ -9,7 +9,7 @@ use lib.Seq.{sets}
 use Rattle.reader.specs.Text.{text_of}
 use Rattle.writer.specs.Put.{put, put_length}
 use Rattle.design.specs.Loaded.{held_lines}
-use Rattle.conversion.specs.declared.Written.{Written}
+use Rattle.conversion.specs.Written.{Written}
 use Rattle.conversion.specs.Lines.{refused_by, done_with, end_of, marked_lines, marked_answer, marked_buffer}
 
 -- ---- what was put

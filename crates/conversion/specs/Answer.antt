@@ -1,7 +1,7 @@
 -- What a call of a writer answers and what its buffer is then, for every text and every buffer: the number by which it is turned down, or 0;
 -- the length of the result; and the result in the buffer's first bytes (01: "Past a result, a lent buffer or slice keeps its content, and a
 -- writer returns its result's length"; "A call turned down writes nothing"). That the number is the one due is in proofs/Due.
-use Rattle.std.specs.Prelude.{ℕ, Bool, true, false, cond, ◌&&◌, ◌||◌, List, [], ◌∷◌, ◌++◌, eqb, ltb, length, drop}
+use Rattle.std.specs.Prelude.{ℕ, Bool, true, false, cond, ◌&&◌, ◌||◌, List, [], ◌∷◌, ◌++◌, eqb, ltb, length, drop, Result, Ok, Err}
 use Rattle.limits.specs.Limits.{max_fields}
 use Rattle.terms.specs.Tree.{Formula, const, compare, negation, join, no_formula}
 use Rattle.reader.specs.Text.{count_all, text_of}
@@ -10,7 +10,9 @@ use Rattle.design.specs.Lines.{design_text}
 use Rattle.design.specs.Print.{print_lines}
 use Rattle.loader.specs.Load.{fault_of}
 use Rattle.conversion.specs.Result.{Way, there, back, converted, result_of}
-use Rattle.conversion.specs.declared.Written.{Written}
+use Rattle.verdicts.specs.declared.Refusal.{Refusal}
+use Rattle.verdicts.specs.Refusals.{number_of as number}
+use Rattle.conversion.specs.Written.{Written}
 
 -- ---- as tests
 
@@ -36,6 +38,11 @@ abbrev pub too_long_b : ℕ → Design → Bool
 too_long_b room d = ltb room (length (text_of (print_lines d))) || ltb max_fields (count_all (print_lines d))
 
 -- ---- the answer
+
+-- a call's result as a number and a length
+abbrev pub told : Result ℕ Refusal → Written
+told (Ok n) = record { number = 0; length = n }
+told (Err r) = record { number = number r; length = 0 }
 
 -- of a design text
 abbrev pub design_number : Way → Design → ℕ → ℕ

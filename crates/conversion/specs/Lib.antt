@@ -1,3 +1,4 @@
+pub mod Written
 pub mod Result
 pub mod Answer
 pub mod Lines

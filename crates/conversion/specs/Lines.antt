@@ -5,7 +5,7 @@ use Rattle.limits.specs.Limits.{max_fields}
 use Rattle.reader.specs.Text.{text_of}
 use Rattle.writer.specs.Put.{put, put_length}
 use Rattle.design.specs.Loaded.{held_lines}
-use Rattle.conversion.specs.declared.Written.{Written}
+use Rattle.conversion.specs.Written.{Written}
 
 abbrev pub refused_by : ℕ → Written
 refused_by k = record { number = k; length = 0 }

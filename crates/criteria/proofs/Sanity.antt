@@ -3,7 +3,7 @@
 -- an answer with the same label), one with an internal step to where it can do nothing (`trap_differs`: internal steps lead to related
 -- states), one whose action may lead there (`fall_differs`: so do a step and its answer), and one that goes on where the specification's
 -- action may lead to where that can do nothing (`end_differs`: so do a step and its reply). And for rooted bisimilarity: the same but for the
--- internal step (`rooted-..`), and one that may begin with an internal step that changes nothing (`idle_differs`: it is answered too).
+-- internal step (`rooted_..`), and one that may begin with an internal step that changes nothing (`idle_differs`: it is answered too).
 use mathlib.Core.Path.{◌≡◌, refl, sym, ◌∙◌, subst}
 use mathlib.Core.Bool.{true, true≢false}
 use mathlib.Core.List.{List, [], ◌∷◌}

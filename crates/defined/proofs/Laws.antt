@@ -9,13 +9,14 @@ use lib.Dec.{eqb}
 use lib.ListN.{get_or, drop}
 use Rattle.foundation.specs.First.{all_in_range}
 use Rattle.foundation.specs.Reflects.{◌⇒◌}
-use Rattle.foundation.proofs.All.{all_begin, all_turn, all_fail, all_end, all_yes}
-use Rattle.terms.specs.Tree.{Formula, eval_f, has_f}
+use Rattle.foundation.proofs.All.{all_yes}
+use Rattle.terms.specs.Tree.{Formula, eval_f, has_f, has_v}
 use Rattle.terms.specs.Read.{read_v, read_f}
 use Rattle.terms.proofs.And.{and_left, and_right}
 use Rattle.terms.proofs.Read.{place}
 use Rattle.eval.specs.Answer.{answer_f as answered_f}
 use Rattle.eval.specs.declared.Held.{Held as Answered}
+use Rattle.std.specs.Prelude.{Some, None, is_some, unwrap_or}
 use Rattle.has_value.specs.Answer.{answer_v, answer_f}
 use Rattle.has_value.specs.declared.Valued.{Valued}
 use Rattle.has_value.specs.declared.Held.{Held}
@@ -27,6 +28,26 @@ use Rattle.design.specs.declared.Shape.{Shape}
 use Rattle.marks.specs.Marks.{mark_has_in}
 use Rattle.defined.specs.Defined.{have_in, formula_has_in, values_have_in, value_has_in, has_invariant_in, has_mapping_in, has_measure_in, row_at_in, row_has_in, mark_free_in, asks_in}
 
+-- ---- what has a value
+
+module _ {A : Type 0} (h : Bool) (a : A) where
+  some_if : is_some (cond h (Some a) None) ≡ h
+  some_if = go h
+    where
+      go : (c : Bool) → is_some (cond c (Some a) None) ≡ c
+      go true = refl
+      go false = refl
+
+  none_if : cond h (Some a) None ≡ None → h ≡ false
+  none_if e = sym some_if ∙ ap is_some e
+
+  given_if : (b : A) → cond h (Some a) None ≡ Some b → (h ≡ true) × (a ≡ b)
+  given_if b e = go h e
+    where
+      go : (c : Bool) → cond c (Some a) None ≡ Some b → (c ≡ true) × (a ≡ b)
+      go true k = (refl, ap (λ o. unwrap_or o a) k)
+      go false k = let no_way : false ≡ true = ap is_some k in absurd (cc)
+
 -- ---- n values
 
 module _ (f v : List ℕ) (e at n : ℕ) where
@@ -37,17 +58,17 @@ module _ (f v : List ℕ) (e at n : ℕ) where
   unfolding have_left
   have_begin = let k : n - 0 ≡ n = omega arith in rw k
 
-  have_one : (p i : ℕ) (x : Valued) → i < n → x ≡ answer_v p v e (read_v 32 (drop p f)) → have_left p i ≡ x.has && have_left x.next (i + 1)
+  have_one : (p i : ℕ) (x : Valued) → i < n → x ≡ answer_v p v e (read_v 32 (drop p f)) → have_left p i ≡ is_some x.value && have_left x.next (i + 1)
   unfolding have_left have_in values_in
-  have_one p i x l said = let k : n - i ≡ suc (n - (i + 1)) = omega arith in rw (k, said, place f p _ refl)
+  have_one p i x l said = let k : n - i ≡ suc (n - (i + 1)) = omega arith in rw (k, said, some_if (has_v (read_v 32 (drop p f)).tree v e) _, place f p _ refl)
 
-  pub have_turn : (p i : ℕ) (x : Valued) → i < n → x ≡ answer_v p v e (read_v 32 (drop p f)) → not x.has ≡ false → have_left p i ≡ have_in f at n v e
+  pub have_turn : (p i : ℕ) (x : Valued) (o : Bool) → i < n → x ≡ answer_v p v e (read_v 32 (drop p f)) → is_some x.value ≡ not o → o ≡ false → have_left p i ≡ have_in f at n v e
       → have_left x.next (i + 1) ≡ have_in f at n v e
-  have_turn p i x l said h inv = sym (have_one p i x l said ∙ rw (not-false x.has h)) ∙ inv
+  have_turn p i x o l said h z inv = sym (have_one p i x l said ∙ rw (h, z)) ∙ inv
 
-  pub have_fail : (p i : ℕ) (x : Valued) → i < n → x ≡ answer_v p v e (read_v 32 (drop p f)) → not x.has ≡ true → have_left p i ≡ have_in f at n v e
+  pub have_fail : (p i : ℕ) (x : Valued) (o : Bool) → i < n → x ≡ answer_v p v e (read_v 32 (drop p f)) → is_some x.value ≡ not o → o ≡ true → have_left p i ≡ have_in f at n v e
       → false ≡ have_in f at n v e
-  have_fail p i x l said h inv = sym (have_one p i x l said ∙ rw (not-true x.has h)) ∙ inv
+  have_fail p i x o l said h z inv = sym (have_one p i x l said ∙ rw (h, z)) ∙ inv
 
   pub have_end : (p i : ℕ) → n ≤ i → have_left p i ≡ have_in f at n v e → true ≡ have_in f at n v e
   unfolding have_left have_in values_in
@@ -56,17 +77,17 @@ module _ (f v : List ℕ) (e at n : ℕ) where
 -- ---- invariant, mapping, measure
 
 module _ (f s v : List ℕ) (k line : ℕ) (el : line ≡ get_or s k 0) where
-  pub formula_is : (x : Held) → x ≡ answer_f (line + 1) v 0 (read_f 32 (drop (line + 1) f)) → x.has ≡ formula_has_in f s k v
+  pub formula_is : (x : Held) (b : Bool) → x ≡ answer_f (line + 1) v 0 (read_f 32 (drop (line + 1) f)) → b ≡ is_some x.holds → b ≡ formula_has_in f s k v
   unfolding formula_has_in
-  formula_is x ex = rw (← el, place f line 1 refl, ex)
+  formula_is x b ex eb = eb ∙ rw (← el, place f line 1 refl, ex) (some_if _ _)
 
   pub values_are : (n : ℕ) (b : Bool) → b ≡ have_in f (line + 1) n v 0 → b ≡ values_have_in f s k n v
   unfolding values_have_in have_in
   values_are n b eb = rw (← el, place f line 1 refl, eb)
 
-  pub value_is : (x : Valued) → x ≡ answer_v (line + 1) v 0 (read_v 32 (drop (line + 1) f)) → x.has ≡ value_has_in f s k v
+  pub value_is : (x : Valued) (b : Bool) → x ≡ answer_v (line + 1) v 0 (read_v 32 (drop (line + 1) f)) → b ≡ is_some x.value → b ≡ value_has_in f s k v
   unfolding value_has_in
-  value_is x ex = rw (← el, place f line 1 refl, ex)
+  value_is x b ex eb = eb ∙ rw (← el, place f line 1 refl, ex) (some_if _ _)
 
 module _ (f s v : List ℕ) (h : Shape) (b : Bool) where
   pub invariant_is : b ≡ formula_has_in f s h.invariant v → b ≡ has_invariant_in f s h v
@@ -87,22 +108,31 @@ module _ (f v : List ℕ) (line n e : ℕ) (h : Held) (eh : h ≡ answer_f (line
   abbrev whole : Bool
   whole = row_at_in f line n v e
 
-  has_is : (x : Valued) → x ≡ answer_v h.next v e (read_v 32 (drop h.next f)) → h.has && (h.holds ⇒ (x.has && have_in f x.next n v e)) ≡ whole
+  abbrev condition_is : Formula
+  condition_is = (read_f 32 (drop (line + 3) f)).tree
+
+  has_is : (x : Valued) → x ≡ answer_v h.next v e (read_v 32 (drop h.next f)) → has_f condition_is v e && (eval_f condition_is v e ⇒ (is_some x.value && have_in f x.next n v e)) ≡ whole
   unfolding have_in row_at_in
-  has_is x ex = rw (ex, eh, place f line 3 refl, place f (line + 3) _ refl, place f (line + 3 + _) _ refl)
+  has_is x ex = rw (ex, eh, some_if (has_v (read_v 32 (drop (line + 3 + (read_f 32 (drop (line + 3) f)).used) f)).tree v e) _, place f line 3 refl, place f (line + 3) _ refl, place f (line + 3 + _) _ refl)
 
-  pub condition_lacks : not h.has ≡ true → false ≡ whole
-  condition_lacks k = sym (rw (not-true h.has k)) ∙ has_is _ refl
+  lacks : h.holds ≡ None → has_f condition_is v e ≡ false
+  lacks k = none_if _ _ (sym (ap (λ (x : Held). x.holds) eh) ∙ k)
 
-  pub condition_fails : not h.has ≡ false → not h.holds ≡ true → true ≡ whole
-  condition_fails k j = sym (rw (not-false h.has k, not-true h.holds j)) ∙ has_is _ refl
+  given : (b : Bool) → h.holds ≡ Some b → (has_f condition_is v e ≡ true) × (eval_f condition_is v e ≡ b)
+  given b k = given_if _ _ b (sym (ap (λ (x : Held). x.holds) eh) ∙ k)
 
-  module _ (x : Valued) (ex : x ≡ answer_v h.next v e (read_v 32 (drop h.next f))) (k : not h.has ≡ false) (j : not h.holds ≡ false) where
-    pub data_lacks : not x.has ≡ true → false ≡ whole
-    data_lacks l = sym (rw (not-false h.has k, not-false h.holds j, not-true x.has l)) ∙ has_is x ex
+  pub condition_lacks : h.holds ≡ None → false ≡ whole
+  condition_lacks k = sym (rw (lacks k)) ∙ has_is _ refl
 
-    pub row_has : (b : Bool) → not x.has ≡ false → b ≡ have_in f x.next n v e → b ≡ whole
-    row_has b l eb = eb ∙ sym (rw (not-false h.has k, not-false h.holds j, not-false x.has l)) ∙ has_is x ex
+  pub condition_fails : (b : Bool) → h.holds ≡ Some b → not b ≡ true → true ≡ whole
+  condition_fails b k j = sym (rw ((given b k).0, (given b k).1, not-true b j)) ∙ has_is _ refl
+
+  module _ (x : Valued) (ex : x ≡ answer_v h.next v e (read_v 32 (drop h.next f))) (b : Bool) (k : h.holds ≡ Some b) (j : not b ≡ false) where
+    pub data_lacks : (o : Bool) → is_some x.value ≡ not o → o ≡ true → false ≡ whole
+    data_lacks o l y = sym (rw ((given b k).0, (given b k).1, not-false b j, l, y)) ∙ has_is x ex
+
+    pub row_has : (o r : Bool) → is_some x.value ≡ not o → o ≡ false → r ≡ have_in f x.next n v e → r ≡ whole
+    row_has o r l y er = er ∙ sym (rw ((given b k).0, (given b k).1, not-false b j, l, y)) ∙ has_is x ex
 
 -- ---- its mark
 
@@ -111,35 +141,9 @@ module _ (f v : List ℕ) (at e : ℕ) where
   unfolding mark_has_in
   no_mark_lem z = rw (eq-eqb at 0 z)
 
-  pub some_mark : (x : Held) → (at ≡ 0 → ⊥) → x ≡ answer_f at v e (read_f 32 (drop at f)) → x.has ≡ mark_has_in f at v e
+  pub some_mark : (x : Held) (b : Bool) → (at ≡ 0 → ⊥) → x ≡ answer_f at v e (read_f 32 (drop at f)) → b ≡ is_some x.holds → b ≡ mark_has_in f at v e
   unfolding mark_has_in
-  some_mark x z ex = rw (ne_eqb at 0 z, ex)
-
--- ---- a row for its sum values
-
-module _ (f v : List ℕ) (line n at span : ℕ) where
-  abbrev asked : ℕ → Bool
-  asked e = row_at_in f line n v e && mark_has_in f at v e
-
-  unfoldable pub row_left : ℕ → Bool
-  row_left e = all_in_range asked (span - e) e
-
-  pub row_begin : row_left 0 ≡ row_has_in f line n at span v
-  unfolding row_left row_has_in
-  row_begin = all_begin asked span
-
-  module _ (e : ℕ) (b m : Bool) (l : e < span) (eb : b ≡ row_at_in f line n v e) (em : m ≡ mark_has_in f at v e) (inv : row_left e ≡ row_has_in f line n at span v) where
-    pub row_fail : not (b && m) ≡ true → false ≡ row_has_in f line n at span v
-    unfolding row_left
-    row_fail y = sym (all_fail asked span e l (rw (← eb, ← em) (not-true (b && m) y))) ∙ inv
-
-    pub row_turn : not (b && m) ≡ false → row_left (e + 1) ≡ row_has_in f line n at span v
-    unfolding row_left
-    row_turn y = sym (all_turn asked span e l (rw (← eb, ← em) (not-false (b && m) y))) ∙ inv
-
-  pub row_end : (e : ℕ) → span ≤ e → row_left e ≡ row_has_in f line n at span v → true ≡ row_has_in f line n at span v
-  unfolding row_left
-  row_end e l inv = sym (all_end asked span e l) ∙ inv
+  some_mark x b z ex eb = eb ∙ rw (ne_eqb at 0 z, ex) (some_if _ _)
 
 -- ---- how many sum values are asked
 
@@ -176,13 +180,9 @@ module _ (f v : List ℕ) (line at span : ℕ) (c : Answered) (ec : c ≡ answer
       unfolding asks_in
       asks_mark z = rw (off, ← free, not-false x.free y, ← em, not-true m z)
 
-      pub asks_none : not m ≡ false → span ≡ 0 → 0 ≡ many
+      pub asks_one : not m ≡ false → (r : ℕ) → r ≡ min span 1 → r ≡ many
       unfolding asks_in
-      asks_none z e = rw (off, ← free, not-false x.free y, ← em, not-false m z, e)
-
-      pub asks_one : not m ≡ false → (span ≡ 0 → ⊥) → 1 ≡ many
-      unfolding asks_in
-      asks_one z e = rw (off, ← free, not-false x.free y, ← em, not-false m z) (omega arith)
+      asks_one z r er = er ∙ rw (off, ← free, not-false x.free y, ← em, not-false m z)
 
 -- what is the same for all sum values need be asked for one
 all_same : (g : ℕ → Bool) (n : ℕ) → ((e : ℕ) → g e ≡ g 0) → all_in_range g (min n 1) 0 ≡ all_in_range g n 0

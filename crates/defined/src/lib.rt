@@ -7,103 +7,72 @@ ghost use Rattle.marks.specs.Marks.{mark_has_in};
 ghost use Rattle.defined.specs.Defined.{have_in, formula_has_in, values_have_in, value_has_in, has_invariant_in, has_mapping_in, has_measure_in, row_at_in, row_has_in, mark_free_in, asks_in};
 
 use design::Shape;
+use layout::Lines;
 
 // Whether each of n values that stand one after the other from a place on has a value.
 fn have(fields: &limits::Fields, at: usize, n: u8, v: &limits::Values, sum: u16) -> bool
     ensures { result ≡ have_in fields.now at n v.now sum }
 {
     let mut place = at;
-    let mut i = 0;
-    while i < n {
+    for i in 0..n {
         let x = has_value::value(fields, place, v, sum, limits::MAX_DEPTH);
-        if !x.has {
+        if x.value.is_none() {
             return false;
         }
         place = x.next;
-        i += 1;
     }
     true
 }
 
 // ---- the design
 
-// Whether the formula in a line has a value.
-pub fn formula_in_line<'a>(
-    fields: &'a limits::Fields,
-    starts: &'a limits::Starts,
-    k: u8,
-    v: &limits::Values,
-) -> bool
-    ensures { result ≡ formula_has_in fields.now starts.now k v.now }
+// Whether the formula in a line has a value. Formula, values and value are read by three functions: one that takes what is read would be no
+// plainer.
+pub fn formula_in_line(lines: &Lines, k: u8, v: &limits::Values) -> bool
+    ensures { result ≡ formula_has_in lines.now.fields lines.now.starts k v.now }
 {
-    let line = layout::line(starts, k as usize);
-    let x = has_value::formula(fields, line as usize + 1, v, 0, limits::MAX_DEPTH);
-    x.has
+    let line = lines.line(k as usize);
+    let x = has_value::formula(&lines.fields, line as usize + 1, v, 0, limits::MAX_DEPTH);
+    x.holds.is_some()
 }
 
 // Whether each of the n values in a line does.
-pub fn values_in_line<'a>(
-    fields: &'a limits::Fields,
-    starts: &'a limits::Starts,
-    k: u8,
-    n: u8,
-    v: &limits::Values,
-) -> bool
-    ensures { result ≡ values_have_in fields.now starts.now k n v.now }
+pub fn values_in_line(lines: &Lines, k: u8, n: u8, v: &limits::Values) -> bool
+    ensures { result ≡ values_have_in lines.now.fields lines.now.starts k n v.now }
 {
-    let line = layout::line(starts, k as usize);
-    have(fields, line as usize + 1, n, v, 0)
+    let line = lines.line(k as usize);
+    have(&lines.fields, line as usize + 1, n, v, 0)
 }
 
 // Whether the value in a line does.
-pub fn value_in_line<'a>(
-    fields: &'a limits::Fields,
-    starts: &'a limits::Starts,
-    k: u8,
-    v: &limits::Values,
-) -> bool
-    ensures { result ≡ value_has_in fields.now starts.now k v.now }
+pub fn value_in_line(lines: &Lines, k: u8, v: &limits::Values) -> bool
+    ensures { result ≡ value_has_in lines.now.fields lines.now.starts k v.now }
 {
-    let line = layout::line(starts, k as usize);
-    let x = has_value::value(fields, line as usize + 1, v, 0, limits::MAX_DEPTH);
-    x.has
+    let line = lines.line(k as usize);
+    let x = has_value::value(&lines.fields, line as usize + 1, v, 0, limits::MAX_DEPTH);
+    x.value.is_some()
 }
 
 // Of the invariant.
-pub fn invariant<'a>(
-    fields: &'a limits::Fields,
-    starts: &'a limits::Starts,
-    shape: Shape,
-    v: &limits::Values,
-) -> bool
-    ensures { result ≡ has_invariant_in fields.now starts.now shape v.now }
+pub fn invariant(lines: &Lines, shape: Shape, v: &limits::Values) -> bool
+    ensures { result ≡ has_invariant_in lines.now.fields lines.now.starts shape v.now }
 {
-    formula_in_line(fields, starts, shape.invariant, v)
+    formula_in_line(lines, shape.invariant, v)
 }
 
 // Of the mapping.
-pub fn mapping<'a>(
-    fields: &'a limits::Fields,
-    starts: &'a limits::Starts,
-    shape: Shape,
-    v: &limits::Values,
-) -> bool
-    ensures { result ≡ has_mapping_in fields.now starts.now shape v.now }
+pub fn mapping(lines: &Lines, shape: Shape, v: &limits::Values) -> bool
+    ensures { result ≡ has_mapping_in lines.now.fields lines.now.starts shape v.now }
 {
     let n = shape.specification.parameters.count;
-    values_in_line(fields, starts, shape.mapping, n, v)
+    values_in_line(lines, shape.mapping, n, v)
 }
 
 // Of the measure.
-pub fn measure<'a>(
-    fields: &'a limits::Fields,
-    starts: &'a limits::Starts,
-    shape: Shape,
-    v: &limits::Values,
-) -> bool
-    ensures { result ≡ has_measure_in fields.now starts.now shape v.now }
+pub fn measure(lines: &Lines, shape: Shape, v: &limits::Values) -> bool
+    ensures { result ≡ has_measure_in lines.now.fields lines.now.starts shape v.now }
 {
-    value_in_line(fields, starts, shape.measure, v)
+    value_in_line(lines, shape.measure, v)
 }
 
 // ---- rows
@@ -114,14 +83,15 @@ fn row_at(fields: &limits::Fields, line: u16, n: u8, v: &limits::Values, sum: u1
     ensures { result ≡ row_at_in fields.now line n v.now sum }
 {
     let condition = has_value::formula(fields, line as usize + 3, v, sum, limits::MAX_DEPTH);
-    if !condition.has {
-        return false;
-    }
-    if !condition.holds {
+    let holds = match condition.holds {
+        Some(holds) => holds,
+        None => return false,
+    };
+    if !holds {
         return true;
     }
     let data = has_value::value(fields, condition.next, v, sum, limits::MAX_DEPTH);
-    if !data.has {
+    if data.value.is_none() {
         return false;
     }
     have(fields, data.next, n, v, sum)
@@ -135,7 +105,7 @@ fn mark(fields: &limits::Fields, place: usize, v: &limits::Values, sum: u16) -> 
         return true;
     }
     let x = has_value::formula(fields, place, v, sum, limits::MAX_DEPTH);
-    x.has
+    x.holds.is_some()
 }
 
 // Whether row and mark do for each sum value below a number.
@@ -149,14 +119,7 @@ fn row_below(
 ) -> bool
     ensures { result ≡ row_has_in fields.now line n place most v.now }
 {
-    let mut sum = 0;
-    while sum < most {
-        if !(row_at(fields, line, n, v, sum) & mark(fields, place, v, sum)) {
-            return false;
-        }
-        sum += 1;
-    }
-    true
+    (0..most).all(|sum| row_at(fields, line, n, v, sum) & mark(fields, place, v, sum))
 }
 
 // Whether the mark at a place does not read the sum value; at place 0 there is none.
@@ -186,7 +149,7 @@ fn asks(fields: &limits::Fields, line: u16, place: usize, span: u16, v: &limits:
     if !mark_free(fields, place) {
         return span;
     }
-    if span == 0 { 0 } else { 1 }
+    span.min(1)
 }
 
 // Whether row and mark do for each sum value below a span.

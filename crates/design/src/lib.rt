@@ -4,7 +4,7 @@
 #![tactic(auto)]
 
 // How many lines of kinds 1, 2, 3, 4 and 8 a text has. Of kinds 5, 6 and 7 it has one each, before that of kind 8.
-#[derive(Clone, Copy)]
+#[derive(Clone, Copy, Default)]
 pub struct Counts {
     pub kind1: usize,
     pub kind2: usize,

@@ -5,7 +5,12 @@ use mathlib.Core.Logic.{◌≢◌}
 use mathlib.Core.Bool.{Bool, true, false, cond}
 use mathlib.Core.List.{List}
 use native.Mathlib.Omega.{arith}
-use borrow.Author.Tests.{ne_eqb}
+use Rattle.std.specs.Prelude.{Result, Ok, Err, replicate}
+use Rattle.layout.specs.Lines.{no_lines}
+use Rattle.design.specs.declared.Counts.{Counts}
+use Rattle.layout.specs.declared.Lines.{Lines}
+use Rattle.verdicts.specs.declared.Fault.{Fault}
+use Rattle.verdicts.specs.Refusals.{fault_number}
 use lib.Dec.{eqb}
 use Rattle.loader.specs.declared.Loaded.{Loaded}
 use Rattle.loader.specs.Load.{loaded_of}
@@ -25,6 +30,24 @@ use Rattle.desk.specs.declared.Desk.{Desk}
 use Rattle.desk.specs.declared.AfterLoad.{AfterLoad}
 use Rattle.desk.specs.declared.AfterAdvance.{AfterAdvance}
 use Rattle.desk.specs.Desk.{empty_desk, placed, not_loaded, load_empty, load_by, load_of, not_advanced, fail_start, walked_on, examine_next, examine_open, advance_open, advance_by, advance_of, tell_of, drop_by, drop_of}
+
+-- counts are nothing if each is 0
+module _ (c : Counts) where
+  pub no_counts : (c.kind1 ≡ 0) × ((c.kind2 ≡ 0) × ((c.kind3 ≡ 0) × ((c.kind4 ≡ 0) × (c.kind8 ≡ 0)))) → c ≡ record { kind1 = 0; kind2 = 0; kind3 = 0; kind4 = 0; kind8 = 0 }
+  no_counts e =
+      ap (λ (x : ℕ). record { kind1 = x; kind2 = c.kind2; kind3 = c.kind3; kind4 = c.kind4; kind8 = c.kind8 }) e.0
+      ∙ ap (λ (x : ℕ). record { kind1 = 0; kind2 = x; kind3 = c.kind3; kind4 = c.kind4; kind8 = c.kind8 }) e.1.0
+      ∙ ap (λ (x : ℕ). record { kind1 = 0; kind2 = 0; kind3 = x; kind4 = c.kind4; kind8 = c.kind8 }) e.1.1.0
+      ∙ ap (λ (x : ℕ). record { kind1 = 0; kind2 = 0; kind3 = 0; kind4 = x; kind8 = c.kind8 }) e.1.1.1.0
+      ∙ ap (λ (x : ℕ). record { kind1 = 0; kind2 = 0; kind3 = 0; kind4 = 0; kind8 = x }) e.1.1.1.1
+
+-- a new desk has no lines, and counts of nothing
+pub new_desk : (l : Lines) (c : Counts) → l ≡ no_lines
+    → (c.kind1 ≡ 0) × ((c.kind2 ≡ 0) × ((c.kind3 ≡ 0) × ((c.kind4 ≡ 0) × (c.kind8 ≡ 0))))
+    → record { lines = l; counts = c; plan = replicate 387 0; next = 0; phase = phase.Empty } ≡ empty_desk
+new_desk l c el ec =
+    ap (λ (x : Lines). record { lines = x; counts = c; plan = replicate 387 0; next = 0; phase = phase.Empty }) el
+    ∙ ap (λ (x : Counts). record { lines = no_lines; counts = x; plan = replicate 387 0; next = 0; phase = phase.Empty }) (no_counts c ec)
 
 module _ (d : Desk) where
   -- ---- by phase: 0 where the call is done, else the number by which it is turned down
@@ -114,15 +137,13 @@ module _ (d : Desk) where
 
   -- ---- load on an empty desk
 
-  module _ (l : Loaded) where
-    pub loaded : (m : Loaded) → l ≡ m → l.fault ≡ 0 → (p : List ℕ) → p ≡ plan_of l.fields l.starts l.counts
-        → record { answer = done.Done; desk = record { fields = l.fields; starts = l.starts; counts = l.counts; plan = p; next = 0; phase = phase.Open } } ≡ load_empty d m
-    unfolding load_empty
-    loaded m e h p ep = rw (← e, h, ep)
+  module _ (q m : Result Loaded Fault) (eq : q ≡ m) where
+    pub loaded : (l : Loaded) → q ≡ Ok l → (p : List ℕ) → p ≡ plan_of l.lines.fields l.lines.starts l.counts
+        → record { answer = done.Done; desk = record { lines = l.lines; counts = l.counts; plan = p; next = 0; phase = phase.Open } } ≡ load_empty d m
+    loaded l e p ep = rw (← eq, e, ep)
 
-    pub not_loaded_lem : (m : Loaded) → l ≡ m → l.fault ≢ 0 → not_loaded l.fault d ≡ load_empty d m
-    unfolding load_empty
-    not_loaded_lem m e h = rw (← e, ne_eqb l.fault 0 h)
+    pub not_loaded_lem : (f : Fault) → q ≡ Err f → (k : ℕ) → k ≡ fault_number f → not_loaded k d ≡ load_empty d m
+    not_loaded_lem f e k ek = rw (← eq, e, ek)
 
 -- ---- advance on an open desk
 
@@ -131,17 +152,17 @@ module _ (d : Desk) (n : ℕ) where
   left x = record { answer = advanced_to x.phase x.count; desk = placed d x.next x.phase }
 
   abbrev on : Examined
-  on = examined_next d.fields d.starts d.counts d.plan d.next n
+  on = examined_next d.lines.fields d.lines.starts d.counts d.plan d.next n
 
   by_tests : (b c : Bool)
-      → left (cond b (cond c on (failed_start d.fields d.starts d.counts)) on) ≡ cond b (cond c (examine_next d n) (fail_start d)) (examine_next d n)
+      → left (cond b (cond c on (failed_start d.lines.fields d.lines.starts d.counts)) on) ≡ cond b (cond c (examine_next d n) (fail_start d)) (examine_next d n)
   unfolding examined_next walked_to examine_next walked_on failed_start fail_start
   by_tests true true = refl
   by_tests true false = refl
   by_tests false c = refl
 
-  pub examined_open : (x : Examined) → x ≡ examined_from d.fields d.starts d.counts d.plan d.next n
+  pub examined_open : (x : Examined) → x ≡ examined_from d.lines.fields d.lines.starts d.counts d.plan d.next n
       → (a : Advance) → a ≡ advanced_to x.phase x.count
-      → record { answer = a; desk = record { fields = d.fields; starts = d.starts; counts = d.counts; plan = d.plan; next = x.next; phase = x.phase } } ≡ examine_open d n
+      → record { answer = a; desk = record { lines = d.lines; counts = d.counts; plan = d.plan; next = x.next; phase = x.phase } } ≡ examine_open d n
   unfolding examined_from examine_open
-  examined_open x ex a ea = rw (ea, ex) (by_tests (eqb d.next 0) (start_in d.fields d.starts d.counts))
+  examined_open x ex a ea = rw (ea, ex) (by_tests (eqb d.next 0) (start_in d.lines.fields d.lines.starts d.counts))

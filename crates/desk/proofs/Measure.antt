@@ -38,13 +38,13 @@ module _ (d : Desk) (p : Phase) (k : ℕ) (ep : p ≡ d.phase) (ek : k ≡ empty
       go (phase.Accepted how) e n = absurd (some n)
       go (phase.Failed f) e n = absurd (some n)
 
-  pub measure_on : (before after : List ℕ) (r : Measured) → k ≡ 0 → MeasureIn d.fields d.starts d.counts before after r → MeasureOf d before after r
+  pub measure_on : (before after : List ℕ) (r : Measured) → k ≡ 0 → MeasureIn d.lines.fields d.lines.starts d.counts before after r → MeasureOf d before after r
   measure_on before after r none m = on_loaded (λ e. let z : empty_number p ≡ 11 = ap empty_number (ep ∙ e) in omega arith) m
 
   pub refused_number : (slice : List ℕ) → (k ≡ 0 → ⊥) → MeasureNumber d (length slice) (measured_number (measured.TurnedDown k))
   refused_number slice some = number_of (measure_refused slice some)
 
-  pub measured_number_lem : (before after : List ℕ) (r : Measured) → k ≡ 0 → MeasureIn d.fields d.starts d.counts before after r
+  pub measured_number_lem : (before after : List ℕ) (r : Measured) → k ≡ 0 → MeasureIn d.lines.fields d.lines.starts d.counts before after r
       → MeasureNumber d (length before) (measured_number r)
   measured_number_lem before after r none m = number_of (measure_on before after r none m)
 
@@ -63,7 +63,7 @@ answer_there d before = go d.phase refl
   where
     made : d.phase ≢ phase.Empty → MeasureFor d before
     made some =
-        let m = measure_there d.fields d.starts d.counts before in
+        let m = measure_there d.lines.fields d.lines.starts d.counts before in
         record { after = m.after; answer = m.answer; is = on_loaded some m.is }
 
     go : (p : Phase) → d.phase ≡ p → MeasureFor d before

@@ -1,9 +1,12 @@
 -- What load, advance, verdict and drop answer has the numbers that specs/Answers gives the call.
 use Prim.Native.Nat.{ℕ, ◌+◌, ◌-◌, min}
-use mathlib.Core.Path.{◌≡◌, refl, sym, ap, ◌∙◌}
+use mathlib.Core.Path.{◌≡◌, refl, ap, ◌∙◌}
 use mathlib.Core.Bool.{Bool, true, false, cond, not, ◌&&◌}
 use mathlib.Core.List.{List}
-use borrow.Author.Tests.{eqb-true}
+use Rattle.std.specs.Prelude.{Result, Ok, Err}
+use Rattle.verdicts.specs.declared.Fault.{Fault}
+use Rattle.verdicts.specs.Refusals.{fault_found}
+use Rattle.loader.specs.declared.Loaded.{Loaded}
 use lib.Dec.{eqb, leb}
 use Rattle.layout.specs.Sizes.{state_count_in}
 use Rattle.loader.specs.Load.{fault_of, loaded_of}
@@ -30,12 +33,11 @@ use Rattle.desk.specs.Desk.{load_empty, load_by, load_of, walked_on, fail_start,
 -- ---- load
 
 empty_number_lem : (d : Desk) (text : List ℕ) → done_number (load_empty d (loaded_of text)).answer ≡ fault_of text
-unfolding load_empty
-empty_number_lem d text = go (eqb (loaded_of text).fault 0) refl
+empty_number_lem d text = go (loaded_of text) ∙ fault_kept text
   where
-    go : (b : Bool) → eqb (loaded_of text).fault 0 ≡ b → done_number (load_empty d (loaded_of text)).answer ≡ fault_of text
-    go true e = rw e (sym (eqb-true (loaded_of text).fault 0 e) ∙ fault_kept text)
-    go false e = rw e (fault_kept text)
+    go : (r : Result Loaded Fault) → done_number (load_empty d r).answer ≡ fault_found r
+    go (Ok l) = refl
+    go (Err f) = refl
 
 load_by_lem : (p : Phase) (d : Desk) (text : List ℕ) → done_number (load_by p d text).answer ≡ load_number p text
 load_by_lem phase.Empty d text = empty_number_lem d text
@@ -57,9 +59,9 @@ walked_number Pass false how count = refl
 next_number : (d : Desk) (n : ℕ) → refusal_number (examine_next d n).answer ≡ 0
 unfolding examine_next walked_on
 next_number d n =
-    let total : ℕ = state_count_in d.fields d.starts d.counts in
-    let w : Walked = walked_under d.fields d.starts d.counts d.plan (ahead n d.next total) d.next in
-    walked_number w.outcome (leb total (d.next + w.count)) (acceptance_in d.fields d.starts d.counts) w.count
+    let total : ℕ = state_count_in d.lines.fields d.lines.starts d.counts in
+    let w : Walked = walked_under d.lines.fields d.lines.starts d.counts d.plan (ahead n d.next total) d.next in
+    walked_number w.outcome (leb total (d.next + w.count)) (acceptance_in d.lines.fields d.lines.starts d.counts) w.count
 
 start_number : (d : Desk) → refusal_number (fail_start d).answer ≡ 0
 unfolding fail_start
@@ -71,7 +73,7 @@ open_number d n = go (eqb n 0) refl
   where
     go : (b : Bool) → eqb n 0 ≡ b → refusal_number (advance_open d n).answer ≡ cond (eqb n 0) 8 0
     go true e = rw e
-    go false e = rw e (first (eqb d.next 0) (start_in d.fields d.starts d.counts))
+    go false e = rw e (first (eqb d.next 0) (start_in d.lines.fields d.lines.starts d.counts))
       where
         first : (b c : Bool) → refusal_number (cond b (cond c (examine_next d n) (fail_start d)) (examine_next d n)).answer ≡ 0
         first true true = next_number d n
@@ -97,12 +99,12 @@ walked_count Pass false how count = refl
 
 next_count : (d : Desk) (n : ℕ)
     → count_said (examine_next d n).answer
-    ≡ (walked_under d.fields d.starts d.counts d.plan (min n (state_count_in d.fields d.starts d.counts - d.next)) d.next).count
+    ≡ (walked_under d.lines.fields d.lines.starts d.counts d.plan (min n (state_count_in d.lines.fields d.lines.starts d.counts - d.next)) d.next).count
 unfolding examine_next walked_on ahead
 next_count d n =
-    let total : ℕ = state_count_in d.fields d.starts d.counts in
-    let w : Walked = walked_under d.fields d.starts d.counts d.plan (min n (total - d.next)) d.next in
-    walked_count w.outcome (leb total (d.next + w.count)) (acceptance_in d.fields d.starts d.counts) w.count
+    let total : ℕ = state_count_in d.lines.fields d.lines.starts d.counts in
+    let w : Walked = walked_under d.lines.fields d.lines.starts d.counts d.plan (min n (total - d.next)) d.next in
+    walked_count w.outcome (leb total (d.next + w.count)) (acceptance_in d.lines.fields d.lines.starts d.counts) w.count
 
 start_count : (d : Desk) → count_said (fail_start d).answer ≡ 0
 unfolding fail_start
@@ -114,10 +116,10 @@ open_count d n = go (eqb n 0) refl
   where
     go : (b : Bool) → eqb n 0 ≡ b → count_said (advance_open d n).answer ≡ cond (eqb n 0) 0 (count_open d n)
     go true e = rw e
-    go false e = rw e (first (eqb d.next 0) (start_in d.fields d.starts d.counts))
+    go false e = rw e (first (eqb d.next 0) (start_in d.lines.fields d.lines.starts d.counts))
       where
         first : (b c : Bool) → count_said (cond b (cond c (examine_next d n) (fail_start d)) (examine_next d n)).answer
-            ≡ cond (b && not c) 0 (walked_under d.fields d.starts d.counts d.plan (min n (state_count_in d.fields d.starts d.counts - d.next)) d.next).count
+            ≡ cond (b && not c) 0 (walked_under d.lines.fields d.lines.starts d.counts d.plan (min n (state_count_in d.lines.fields d.lines.starts d.counts - d.next)) d.next).count
         first true true = next_count d n
         first true false = start_count d
         first false c = next_count d n

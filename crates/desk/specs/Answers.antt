@@ -22,13 +22,13 @@ load_number (phase.Failed f) text = 12
 
 -- the start is tried in the first advance, and fails
 abbrev pub start_fails : Desk → Bool
-start_fails d = eqb d.next 0 && not (start_in d.fields d.starts d.counts)
+start_fails d = eqb d.next 0 && not (start_in d.lines.fields d.lines.starts d.counts)
 
 -- "the next n states, or those that remain", up to the failing one; 0 where no state is examined
 abbrev pub count_open : Desk → ℕ → ℕ
 count_open d n =
-    let left = state_count_in d.fields d.starts d.counts - d.next in
-    cond (start_fails d) 0 (walked_under d.fields d.starts d.counts d.plan (min n left) d.next).count
+    let left = state_count_in d.lines.fields d.lines.starts d.counts - d.next in
+    cond (start_fails d) 0 (walked_under d.lines.fields d.lines.starts d.counts d.plan (min n left) d.next).count
 
 -- "how many states it examined, the failing one included; 0 if criterion 1 failed"; turned down: 0
 abbrev pub count_for : Phase → Desk → ℕ → ℕ

@@ -14,11 +14,11 @@ use Rattle.desk.specs.declared.Desk.{Desk}
 -- the measure apart; 0 is done
 pub data MeasureNumber (d : Desk) (n : ℕ) : ℕ → Type 0 where
   on_empty : d.phase ≡ phase.Empty → MeasureNumber d n 11
-  without_room : d.phase ≢ phase.Empty → (HasRoom d.fields d.starts d.counts n → ⊥) → MeasureNumber d n 17
-  criterion_fails : d.phase ≢ phase.Empty → HasRoom d.fields d.starts d.counts n → Unmeasurable (design_in d.fields d.starts d.counts) → MeasureNumber d n 18
-  done : d.phase ≢ phase.Empty → HasRoom d.fields d.starts d.counts n → Measurable (design_in d.fields d.starts d.counts) → MeasureNumber d n 0
+  without_room : d.phase ≢ phase.Empty → (HasRoom d.lines.fields d.lines.starts d.counts n → ⊥) → MeasureNumber d n 17
+  criterion_fails : d.phase ≢ phase.Empty → HasRoom d.lines.fields d.lines.starts d.counts n → Unmeasurable (design_in d.lines.fields d.lines.starts d.counts) → MeasureNumber d n 18
+  done : d.phase ≢ phase.Empty → HasRoom d.lines.fields d.lines.starts d.counts n → Measurable (design_in d.lines.fields d.lines.starts d.counts) → MeasureNumber d n 0
 
 -- the answer, and what is written
 pub data MeasureOf (d : Desk) (before after : List ℕ) : Measured → Type 0 where
   refused_empty : d.phase ≡ phase.Empty → after ≡ before → MeasureOf d before after (TurnedDown 11)
-  on_loaded : {r : Measured} → d.phase ≢ phase.Empty → MeasureIn d.fields d.starts d.counts before after r → MeasureOf d before after r
+  on_loaded : {r : Measured} → d.phase ≢ phase.Empty → MeasureIn d.lines.fields d.lines.starts d.counts before after r → MeasureOf d before after r

@@ -14,12 +14,12 @@ ghost use Rattle.desk.specs.Desk.{empty_desk, load_empty, load_of, examine_open,
 
 use answers::{Advance, Done, Measured, Phase, Verdict};
 use design::Counts;
+use layout::Lines;
 
 #[derive(Drop)]
 pub struct Desk {
-    // The fields of the text's lines, and where each line starts.
-    pub fields: [u16; Desk::MAX_FIELDS],
-    pub starts: limits::Starts,
+    // The text's lines.
+    pub lines: Lines,
     pub counts: Counts,
     // What the walk needs to know of every state, worked out when the text is loaded.
     pub plan: [u16; walk::PLAN_LENGTH],
@@ -112,15 +112,8 @@ impl Desk {
         ensures { result ≡ empty_desk }
     {
         Desk {
-            fields: [0u16; Desk::MAX_FIELDS],
-            starts: [0u16; limits::STARTS],
-            counts: Counts {
-                kind1: 0,
-                kind2: 0,
-                kind3: 0,
-                kind4: 0,
-                kind8: 0,
-            },
+            lines: Lines::none(),
+            counts: Counts::default(),
             plan: [0u16; walk::PLAN_LENGTH],
             next: 0,
             phase: Phase::Empty,
@@ -188,7 +181,7 @@ impl Desk {
             };
         }
         AfterMeasure {
-            answer: measure::measure(&self.fields, &self.starts, self.counts, slice),
+            answer: measure::measure(&self.lines, self.counts, slice),
             desk: self,
         }
     }
@@ -216,29 +209,26 @@ impl Desk {
     fn load_empty(self, text: &[u8]) -> AfterLoad
         ensures { result ≡ load_empty self (loaded_of text.now) }
     {
-        let loaded = loader::load(text);
-        let fault = loaded.fault;
-        if fault == 0 {
-            let fields = loaded.fields;
-            let starts = loaded.starts;
-            let counts = loaded.counts;
-            let plan = walk::plan(&fields, &starts, counts);
-            AfterLoad {
-                answer: Done::Done,
-                desk: Desk {
-                    fields,
-                    starts,
-                    counts,
-                    plan,
-                    next: 0,
-                    phase: Phase::Open,
-                },
+        match loader::load(text) {
+            Ok(loaded) => {
+                let lines = loaded.lines;
+                let counts = loaded.counts;
+                let plan = walk::plan(&lines, counts);
+                AfterLoad {
+                    answer: Done::Done,
+                    desk: Desk {
+                        lines,
+                        counts,
+                        plan,
+                        next: 0,
+                        phase: Phase::Open,
+                    },
+                }
             }
-        } else {
-            AfterLoad {
-                answer: Done::TurnedDown(fault),
+            Err(fault) => AfterLoad {
+                answer: Done::TurnedDown(fault.number()),
                 desk: self,
-            }
+            },
         }
     }
 
@@ -247,29 +237,17 @@ impl Desk {
         ensures { result ≡ examine_open self n }
     {
         let next = self.next;
-        let examined = examining::examine(
-            &self.fields,
-            &self.starts,
-            self.counts,
-            &self.plan,
-            next,
-            n,
-        );
+        let examined = examining::examine(&self.lines, self.counts, &self.plan, next, n);
         let phase = examined.phase;
         let answer = answers::advance_of(phase, examined.count);
-        let fields = self.fields;
-        let starts = self.starts;
-        let plan = self.plan;
-        let counts = self.counts;
         AfterAdvance {
-            answer: answer,
+            answer,
             desk: Desk {
-                fields: fields,
-                starts: starts,
-                counts: counts,
-                plan: plan,
+                lines: self.lines,
+                counts: self.counts,
+                plan: self.plan,
                 next: examined.next,
-                phase: phase,
+                phase,
             },
         }
     }

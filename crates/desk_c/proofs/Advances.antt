@@ -1,7 +1,7 @@
 -- The loop of `bench_advances`: the advances made, and those that are left till one is not answered open, are all that it takes.
 use Prim.Native.Nat.{ℕ, suc, ◌+◌, ◌-◌, ◌<◌, ◌≤◌}
-use mathlib.Core.Path.{◌≡◌, refl, sym, ap, ◌∙◌}
-use mathlib.Core.Bool.{Bool, true, false, not}
+use mathlib.Core.Path.{◌≡◌, sym, ap, ◌∙◌}
+use mathlib.Core.Bool.{Bool, true, false}
 use mathlib.Core.List.{List}
 use native.Mathlib.Omega.{arith}
 use Rattle.desk.specs.declared.Desk.{Desk}
@@ -48,24 +48,22 @@ module _ (d : Desk) (n made : ℕ) where
 
 -- ---- the loop
 
-is_so : (b : Bool) → not b ≡ false → b ≡ true
-is_so true h = refl
-is_so false h = cc
+module _ (text : List ℕ) (d : Desk) (n made : ℕ) (some : 1 ≤ made) (so_far : with_left d n (made - 1) ≡ taken text n) where
+  before : (made - 1) + 1 ≡ made
+  before = omega arith
 
-is_not : (b : Bool) → not b ≡ true → b ≡ false
-is_not true h = cc
-is_not false h = refl
-
-module _ (text : List ℕ) (d : Desk) (n made : ℕ) (so_far : with_left d n made ≡ taken text n) where
-  module _ (more : made < 65536) (r : AfterAdvance) (er : r ≡ advance_of d n) (b : Bool) (eb : b ≡ is_open r.answer) where
+  module _ (more : made ≤ 65536) (r : AfterAdvance) (er : r ≡ advance_of d n) (b : Bool) (eb : b ≡ is_open r.answer) where
     answers : {x : Bool} → b ≡ x → is_open (advance_of d n).answer ≡ x
     answers h = ap (λ (y : AfterAdvance). is_open y.answer) (sym er) ∙ sym eb ∙ h
 
-    pub turns : not b ≡ false → with_left r.desk n (made + 1) ≡ taken text n
-    turns h = ap (λ (y : AfterAdvance). with_left y.desk n (made + 1)) er ∙ opened d n made more (answers (is_so b h)) ∙ so_far
+    pub turns : b ≡ true → with_left r.desk n ((made + 1) - 1) ≡ taken text n
+    turns h =
+        let same : (made + 1) - 1 ≡ (made - 1) + 1 = omega arith in
+        ap (λ (y : AfterAdvance). with_left y.desk n ((made + 1) - 1)) er ∙ ap (with_left (advance_of d n).desk n) same
+        ∙ opened d n (made - 1) (omega arith) (answers h) ∙ so_far
 
-    pub stops : not b ≡ true → made + 1 ≡ taken text n
-    stops h = shut d n made more (answers (is_not b h)) ∙ so_far
+    pub stops : b ≡ false → made ≡ taken text n
+    stops h = sym before ∙ shut d n (made - 1) (omega arith) (answers h) ∙ so_far
 
-  pub ends : 65536 ≤ made → made ≡ taken text n
-  ends h = none_left d n made h ∙ so_far
+  pub ends : made ≡ 65537 → 65536 ≡ taken text n
+  ends h = let all : made - 1 ≡ 65536 = omega arith in sym all ∙ none_left d n (made - 1) (omega arith) ∙ so_far

@@ -17,11 +17,9 @@ const MOST: u64 = limits::MAX_STATES as u64;
 pub extern "C" fn bench_load(text: &[u8]) -> u32
     ensures { result ≡ fault_of text.now }
 {
-    let loaded = Desk::empty().load(text);
-    let answer = loaded.answer;
-    match answer {
+    match Desk::empty().load(text).answer {
         Done::Done => 0,
-        Done::TurnedDown(number) => number as u32,
+        Done::TurnedDown(number) => u32::from(number),
     }
 }
 
@@ -31,28 +29,19 @@ pub extern "C" fn bench_load(text: &[u8]) -> u32
 pub extern "C" fn bench_advances(text: &[u8], n: u64) -> u64
     ensures { result ≡ advances_till 65536 (load_of empty_desk text.now).desk n }
 {
-    let loaded = Desk::empty().load(text);
-    let mut desk = loaded.desk;
-    let mut made = 0u64;
-    while made < MOST {
+    let mut desk = Desk::empty().load(text).desk;
+    for made in 1..=MOST {
         let advanced = desk.advance(n);
-        let answer = advanced.answer;
-        made += 1;
-        if !stays_open(answer) {
+        if !stays_open(advanced.answer) {
             return made;
         }
         desk = advanced.desk;
     }
-    made
+    MOST
 }
 
 fn stays_open(answer: Advance) -> bool
     ensures { result ≡ is_open answer }
 {
-    match answer {
-        Advance::Open(_) => true,
-        Advance::Accepted(_, _) => false,
-        Advance::Failed(_) => false,
-        Advance::TurnedDown(_) => false,
-    }
+    matches!(answer, Advance::Open(_))
 }

@@ -11,273 +11,143 @@
 #![tactic(auto)]
 
 use answer_lines::Stop;
-use call_input::{Due, Line};
+use call_input::{Line, TextError};
 use call_lines::Call;
 use desk::Desk;
-use std::io::{Error, Stderr, Stdin, Stdout};
-use streams::Ahead;
+use std::io;
+use std::io::{Stdin, Stdout};
+use streams::ReadAhead;
 
-// Standard input, output and error.
-#[derive(Clone, Copy)]
+// Standard input, read ahead, and standard output.
+#[derive(Drop)]
 struct Standard {
-    input: Stdin,
+    input: ReadAhead<Stdin>,
     output: Stdout,
-    errors: Stderr,
 }
 
-// The desk after a call, what is read ahead, and whether another call may follow.
-#[derive(Drop)]
-struct Step {
-    desk: Desk,
-    ahead: Ahead,
-    more: bool,
+// Which of them failed.
+#[derive(Clone, Copy)]
+enum Failed {
+    Input(io::Error),
+    Output(io::Error),
+}
+
+// Why a list of calls ends early.
+#[derive(Clone, Copy)]
+enum Ending {
+    Stopped(Stop),
+    Failed(Failed),
+}
+
+impl From<Failed> for Ending {
+    fn from(failed: Failed) -> Ending {
+        Ending::Failed(failed)
+    }
+}
+
+impl From<TextError> for Ending {
+    fn from(error: TextError) -> Ending {
+        match error {
+            TextError::Missing => Ending::Stopped(Stop::TextMissing),
+            TextError::NoLineEnd => Ending::Stopped(Stop::NoLineEnd),
+            TextError::NotRead(error) => Ending::Failed(Failed::Input(error)),
+        }
+    }
 }
 
 fn main(rt: HostRuntime) {
-    let standard = Standard {
-        input: rt.stdin(),
+    let mut standard = Standard {
+        input: ReadAhead::new(rt.stdin()),
         output: rt.stdout(),
-        errors: rt.stderr(),
     };
-    let mut space = [0u8; streams::BLOCK];
-    run_calls(standard, &mut space);
+    let _ = match run_calls(&mut standard) {
+        Ok(()) => Ok(()),
+        Err(Failed::Input(error)) => {
+            streams::fail(&mut rt.stderr(), b"desk_calls: standard input", error)
+        }
+        Err(Failed::Output(error)) => {
+            streams::fail(&mut rt.stderr(), b"desk_calls: standard output", error)
+        }
+    };
 }
 
-fn run_calls(standard: Standard, space: &mut [u8; streams::BLOCK]) {
+fn run_calls(standard: &mut Standard) -> Result<(), Failed> {
     let mut desk = Desk::empty();
-    let mut ahead = Ahead { at: 0, end: 0 };
-    let mut line = 1u64;
-    while line < 18446744073709551615 {
-        let step = run_next(standard, desk, space, ahead, line);
-        let next = step.desk;
-        desk = next;
-        let rest = step.ahead;
-        ahead = rest;
-        if !step.more {
-            return;
+    for line in 1..u64::MAX {
+        match run_next(standard, desk) {
+            Ok(Some(next)) => desk = next,
+            Ok(None) => return Ok(()),
+            Err(Ending::Stopped(why)) => return write_stop(standard, why, line),
+            Err(Ending::Failed(failed)) => return Err(failed),
         }
-        line += 1;
     }
+    Ok(())
 }
 
-// Reads a line and makes the call that it says.
-fn run_next(
-    standard: Standard,
-    desk: Desk,
-    space: &mut [u8; streams::BLOCK],
-    ahead: Ahead,
-    line: u64,
-) -> Step {
+// Reads a line and makes the call that it says; None where no line is left.
+fn run_next(standard: &mut Standard, desk: Desk) -> Result<Option<Desk>, Ending> {
     let mut bytes = [0u8; call_lines::LONGEST];
-    let read = call_input::read_line(&mut &standard.input, space, ahead, &mut bytes);
-    let kind = read.line;
-    let rest = read.ahead;
-    match kind {
+    match call_input::read_line(&mut standard.input, &mut bytes).map_err(Failed::Input)? {
         Line::Short(n) => {
-            let call = call_of_start(&bytes, n);
-            run_call(standard, desk, space, rest, call, line)
+            let call = call_lines::call_of(&bytes[..n]).ok_or(Ending::Stopped(Stop::NoCall))?;
+            Ok(Some(run_call(standard, desk, call)?))
         }
-        Line::Long => stop(standard, desk, rest, Stop::NoCall, line),
-        Line::End => end(desk, rest),
-        Line::Failed(error) => not_read(standard, desk, rest, error),
+        Line::Long => Err(Ending::Stopped(Stop::NoCall)),
+        Line::End => Ok(None),
     }
 }
 
-// The call that the first n bytes are.
-fn call_of_start(bytes: &[u8; call_lines::LONGEST], n: usize) -> Call {
-    let line: &[u8] = bytes;
-    if n <= line.len() {
-        call_lines::call_of(&line[0..n])
-    } else {
-        Call::NoCall
-    }
-}
-
-fn run_call(
-    standard: Standard,
-    desk: Desk,
-    space: &mut [u8; streams::BLOCK],
-    ahead: Ahead,
-    call: Call,
-    line: u64,
-) -> Step {
-    match call {
-        Call::Load(n) => run_load(standard, desk, space, ahead, n, line),
-        Call::Advance(n) => run_advance(standard, desk, ahead, n),
-        Call::Verdict => run_verdict(standard, desk, ahead),
-        Call::Measure(n) => run_measure(standard, desk, ahead, n, line),
-        Call::Drop => run_drop(standard, desk, ahead),
-        Call::NoCall => stop(standard, desk, ahead, Stop::NoCall, line),
-    }
-}
-
-fn run_load(
-    standard: Standard,
-    desk: Desk,
-    space: &mut [u8; streams::BLOCK],
-    ahead: Ahead,
-    n: u64,
-    line: u64,
-) -> Step {
-    let mut room = [0u8; calls::ENOUGH];
-    let read = call_input::read_text(&mut &standard.input, space, ahead, n, &mut room);
-    let due = read.due;
-    let rest = read.ahead;
-    match due {
-        Due::There => load_read(standard, desk, rest, n, &room),
-        Due::Missing => stop(standard, desk, rest, Stop::TextMissing, line),
-        Due::NoLineEnd => stop(standard, desk, rest, Stop::NoLineEnd, line),
-        Due::Failed(error) => not_read(standard, desk, rest, error),
-    }
-}
-
-fn load_read(
-    standard: Standard,
-    desk: Desk,
-    ahead: Ahead,
-    n: u64,
-    room: &[u8; calls::ENOUGH],
-) -> Step {
+// Makes a call, and writes the line of its answer.
+fn run_call(standard: &mut Standard, desk: Desk, call: Call) -> Result<Desk, Ending> {
     let mut line = [0u8; answer_lines::ROOM];
-    let answered = calls::run_load(desk, room, n, &mut line);
-    let k = answered.length;
-    let more = write_line(standard, &line[..k]);
-    let next = answered.desk;
-    Step {
-        desk: next,
-        ahead,
-        more,
-    }
+    let answered = match call {
+        Call::Load(n) => {
+            let mut room = [0u8; calls::ENOUGH];
+            call_input::read_text(&mut standard.input, n, &mut room)?;
+            calls::run_load(desk, &room, n, &mut line)
+        }
+        Call::Advance(n) => calls::run_advance(desk, n, &mut line),
+        Call::Verdict => calls::run_verdict(desk, &mut line),
+        Call::Measure(n) => return run_measure(standard, desk, n),
+        Call::Drop => calls::run_drop(desk, &mut line),
+    };
+    write(standard, &line[..answered.length])?;
+    Ok(answered.desk)
 }
 
-fn run_advance(standard: Standard, desk: Desk, ahead: Ahead, n: u64) -> Step {
-    let mut line = [0u8; answer_lines::ROOM];
-    let answered = calls::run_advance(desk, n, &mut line);
-    let k = answered.length;
-    let more = write_line(standard, &line[..k]);
-    let next = answered.desk;
-    Step {
-        desk: next,
-        ahead,
-        more,
-    }
-}
-
-fn run_verdict(standard: Standard, desk: Desk, ahead: Ahead) -> Step {
-    let mut line = [0u8; answer_lines::ROOM];
-    let answered = calls::run_verdict(desk, &mut line);
-    let k = answered.length;
-    let more = write_line(standard, &line[..k]);
-    let next = answered.desk;
-    Step {
-        desk: next,
-        ahead,
-        more,
-    }
-}
-
-fn run_measure(standard: Standard, desk: Desk, ahead: Ahead, n: u64, line: u64) -> Step {
+fn run_measure(standard: &mut Standard, desk: Desk, n: u64) -> Result<Desk, Ending> {
     if (calls::PLACES as u64) < n {
-        return stop(standard, desk, ahead, Stop::NoRoom, line);
+        return Err(Ending::Stopped(Stop::NoRoom));
     }
     let mut places = [0u16; calls::PLACES];
-    measure_in(standard, desk, ahead, &mut places, n)
-}
-
-fn measure_in(
-    standard: Standard,
-    desk: Desk,
-    ahead: Ahead,
-    places: &mut [u16; calls::PLACES],
-    n: u64,
-) -> Step {
     let mut line = [0u8; answer_lines::ROOM];
-    let answered = calls::run_measure(desk, places, n, &mut line);
-    let head = answered.head;
-    let k = head.length;
-    let mut more = write_line(standard, &line[..k]);
-    if more {
-        if head.places {
-            more = write_first(standard, places, n);
-        }
+    let answered = calls::run_measure(desk, &mut places, n, &mut line);
+    write(standard, &line[..answered.head.length])?;
+    if answered.head.places {
+        write_places(standard, &places[..n as usize])?;
     }
-    let next = answered.desk;
-    Step {
-        desk: next,
-        ahead,
-        more,
-    }
+    Ok(answered.desk)
 }
 
-// Writes the numbers of the first n places, or all, and the end of the line; false if they can't be written.
-fn write_first(standard: Standard, places: &[u16; calls::PLACES], n: u64) -> bool {
-    let slice: &[u16] = places;
-    if n < slice.len() as u64 {
-        let k = n as usize;
-        write_places(standard, &slice[0..k])
-    } else {
-        write_places(standard, slice)
-    }
-}
-
-fn write_places(standard: Standard, slice: &[u16]) -> bool {
+// Writes the numbers of places and the end of the line.
+fn write_places(standard: &mut Standard, slice: &[u16]) -> Result<(), Failed> {
     let mut piece = [0u8; answer_lines::ROOM];
     let mut from = 0;
     while from < slice.len() {
         let put = answer_lines::put_places(&mut piece, slice, from);
-        let k = put.length;
-        if !write_line(standard, &piece[..k]) {
-            return false;
-        }
+        write(standard, &piece[..put.length])?;
         from = put.next;
     }
-    write_line(standard, b"\n")
+    write(standard, b"\n")
 }
 
-fn run_drop(standard: Standard, desk: Desk, ahead: Ahead) -> Step {
+// Writes the line that says why a list of calls ends.
+fn write_stop(standard: &mut Standard, why: Stop, n: u64) -> Result<(), Failed> {
     let mut line = [0u8; answer_lines::ROOM];
-    let answered = calls::run_drop(desk, &mut line);
-    let k = answered.length;
-    let more = write_line(standard, &line[..k]);
-    let next = answered.desk;
-    Step {
-        desk: next,
-        ahead,
-        more,
-    }
+    let length = answer_lines::put_stop(&mut line, why, n);
+    write(standard, &line[..length])
 }
 
-// ---- the end of the list
-
-fn end(desk: Desk, ahead: Ahead) -> Step {
-    Step {
-        desk,
-        ahead,
-        more: false,
-    }
-}
-
-// Ends the list with a line that says why.
-fn stop(standard: Standard, desk: Desk, ahead: Ahead, why: Stop, n: u64) -> Step {
-    let mut line = [0u8; answer_lines::ROOM];
-    let k = answer_lines::put_stop(&mut line, why, n);
-    write_line(standard, &line[..k]);
-    end(desk, ahead)
-}
-
-// Ends the list where a read failed.
-fn not_read(standard: Standard, desk: Desk, ahead: Ahead, error: Error) -> Step {
-    let _ = streams::fail(&mut &standard.errors, b"desk_calls: standard input", error);
-    end(desk, ahead)
-}
-
-// Writes a line; false if it can't be written.
-fn write_line(standard: Standard, line: &[u8]) -> bool {
-    match streams::write_all(&mut &standard.output, line) {
-        Ok(()) => true,
-        Err(error) => {
-            let _ = streams::fail(&mut &standard.errors, b"desk_calls: standard output", error);
-            false
-        }
-    }
+fn write(standard: &mut Standard, bytes: &[u8]) -> Result<(), Failed> {
+    streams::write_all(&mut standard.output, bytes).map_err(Failed::Output)
 }

@@ -1,4 +1,3 @@
-pub mod Conditions
 pub mod Divisors
 pub mod Laws
 pub mod Sets

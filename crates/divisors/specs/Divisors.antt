@@ -217,35 +217,28 @@ looked_v at r = record { divides = divides_v r.tree; next = at + r.used }
 abbrev pub looked_f : ℕ → Read Formula → Looked
 looked_f at r = record { divides = divides_f r.tree; next = at + r.used }
 
--- what is known of a value besides, with the place n after it
-abbrev pub known_of : Value → ℕ → Known
-known_of t n = record { zero = zero_v t; most = most_v t; named = named_v t; leaf = leaf_v t; next = n }
+-- what is known of a value besides, and of an operation, by what is known of its two values
+abbrev pub known_of : Value → Known
+known_of t = record { zero = zero_v t; most = most_v t; named = named_v t; leaf = leaf_v t }
 
-abbrev pub known_v : ℕ → Read Value → Known
-known_v at r = known_of r.tree (at + r.used)
-
--- of an operation, by what is known of its two values
 abbrev pub operation_known : Arith → Known → Known → Known
 operation_known Sum a b =
     let m : ℕ = sum_most a.most b.most in
-    record { zero = only_if (ltb m unknown) (least a.zero b.zero); most = m; named = nothing; leaf = 1024; next = b.next }
+    record { zero = only_if (ltb m unknown) (least a.zero b.zero); most = m; named = nothing; leaf = 1024 }
 operation_known Difference a b =
-    record { zero = term_or other 1 a.leaf b.leaf; most = unknown; named = term_or nothing 1 a.leaf b.leaf; leaf = 1024; next = b.next }
+    record { zero = term_or other 1 a.leaf b.leaf; most = unknown; named = term_or nothing 1 a.leaf b.leaf; leaf = 1024 }
 operation_known Remainder a b =
-    record { zero = term_or other 2 a.leaf b.leaf; most = a.most; named = term_or nothing 2 a.leaf b.leaf; leaf = 1024; next = b.next }
+    record { zero = term_or other 2 a.leaf b.leaf; most = a.most; named = term_or nothing 2 a.leaf b.leaf; leaf = 1024 }
 
--- and of a formula; of one that says nothing, with the place n after it
-abbrev pub no_guards : ℕ → Guards
-no_guards n = record { yes = nothing; no = nothing; next = n }
-
-abbrev pub guards_f : ℕ → Read Formula → Guards
-guards_f at r = record { yes = yes_f r.tree; no = no_f r.tree; next = at + r.used }
+-- and of a formula
+abbrev pub guards_of : Formula → Guards
+guards_of t = record { yes = yes_f t; no = no_f t }
 
 abbrev pub comparison_guards : Compare → Known → Known → Guards
 comparison_guards Equal a b =
-    record { yes = nothing; no = either (known_if (eqb b.most 0) a.named) (known_if (eqb a.most 0) b.named); next = b.next }
-comparison_guards Less a b = record { yes = b.named; no = known_if (never b.zero) a.named; next = b.next }
+    record { yes = nothing; no = either (known_if (eqb b.most 0) a.named) (known_if (eqb a.most 0) b.named) }
+comparison_guards Less a b = record { yes = b.named; no = known_if (never b.zero) a.named }
 
 abbrev pub join_guards : Join → Guards → Guards → Guards
-join_guards And f g = record { yes = either f.yes g.yes; no = nothing; next = g.next }
-join_guards Or f g = record { yes = nothing; no = either f.no g.no; next = g.next }
+join_guards And f g = record { yes = either f.yes g.yes; no = nothing }
+join_guards Or f g = record { yes = nothing; no = either f.no g.no }

@@ -6,17 +6,17 @@
 // taken modulo 65,536. What is left of the number by 1,024 is 0, or names one term whose being 0 is in the set too: a difference or remainder
 // of two leaves. What a formula says is a set too, of things that are not so where it holds, or fails.
 //
-// The look is made at every term when a text is loaded. So `value_divides` and `formula_divides` answer leaves themselves, as in the crate
-// eval, and functions behind them answer every term; and what is known of a divisor (`value_known`) and what a formula says of a parameter
-// (`formula_guards`) is asked only where there is a divisor, or a branch that could lack a value. The remaining depth falls with every call.
+// The look is made at every term when a text is loaded, by the reader of the crate term_fold. So what is known of a divisor and what a formula
+// says of a parameter (`Knowledge`, by the same reader) is asked only where there is a divisor, or a branch that could lack a value.
 #![tactic(auto)]
 
-ghost use Rattle.std.specs.Prelude.{◌≡◌, cond, ◌^◌, ◌+◌, ◌<◌, ◌≤◌, max, drop};
-ghost use Rattle.terms.specs.Tree.{no_value, num, par};
+ghost use Rattle.std.specs.Prelude.{◌≡◌, ◌^◌, ◌+◌, ◌<◌, ◌≤◌, drop};
+ghost use Rattle.terms.specs.Tree.{Value, Formula, num, par, sum_value, arith, choice, no_value, const, compare, negation, join, no_formula};
 ghost use Rattle.terms.specs.Read.{read_v, read_f};
-ghost use Rattle.divisors.specs.Divisors.{small_at, so_at, leaf_at, operation_of, term_at, quiet_at, safe_at, term_or, agree, both, either, never, least, only_if, known_if, common, spared, sum_most, leaf_v, zero_v, yes_f, no_f, by_operation, looked_v, looked_f, known_of, known_v, operation_known, no_guards, guards_f, comparison_guards, join_guards};
+ghost use Rattle.divisors.specs.Divisors.{small_at, so_at, leaf_at, operation_of, term_at, quiet_at, safe_at, term_or, agree, both, either, never, least, only_if, known_if, common, spared, sum_most, leaf_v, zero_v, yes_f, no_f, by_operation, divides_v, divides_f, looked_v, looked_f, known_of, operation_known, guards_of, comparison_guards, join_guards};
 
-use terms::{Arith, Compare, FormulaMark, Join, ValueMark};
+use term_fold::Fold;
+use terms::{Arith, Compare, Join};
 
 const NOTHING: u32 = 0;
 
@@ -60,22 +60,20 @@ pub struct Looked {
 }
 
 // What is known of a value: what could make it 0; the largest that it can be where no parameter is large; the set of its being 0, where it
-// has one; its number as a leaf of a term; and where the next term stands.
+// has one; its number as a leaf of a term.
 #[derive(Clone, Copy)]
 struct Known {
     zero: u32,
     most: u32,
     named: u32,
     leaf: u16,
-    next: usize,
 }
 
-// What is not so where a formula holds, and where it fails, and no parameter is large; and where the next term stands.
+// What is not so where a formula holds, and where it fails, and no parameter is large.
 #[derive(Clone, Copy)]
 struct Guards {
     yes: u32,
     no: u32,
-    next: usize,
 }
 
 // ---- the sets
@@ -84,21 +82,11 @@ struct Guards {
 fn small(params: &limits::Values) -> bool
     ensures { result ≡ small_at params.now }
 {
-    (terms::parameter(params, 0) < LEAST_LARGE)
-        & (terms::parameter(params, 1) < LEAST_LARGE)
-        & (terms::parameter(params, 2) < LEAST_LARGE)
-        & (terms::parameter(params, 3) < LEAST_LARGE)
-        & (terms::parameter(params, 4) < LEAST_LARGE)
-        & (terms::parameter(params, 5) < LEAST_LARGE)
-        & (terms::parameter(params, 6) < LEAST_LARGE)
-        & (terms::parameter(params, 7) < LEAST_LARGE)
-}
-
-// A member, if so.
-fn member(so: bool, one: u32) -> u32
-    ensures { result ≡ cond so one 0 }
-{
-    if so { one } else { 0 }
+    let mut small = true;
+    for i in 0..PARAMETERS {
+        small &= terms::parameter(params, i) < LEAST_LARGE;
+    }
+    small
 }
 
 // Parameter i being 0.
@@ -113,16 +101,17 @@ fn being_0(i: u16) -> u32
 pub fn so(params: &limits::Values) -> u32
     ensures { result ≡ so_at params.now }
 {
-    let mut known = OTHER | member(!small(params), LARGE);
-    let mut i = 0;
-    while i < PARAMETERS {
-        known = known | member(terms::parameter(params, i) == 0, being_0(i));
-        i += 1;
+    let mut known = if small(params) { OTHER } else { OTHER | LARGE };
+    for i in 0..PARAMETERS {
+        if terms::parameter(params, i) == 0 {
+            known |= being_0(i);
+        }
     }
     known
 }
 
 // The value of the leaf with a number.
+#[tactic(auto, unfolding(crate::specs::Divisors::leaf_at))]
 fn leaf_value(x: u16, params: &limits::Values) -> u16
     ensures { result ≡ leaf_at x params.now }
 {
@@ -133,6 +122,7 @@ fn leaf_value(x: u16, params: &limits::Values) -> u16
 }
 
 // The operation of a term.
+#[tactic(auto, unfolding(crate::specs::Divisors::operation_of))]
 fn operation_of(term: u32) -> Arith
     ensures { result ≡ operation_of term }
 {
@@ -144,6 +134,7 @@ fn operation_of(term: u32) -> Arith
 }
 
 // The value of a term.
+#[tactic(auto, unfolding(crate::specs::Divisors::term_at))]
 fn term_value(term: u32, params: &limits::Values) -> u16
     ensures { result ≡ term_at term params.now }
 {
@@ -153,6 +144,7 @@ fn term_value(term: u32, params: &limits::Values) -> u16
 }
 
 // Whether there is no term, or it is not 0.
+#[tactic(auto, unfolding(crate::specs::Divisors::quiet_at))]
 fn quiet(term: u32, params: &limits::Values) -> bool
     ensures { result ≡ quiet_at term params.now }
 {
@@ -163,6 +155,7 @@ fn quiet(term: u32, params: &limits::Values) -> bool
 }
 
 // Whether a term that could lack a value by these surely has one at these parameter values, of which it is known what is so.
+#[tactic(auto, unfolding(crate::specs::Divisors::safe_at))]
 pub fn safe_where(risks: u32, so: u32, params: &limits::Values) -> bool
     requires { so ≡ so_at params.now }
     ensures { result ≡ safe_at risks params.now }
@@ -174,6 +167,7 @@ pub fn safe_where(risks: u32, so: u32, params: &limits::Values) -> bool
 }
 
 // The same, where that is not known.
+#[tactic(auto, unfolding(crate::specs::Divisors::safe_at, crate::specs::Divisors::quiet_at))]
 pub fn safe_at(risks: u32, params: &limits::Values) -> bool
     ensures { result ≡ safe_at risks params.now }
 {
@@ -184,6 +178,7 @@ pub fn safe_at(risks: u32, params: &limits::Values) -> bool
 }
 
 // The set of a term's being 0; another where one of its leaves has no number.
+#[tactic(auto, unfolding(crate::specs::Divisors::term_or))]
 fn term_or(otherwise: u32, operation: u32, x: u16, y: u16) -> u32
     requires { operation ≤ 2 }
     ensures { result ≡ term_or otherwise operation x y }
@@ -195,6 +190,7 @@ fn term_or(otherwise: u32, operation: u32, x: u16, y: u16) -> u32
 }
 
 // Whether two sets name no two terms.
+#[tactic(auto, unfolding(crate::specs::Divisors::agree))]
 fn agree(a: u32, b: u32) -> bool
     ensures { result ≡ agree a b }
 {
@@ -215,6 +211,7 @@ pub fn both(a: u32, b: u32) -> u32
 }
 
 // What is not so by one or the other of two formulas.
+#[tactic(auto, unfolding(crate::specs::Divisors::either))]
 fn either(g: u32, h: u32) -> u32
     ensures { result ≡ either g h }
 {
@@ -225,6 +222,7 @@ fn either(g: u32, h: u32) -> u32
 }
 
 // Whether it is nothing, or nothing but a large parameter.
+#[tactic(auto, unfolding(crate::specs::Divisors::never))]
 fn never(risks: u32) -> bool
     ensures { result ≡ never risks }
 {
@@ -232,6 +230,7 @@ fn never(risks: u32) -> bool
 }
 
 // What makes one of two values 0 where no parameter is large: the less of them.
+#[tactic(auto, unfolding(crate::specs::Divisors::least))]
 fn least(a: u32, b: u32) -> u32
     ensures { result ≡ least a b }
 {
@@ -239,6 +238,7 @@ fn least(a: u32, b: u32) -> u32
 }
 
 // Known only where something is so; else it could be anything.
+#[tactic(auto, unfolding(crate::specs::Divisors::only_if))]
 fn only_if(so: bool, risks: u32) -> u32
     ensures { result ≡ only_if so risks }
 {
@@ -246,6 +246,7 @@ fn only_if(so: bool, risks: u32) -> u32
 }
 
 // Said only where something is so; else nothing is.
+#[tactic(auto, unfolding(crate::specs::Divisors::known_if))]
 fn known_if(so: bool, guards: u32) -> u32
     ensures { result ≡ known_if so guards }
 {
@@ -253,6 +254,7 @@ fn known_if(so: bool, guards: u32) -> u32
 }
 
 // What two sets have in common; terms only where they are the same.
+#[tactic(auto, unfolding(crate::specs::Divisors::common))]
 fn common(risks: u32, guards: u32) -> u32
     ensures { result ≡ common risks guards }
 {
@@ -263,6 +265,7 @@ fn common(risks: u32, guards: u32) -> u32
 }
 
 // Without what is known not to be so where no parameter is large.
+#[tactic(auto, unfolding(crate::specs::Divisors::spared))]
 fn spared(risks: u32, guards: u32) -> u32
     ensures { result ≡ spared risks guards }
 {
@@ -276,65 +279,29 @@ fn spared(risks: u32, guards: u32) -> u32
 // ---- what is known of a value, and what a formula says
 
 // Where nothing is known, as of what is no value.
-fn nothing_known(next: usize) -> Known
-    ensures { result ≡ known_of no_value next }
-{
-    Known {
-        zero: OTHER,
-        most: UNKNOWN,
-        named: NOTHING,
-        leaf: LEAVES,
-        next: next,
-    }
-}
+const NOTHING_KNOWN: Known = Known {
+    zero: OTHER,
+    most: UNKNOWN,
+    named: NOTHING,
+    leaf: LEAVES,
+};
+
+// Where a formula says nothing of a parameter.
+const NO_GUARDS: Guards = Guards {
+    yes: NOTHING,
+    no: NOTHING,
+};
 
 // The number of a number as a leaf.
+#[tactic(auto, unfolding(crate::specs::Divisors::leaf_v))]
 fn number_leaf(n: u16) -> u16
     ensures { result ≡ leaf_v (num n) }
 {
     if n < NUMBERS { n + PARAMETERS } else { LEAVES }
 }
 
-// Of a number.
-fn number(n: u16, next: usize) -> Known
-    ensures { result ≡ known_of (num n) next }
-{
-    if n == 0 {
-        return Known {
-            zero: OTHER,
-            most: 0,
-            named: NOTHING,
-            leaf: number_leaf(n),
-            next: next,
-        };
-    }
-    Known {
-        zero: NOTHING,
-        most: n as u32,
-        named: NOTHING,
-        leaf: number_leaf(n),
-        next: next,
-    }
-}
-
-// Of a parameter.
-fn parameter(i: u16, next: usize) -> Known
-    ensures { result ≡ known_of (par i) next }
-{
-    if PARAMETERS <= i {
-        return nothing_known(next);
-    }
-    let zero = being_0(i);
-    Known {
-        zero: zero,
-        most: LEAST_LARGE as u32 - 1,
-        named: zero,
-        leaf: i,
-        next: next,
-    }
-}
-
 // The largest that a sum can be.
+#[tactic(auto, unfolding(crate::specs::Divisors::sum_most))]
 fn sum_most(a: u32, b: u32) -> u32
     ensures { result ≡ sum_most a b }
 {
@@ -345,13 +312,6 @@ fn sum_most(a: u32, b: u32) -> u32
         return UNKNOWN;
     }
     a + b
-}
-
-// The larger of two numbers.
-fn larger(a: u32, b: u32) -> u32
-    ensures { result ≡ max a b }
-{
-    if a < b { b } else { a }
 }
 
 // Of an operation.
@@ -366,7 +326,6 @@ fn operation(op: Arith, a: Known, b: Known) -> Known
                 most: most,
                 named: NOTHING,
                 leaf: LEAVES,
-                next: b.next,
             }
         }
         Arith::Difference => Known {
@@ -374,14 +333,12 @@ fn operation(op: Arith, a: Known, b: Known) -> Known
             most: UNKNOWN,
             named: term_or(NOTHING, DIFFERENCE, a.leaf, b.leaf),
             leaf: LEAVES,
-            next: b.next,
         },
         Arith::Remainder => Known {
             zero: term_or(OTHER, REMAINDER, a.leaf, b.leaf),
             most: a.most,
             named: term_or(NOTHING, REMAINDER, a.leaf, b.leaf),
             leaf: LEAVES,
-            next: b.next,
         },
     }
 }
@@ -404,12 +361,10 @@ fn comparison(op: Compare, a: Known, b: Known) -> Guards
                 known_if(b.most == 0, a.named),
                 known_if(a.most == 0, b.named),
             ),
-            next: b.next,
         },
         Compare::Less => Guards {
             yes: b.named,
             no: known_if(never(b.zero), a.named),
-            next: b.next,
         },
     }
 }
@@ -422,117 +377,121 @@ fn joined(op: Join, f: Guards, g: Guards) -> Guards
         Join::And => Guards {
             yes: either(f.yes, g.yes),
             no: NOTHING,
-            next: g.next,
         },
         Join::Or => Guards {
             yes: NOTHING,
             no: either(f.no, g.no),
-            next: g.next,
         },
     }
 }
 
-// Of a formula that says nothing of a parameter.
-fn no_guards(next: usize) -> Guards
-    ensures { result ≡ no_guards next }
-{
-    Guards {
-        yes: NOTHING,
-        no: NOTHING,
-        next: next,
-    }
-}
+// What is known of values, and what formulas say.
+#[derive(Clone, Copy)]
+struct Knowledge;
 
-// Of the value at a place of the desk's fields.
-#[cycle(formula_guards_value_known)]
-fn value_known(desk: &limits::Fields, at: usize, depth: usize) -> Known
-    ensures { result ≡ known_v at (read_v depth (drop at desk.now)) }
-{
-    let fields: &[u16] = desk;
-    if depth == 0 {
-        return nothing_known(at);
-    }
-    if fields.len() <= at {
-        return nothing_known(at);
-    }
-    let mark = terms::value_mark(fields[at]);
-    match mark {
-        ValueMark::Number => {
-            if at + 1 < fields.len() {
-                number(fields[at + 1], at + 2)
-            } else {
-                nothing_known(at)
-            }
+#[tactic(auto, unfolding(crate::specs::Divisors::zero_v, crate::specs::Divisors::most_v, crate::specs::Divisors::named_v, crate::specs::Divisors::leaf_v, crate::specs::Divisors::yes_f, crate::specs::Divisors::by_parameter, crate::specs::Divisors::parameter_most, crate::specs::Divisors::only_if, crate::specs::Divisors::known_if))]
+impl Fold for Knowledge {
+    type OfValue = Known;
+
+    type OfFormula = Guards;
+
+    ghost of_value = { λ _ t. known_of t };
+
+    ghost of_formula = { λ _ t. guards_of t };
+
+    fn number(self, n: u16) -> Known {
+        if n == 0 {
+            return Known {
+                zero: OTHER,
+                most: 0,
+                named: NOTHING,
+                leaf: number_leaf(n),
+            };
         }
-        ValueMark::Parameter => {
-            if at + 1 < fields.len() {
-                parameter(fields[at + 1], at + 2)
-            } else {
-                nothing_known(at)
-            }
+        Known {
+            zero: NOTHING,
+            most: n as u32,
+            named: NOTHING,
+            leaf: number_leaf(n),
         }
-        ValueMark::SumValue => Known {
+    }
+
+    fn parameter(self, i: u16) -> Known {
+        if PARAMETERS <= i {
+            return NOTHING_KNOWN;
+        }
+        let zero = being_0(i);
+        Known {
+            zero,
+            most: LEAST_LARGE as u32 - 1,
+            named: zero,
+            leaf: i,
+        }
+    }
+
+    fn sum_value(self) -> Known {
+        Known {
             zero: OTHER,
             most: limits::MAX_SPAN as u32 - 1,
             named: NOTHING,
             leaf: LEAVES,
-            next: at + 1,
-        },
-        ValueMark::Arithmetic(op) => {
-            let a = value_known(desk, at + 1, depth - 1);
-            let b = value_known(desk, a.next, depth - 1);
-            operation(op, a, b)
         }
-        ValueMark::Choice => {
-            let f = formula_guards(desk, at + 1, depth - 1);
-            let a = value_known(desk, f.next, depth - 1);
-            let b = value_known(desk, a.next, depth - 1);
-            Known {
-                zero: branches(a.zero, b.zero, f),
-                most: larger(a.most, b.most),
-                named: NOTHING,
-                leaf: LEAVES,
-                next: b.next,
-            }
-        }
-        ValueMark::Wrong => nothing_known(at),
     }
-}
 
-// Of the formula at a place of the desk's fields.
-#[cycle(formula_guards_value_known)]
-fn formula_guards(desk: &limits::Fields, at: usize, depth: usize) -> Guards
-    ensures { result ≡ guards_f at (read_f depth (drop at desk.now)) }
-{
-    let fields: &[u16] = desk;
-    if depth == 0 {
-        return no_guards(at);
+    fn arithmetic(
+        self,
+        op: Arith,
+        a: Known,
+        b: Known,
+        _desk: &limits::Fields,
+        _at: usize,
+        _depth: usize,
+    ) -> Known {
+        operation(op, a, b)
     }
-    if fields.len() <= at {
-        return no_guards(at);
+
+    fn choice(
+        self,
+        f: Guards,
+        a: Known,
+        b: Known,
+        _desk: &limits::Fields,
+        _at: usize,
+        _depth: usize,
+    ) -> Known {
+        Known {
+            zero: branches(a.zero, b.zero, f),
+            most: a.most.max(b.most),
+            named: NOTHING,
+            leaf: LEAVES,
+        }
     }
-    let mark = terms::formula_mark(fields[at]);
-    match mark {
-        FormulaMark::Constant(b) => no_guards(at + 1),
-        FormulaMark::Comparison(op) => {
-            let a = value_known(desk, at + 1, depth - 1);
-            let b = value_known(desk, a.next, depth - 1);
-            comparison(op, a, b)
+
+    fn no_value(self) -> Known {
+        NOTHING_KNOWN
+    }
+
+    fn constant(self, _b: bool) -> Guards {
+        NO_GUARDS
+    }
+
+    fn comparison(self, op: Compare, a: Known, b: Known) -> Guards {
+        comparison(op, a, b)
+    }
+
+    fn negation(self, f: Guards) -> Guards {
+        Guards {
+            yes: f.no,
+            no: f.yes,
         }
-        FormulaMark::Negation => {
-            let f = formula_guards(desk, at + 1, depth - 1);
-            Guards {
-                yes: f.no,
-                no: f.yes,
-                next: f.next,
-            }
-        }
-        FormulaMark::Connective(op) => {
-            let f = formula_guards(desk, at + 1, depth - 1);
-            let g = formula_guards(desk, f.next, depth - 1);
-            joined(op, f, g)
-        }
-        FormulaMark::Wrong => no_guards(at),
+    }
+
+    fn connective(self, op: Join, f: Guards, g: Guards) -> Guards {
+        joined(op, f, g)
+    }
+
+    fn no_formula(self) -> Guards {
+        NO_GUARDS
     }
 }
 
@@ -546,8 +505,8 @@ fn divisor(op: Arith, desk: &limits::Fields, at: usize, depth: usize) -> u32
         Arith::Sum => NOTHING,
         Arith::Difference => NOTHING,
         Arith::Remainder => {
-            let b = value_known(desk, at, depth);
-            b.zero
+            let b = term_fold::value(desk, at, Knowledge, depth);
+            b.made.zero
         }
     }
 }
@@ -561,184 +520,95 @@ fn either_branch(a: u32, b: u32, desk: &limits::Fields, at: usize, depth: usize)
             return NOTHING;
         }
     }
-    let f = formula_guards(desk, at, depth);
-    branches(a, b, f)
+    let f = term_fold::formula(desk, at, Knowledge, depth);
+    branches(a, b, f.made)
 }
 
-// Of the value at a place of the desk's fields. `0 n`, `1 i` and `2` are answered here.
-#[cycle(formula_by_mark_formula_divides_value_by_mark_value_divides)]
+// What could leave a term without a value, by what could do so to its parts.
+#[derive(Clone, Copy)]
+struct Divisions;
+
+#[tactic(auto, unfolding(crate::specs::Divisors::divides_v, crate::specs::Divisors::divides_f))]
+impl Fold for Divisions {
+    type OfValue = u32;
+
+    type OfFormula = u32;
+
+    ghost of_value = { λ _ t. divides_v t };
+
+    ghost of_formula = { λ _ t. divides_f t };
+
+    fn number(self, _n: u16) -> u32 {
+        NOTHING
+    }
+
+    fn parameter(self, _i: u16) -> u32 {
+        NOTHING
+    }
+
+    fn sum_value(self) -> u32 {
+        NOTHING
+    }
+
+    fn arithmetic(
+        self,
+        op: Arith,
+        a: u32,
+        b: u32,
+        desk: &limits::Fields,
+        at: usize,
+        depth: usize,
+    ) -> u32 {
+        both(both(a, b), divisor(op, desk, at, depth))
+    }
+
+    fn choice(self, f: u32, a: u32, b: u32, desk: &limits::Fields, at: usize, depth: usize) -> u32 {
+        both(f, either_branch(a, b, desk, at, depth))
+    }
+
+    fn no_value(self) -> u32 {
+        OTHER
+    }
+
+    fn constant(self, _b: bool) -> u32 {
+        NOTHING
+    }
+
+    fn comparison(self, _op: Compare, a: u32, b: u32) -> u32 {
+        both(a, b)
+    }
+
+    fn negation(self, f: u32) -> u32 {
+        f
+    }
+
+    fn connective(self, _op: Join, f: u32, g: u32) -> u32 {
+        both(f, g)
+    }
+
+    fn no_formula(self) -> u32 {
+        OTHER
+    }
+}
+
+// Of the value at a place of the desk's fields.
 pub fn value_divides(desk: &limits::Fields, at: usize, depth: usize) -> Looked
     ensures { result ≡ looked_v at (read_v depth (drop at desk.now)) }
 {
-    let fields: &[u16] = desk;
-    if depth != 0 {
-        if at < fields.len() {
-            if at + 1 < fields.len() {
-                let mark = fields[at];
-                if mark < 2 {
-                    return Looked {
-                        divides: NOTHING,
-                        next: at + 2,
-                    };
-                }
-                if mark == 2 {
-                    return Looked {
-                        divides: NOTHING,
-                        next: at + 1,
-                    };
-                }
-            }
-        }
+    let term = term_fold::value(desk, at, Divisions, depth);
+    Looked {
+        divides: term.made,
+        next: term.next,
     }
-    value_by_mark(desk, at, depth)
 }
 
-// Of the formula at a place of the desk's fields. `10` and `11` are answered here.
-#[cycle(formula_by_mark_formula_divides_value_by_mark_value_divides)]
+// Of the formula at a place of the desk's fields.
 pub fn formula_divides(desk: &limits::Fields, at: usize, depth: usize) -> Looked
     ensures { result ≡ looked_f at (read_f depth (drop at desk.now)) }
 {
-    let fields: &[u16] = desk;
-    if depth != 0 {
-        if at < fields.len() {
-            let mark = fields[at];
-            if mark == 10 {
-                return Looked {
-                    divides: NOTHING,
-                    next: at + 1,
-                };
-            }
-            if mark == 11 {
-                return Looked {
-                    divides: NOTHING,
-                    next: at + 1,
-                };
-            }
-        }
-    }
-    formula_by_mark(desk, at, depth)
-}
-
-// Of any value at a place. It calls itself for the last value of a choice.
-#[cycle(formula_by_mark_formula_divides_value_by_mark_value_divides)]
-fn value_by_mark(desk: &limits::Fields, at: usize, depth: usize) -> Looked
-    ensures { result ≡ looked_v at (read_v depth (drop at desk.now)) }
-{
-    let fields: &[u16] = desk;
-    if depth == 0 {
-        return Looked {
-            divides: OTHER,
-            next: at,
-        };
-    }
-    if fields.len() <= at {
-        return Looked {
-            divides: OTHER,
-            next: at,
-        };
-    }
-    let mark = terms::value_mark(fields[at]);
-    match mark {
-        ValueMark::Number => {
-            if at + 1 < fields.len() {
-                Looked {
-                    divides: NOTHING,
-                    next: at + 2,
-                }
-            } else {
-                Looked {
-                    divides: OTHER,
-                    next: at,
-                }
-            }
-        }
-        ValueMark::Parameter => {
-            if at + 1 < fields.len() {
-                Looked {
-                    divides: NOTHING,
-                    next: at + 2,
-                }
-            } else {
-                Looked {
-                    divides: OTHER,
-                    next: at,
-                }
-            }
-        }
-        ValueMark::SumValue => Looked {
-            divides: NOTHING,
-            next: at + 1,
-        },
-        ValueMark::Arithmetic(op) => {
-            let a = value_divides(desk, at + 1, depth - 1);
-            let b = value_divides(desk, a.next, depth - 1);
-            let values = both(a.divides, b.divides);
-            Looked {
-                divides: both(values, divisor(op, desk, a.next, depth - 1)),
-                next: b.next,
-            }
-        }
-        ValueMark::Choice => {
-            let f = formula_divides(desk, at + 1, depth - 1);
-            let a = value_divides(desk, f.next, depth - 1);
-            let b = value_by_mark(desk, a.next, depth - 1);
-            let branch = either_branch(a.divides, b.divides, desk, at + 1, depth - 1);
-            Looked {
-                divides: both(f.divides, branch),
-                next: b.next,
-            }
-        }
-        ValueMark::Wrong => Looked {
-            divides: OTHER,
-            next: at,
-        },
-    }
-}
-
-// Of any formula at a place. It calls itself for a negation.
-#[cycle(formula_by_mark_formula_divides_value_by_mark_value_divides)]
-fn formula_by_mark(desk: &limits::Fields, at: usize, depth: usize) -> Looked
-    ensures { result ≡ looked_f at (read_f depth (drop at desk.now)) }
-{
-    let fields: &[u16] = desk;
-    if depth == 0 {
-        return Looked {
-            divides: OTHER,
-            next: at,
-        };
-    }
-    if fields.len() <= at {
-        return Looked {
-            divides: OTHER,
-            next: at,
-        };
-    }
-    let mark = terms::formula_mark(fields[at]);
-    match mark {
-        FormulaMark::Constant(b) => Looked {
-            divides: NOTHING,
-            next: at + 1,
-        },
-        FormulaMark::Comparison(op) => {
-            let a = value_divides(desk, at + 1, depth - 1);
-            let b = value_divides(desk, a.next, depth - 1);
-            Looked {
-                divides: both(a.divides, b.divides),
-                next: b.next,
-            }
-        }
-        FormulaMark::Negation => formula_by_mark(desk, at + 1, depth - 1),
-        FormulaMark::Connective(op) => {
-            let f = formula_divides(desk, at + 1, depth - 1);
-            let g = formula_divides(desk, f.next, depth - 1);
-            Looked {
-                divides: both(f.divides, g.divides),
-                next: g.next,
-            }
-        }
-        FormulaMark::Wrong => Looked {
-            divides: OTHER,
-            next: at,
-        },
+    let term = term_fold::formula(desk, at, Divisions, depth);
+    Looked {
+        divides: term.made,
+        next: term.next,
     }
 }

@@ -12,33 +12,35 @@ use Rattle.layout.specs.Sizes.{shape_of}
 use Rattle.layout.proofs.Sizes.{sections_kept}
 use Rattle.loader.specs.Load.{fault_of, held_by, loaded_of}
 use Rattle.loader.specs.declared.Loaded.{Loaded}
-use Rattle.loader.proofs.Passed.{fault_kept, counts_allowed_lem}
+use Rattle.loader.proofs.Passed.{of_ok, of_err, counts_allowed_lem}
+use Rattle.std.specs.Prelude.{Result, Ok, Err, ◌≢◌}
+use Rattle.verdicts.specs.declared.Fault.{Fault}
+use Rattle.verdicts.proofs.Refusals.{number_is_some}
 use Rattle.duty.specs.Arrays.{same_process}
 use Rattle.duty.specs.Duty.{same_specification, duty_told}
 use Rattle.duty.proofs.Loaded.{same_held}
 
-module _ (text : List ℕ) (l : Loaded) (el : l ≡ loaded_of text) where
-  fault_is : l.fault ≡ fault_of text
-  fault_is = rw el (fault_kept text)
+module _ (text : List ℕ) (q : Result Loaded Fault) (el : q ≡ loaded_of text) where
+  faulty : (f : Fault) → q ≡ Err f → fault_of text ≢ 0
+  faulty f e z = number_is_some f (sym (of_err text q el f e) ∙ z)
 
-  free : l.fault ≡ 0 → fault_of text ≡ 0
-  free z = sym fault_is ∙ z
+  free : (l : Loaded) → q ≡ Ok l → fault_of text ≡ 0
+  free l e = (of_ok text q el l e).0
 
-  held : l.fault ≡ 0 → l ≡ held_by (fields_by_line text)
-  unfolding loaded_of
-  held z = el ∙ rw (eq-eqb (fault_of text) 0 (free z))
+  held : (l : Loaded) → q ≡ Ok l → l ≡ held_by (fields_by_line text)
+  held l e = (of_ok text q el l e).1
 
-  pub no_design : (duty : List ℕ) → (l.fault ≡ 0 → ⊥) → 2 ≡ duty_told text duty
+  pub no_design : (duty : List ℕ) (f : Fault) → q ≡ Err f → 2 ≡ duty_told text duty
   unfolding duty_told
-  no_design duty h = rw (ne_eqb (fault_of text) 0 (λ z. h (fault_is ∙ z)))
+  no_design duty f e = rw (ne_eqb (fault_of text) 0 (faulty f e))
 
-module _ (text : List ℕ) (l : Loaded) (el : l ≡ loaded_of text) (z : l.fault ≡ 0) (duty : List ℕ) (d : Loaded) (ed : d ≡ loaded_of duty) where
-  pub no_duty : (d.fault ≡ 0 → ⊥) → 3 ≡ duty_told text duty
+module _ (text : List ℕ) (q : Result Loaded Fault) (el : q ≡ loaded_of text) (l : Loaded) (z : q ≡ Ok l) (duty : List ℕ) (p : Result Loaded Fault) (ed : p ≡ loaded_of duty) where
+  pub no_duty : (f : Fault) → p ≡ Err f → 3 ≡ duty_told text duty
   unfolding duty_told
-  no_duty h = rw (eq-eqb (fault_of text) 0 (free text l el z), ne_eqb (fault_of duty) 0 (λ y. h (fault_is duty d ed ∙ y)))
+  no_duty f e = rw (eq-eqb (fault_of text) 0 (free text q el l z), ne_eqb (fault_of duty) 0 (faulty duty p ed f e))
 
-  module _ (y : d.fault ≡ 0) (r : Bool)
-      (er : r ≡ same_process l.fields l.starts (shape_of l.counts).specification d.fields d.starts (shape_of d.counts).specification) where
+  module _ (d : Loaded) (y : p ≡ Ok d) (r : Bool)
+      (er : r ≡ same_process l.lines.fields l.lines.starts (shape_of l.counts).specification d.lines.fields d.lines.starts (shape_of d.counts).specification) where
     abbrev own : List (List ℕ)
     own = fields_by_line text
 
@@ -48,15 +50,15 @@ module _ (text : List ℕ) (l : Loaded) (el : l ≡ loaded_of text) (z : l.fault
     compared : r ≡ same_specification own due
     compared =
         er
-        ∙ ap (λ (x : Loaded). same_process x.fields x.starts (shape_of x.counts).specification d.fields d.starts (shape_of d.counts).specification) (held text l el z)
-        ∙ ap (λ (x : Loaded). same_process (fields_held own) (starts_held own) (shape_of (counts_of own)).specification x.fields x.starts (shape_of x.counts).specification) (held duty d ed y)
-        ∙ ap (λ (h : Shape). same_process (fields_held own) (starts_held own) h.specification (fields_held due) (starts_held due) (shape_of (counts_of due)).specification) (sections_kept (counts_of own) (counts_allowed_lem text (free text l el z)))
-        ∙ ap (λ (h : Shape). same_process (fields_held own) (starts_held own) (sections (counts_of own)).specification (fields_held due) (starts_held due) h.specification) (sections_kept (counts_of due) (counts_allowed_lem duty (free duty d ed y)))
-        ∙ same_held text duty (free text l el z) (free duty d ed y)
+        ∙ ap (λ (x : Loaded). same_process x.lines.fields x.lines.starts (shape_of x.counts).specification d.lines.fields d.lines.starts (shape_of d.counts).specification) (held text q el l z)
+        ∙ ap (λ (x : Loaded). same_process (fields_held own) (starts_held own) (shape_of (counts_of own)).specification x.lines.fields x.lines.starts (shape_of x.counts).specification) (held duty p ed d y)
+        ∙ ap (λ (h : Shape). same_process (fields_held own) (starts_held own) h.specification (fields_held due) (starts_held due) (shape_of (counts_of due)).specification) (sections_kept (counts_of own) (counts_allowed_lem text (free text q el l z)))
+        ∙ ap (λ (h : Shape). same_process (fields_held own) (starts_held own) (sections (counts_of own)).specification (fields_held due) (starts_held due) h.specification) (sections_kept (counts_of due) (counts_allowed_lem duty (free duty p ed d y)))
+        ∙ same_held text duty (free text q el l z) (free duty p ed d y)
 
     told : cond r 0 1 ≡ duty_told text duty
     unfolding duty_told
-    told = rw (eq-eqb (fault_of text) 0 (free text l el z), eq-eqb (fault_of duty) 0 (free duty d ed y)) (ap (λ b. cond b 0 1) compared)
+    told = rw (eq-eqb (fault_of text) 0 (free text q el l z), eq-eqb (fault_of duty) 0 (free duty p ed d y)) (ap (λ b. cond b 0 1) compared)
 
     pub duty_same : r ≡ true → 0 ≡ duty_told text duty
     duty_same e = ap (λ b. cond b 0 1) (sym e) ∙ told

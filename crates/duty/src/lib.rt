@@ -9,6 +9,7 @@ ghost use Rattle.duty.specs.Arrays.{length_at, same_from, same_line, same_lines_
 ghost use Rattle.duty.specs.Duty.{duty_told};
 
 use design::{Counts, Section};
+use layout::Lines;
 
 // What C is told.
 const SAME: u32 = 0;
@@ -23,22 +24,13 @@ const NO_DUTY: u32 = 3;
 pub fn same_duty(text: &[u8], duty: &[u8]) -> u32
     ensures { result ≡ duty_told text.now duty.now }
 {
-    let own = loader::load(text);
-    if own.fault != 0 {
+    let Ok(own) = loader::load(text) else {
         return NO_DESIGN;
-    }
-    let due = loader::load(duty);
-    if due.fault != 0 {
+    };
+    let Ok(due) = loader::load(duty) else {
         return NO_DUTY;
-    }
-    if same_specification(
-        &own.fields,
-        &own.starts,
-        own.counts,
-        &due.fields,
-        &due.starts,
-        due.counts,
-    ) {
+    };
+    if same_specification(&own.lines, own.counts, &due.lines, due.counts) {
         SAME
     } else {
         DIFFERS
@@ -46,79 +38,42 @@ pub fn same_duty(text: &[u8], duty: &[u8]) -> u32
 }
 
 // Whether the lines of the two specifications are the same, where the lines are so many.
-fn same_specification<'a>(
-    fields: &'a limits::Fields,
-    starts: &'a limits::Starts,
-    counts: Counts,
-    due: &'a limits::Fields,
-    begins: &'a limits::Starts,
-    asked: Counts,
-) -> bool
-    ensures { result ≡ same_process fields.now starts.now (shape_of counts).specification due.now begins.now (shape_of asked).specification }
+fn same_specification(lines: &Lines, counts: Counts, due: &Lines, asked: Counts) -> bool
+    ensures { result ≡ same_process lines.now.fields lines.now.starts (shape_of counts).specification due.now.fields due.now.starts (shape_of asked).specification }
 {
     let here = layout::shape_of(counts);
     let there = layout::shape_of(asked);
     let parameters = same_section(
-        fields,
-        starts,
+        lines,
         here.specification.parameters,
         due,
-        begins,
         there.specification.parameters,
     );
     let rows = same_section(
-        fields,
-        starts,
+        lines,
         here.specification.rows,
         due,
-        begins,
         there.specification.rows,
     );
     parameters & rows
 }
 
 // Whether two sections have as many lines, and each the same as the other's.
-fn same_section<'a>(
-    fields: &'a limits::Fields,
-    starts: &'a limits::Starts,
-    here: Section,
-    due: &'a limits::Fields,
-    begins: &'a limits::Starts,
-    there: Section,
-) -> bool
-    ensures { result ≡ same_section fields.now starts.now here due.now begins.now there }
+fn same_section(lines: &Lines, here: Section, due: &Lines, there: Section) -> bool
+    ensures { result ≡ same_section lines.now.fields lines.now.starts here due.now.fields due.now.starts there }
 {
     if here.count != there.count {
         return false;
     }
-    same_lines(
-        fields,
-        starts,
-        here.first,
-        due,
-        begins,
-        there.first,
-        here.count,
-    )
+    same_lines(lines, here.first, due, there.first, here.count)
 }
 
 // Whether so many lines from line i on are those of the other arrays from line j on.
-fn same_lines<'a>(
-    fields: &'a limits::Fields,
-    starts: &'a limits::Starts,
-    i: u8,
-    due: &'a limits::Fields,
-    begins: &'a limits::Starts,
-    j: u8,
-    count: u8,
-) -> bool
-    ensures { result ≡ same_lines_from fields.now starts.now i due.now begins.now j count }
+fn same_lines(lines: &Lines, i: u8, due: &Lines, j: u8, count: u8) -> bool
+    ensures { result ≡ same_lines_from lines.now.fields lines.now.starts i due.now.fields due.now.starts j count }
 {
-    let mut k = 0;
-    while k < count {
-        if same_nth(fields, starts, i, due, begins, j, k) {
-            k += 1;
-        } else {
+    for k in 0..count {
+        if !same_nth(lines, i, due, j, k) {
             return false;
         }
     }
@@ -126,77 +81,44 @@ fn same_lines<'a>(
 }
 
 // Whether the k-th line after line i is the k-th after the other arrays' line j.
-fn same_nth<'a>(
-    fields: &'a limits::Fields,
-    starts: &'a limits::Starts,
-    i: u8,
-    due: &'a limits::Fields,
-    begins: &'a limits::Starts,
-    j: u8,
-    k: u8,
-) -> bool
-    ensures { result ≡ same_line fields.now starts.now (i + k) due.now begins.now (j + k) }
+fn same_nth(lines: &Lines, i: u8, due: &Lines, j: u8, k: u8) -> bool
+    ensures { result ≡ same_line lines.now.fields lines.now.starts (i + k) due.now.fields due.now.starts (j + k) }
 {
-    same_line(
-        fields,
-        starts,
-        i as u16 + k as u16,
-        due,
-        begins,
-        j as u16 + k as u16,
-    )
+    same_line(lines, i as u16 + k as u16, due, j as u16 + k as u16)
 }
 
 // Whether line i has as many fields as the other arrays' line j, and the same.
-fn same_line<'a>(
-    fields: &'a limits::Fields,
-    starts: &'a limits::Starts,
-    i: u16,
-    due: &'a limits::Fields,
-    begins: &'a limits::Starts,
-    j: u16,
-) -> bool
-    ensures { result ≡ same_line fields.now starts.now i due.now begins.now j }
+fn same_line(lines: &Lines, i: u16, due: &Lines, j: u16) -> bool
+    ensures { result ≡ same_line lines.now.fields lines.now.starts i due.now.fields due.now.starts j }
 {
-    let length = line_length(starts, i);
-    if length != line_length(begins, j) {
+    let length = line_length(lines, i);
+    if length != line_length(due, j) {
         return false;
     }
     same_fields(
-        fields,
-        layout::line(starts, i as usize),
-        due,
-        layout::line(begins, j as usize),
+        &lines.fields,
+        lines.line(i as usize),
+        &due.fields,
+        due.line(j as usize),
         length,
     )
 }
 
 // How many fields line i has.
-fn line_length(starts: &limits::Starts, i: u16) -> u16
-    ensures { result ≡ length_at starts.now i }
+fn line_length(lines: &Lines, i: u16) -> u16
+    ensures { result ≡ length_at lines.now.starts i }
 {
-    let start = layout::line(starts, i as usize);
-    let end = layout::line(starts, i as usize + 1);
+    let start = lines.line(i as usize);
+    let end = lines.line(i as usize + 1);
     if end < start { 0 } else { end - start }
 }
 
 // Whether n fields from a place on are those from a place of the other array on.
-fn same_fields<'a>(
-    fields: &'a limits::Fields,
-    from: u16,
-    due: &'a limits::Fields,
-    at: u16,
-    n: u16,
-) -> bool
+fn same_fields(fields: &limits::Fields, from: u16, due: &limits::Fields, at: u16, n: u16) -> bool
     ensures { result ≡ same_from fields.now from due.now at n }
 {
-    let mut k = 0;
-    while k < n {
-        let x = layout::field_of(fields, from, k);
-        let y = layout::field_of(due, at, k);
-        if x == y {
-            k += 1;
-        } else {
+    for k in 0..n {
+        if layout::field_of(fields, from, k) != layout::field_of(due, at, k) {
             return false;
         }
     }

@@ -1,16 +1,16 @@
-// The value of a term, read from the desk's fields where it stands: functions that call each other, the remaining depth falling.
+// The value of a term, read from the desk's fields where it stands.
 //
-// `value` and `formula` are the front: they answer leaves themselves and are small enough for the compiler to put them into their callers
-// (tools/inlined.sh notices when it no longer does). Behind them `value_by_mark` and `formula_by_mark` answer every term. A
-// function that calls itself is never put into another, and each of these two calls itself in one arm: that keeps the front small.
-// What a term's value is, and how a term is read from fields, is in the crate terms.
+// It is made by the reader of the crate term_fold, whose front is put into `value` and `formula`, and these into their callers
+// (tools/inlined.sh notices when that no longer happens). What a term's value is, and how a term is read from fields, is in the crate terms.
 #![tactic(auto)]
 
 ghost use Rattle.std.specs.Prelude.{◌≡◌, drop};
+ghost use Rattle.terms.specs.Tree.{Value, Formula, num, par, sum_value, arith, choice, no_value, const, compare, negation, join, no_formula, eval_v, eval_f};
 ghost use Rattle.terms.specs.Read.{read_v, read_f};
 ghost use Rattle.eval.specs.Answer.{answer_v, answer_f};
 
-use terms::{FormulaMark, ValueMark};
+use term_fold::Fold;
+use terms::{Arith, Compare, Join};
 
 // A term's value, and where the next term stands.
 #[derive(Clone, Copy)]
@@ -26,9 +26,86 @@ pub struct Held {
     pub next: usize,
 }
 
-// The value of the term at a place of the desk's fields, for parameter values and a sum value. `0 n`, `1 i` and `2` are answered here;
-// any other term, and one at the very end of the fields, goes by its mark.
-#[cycle(formula_formula_by_mark_value_value_by_mark)]
+// Evaluation at parameter values and a sum value.
+#[derive(Clone, Copy)]
+struct Evaluation<'a> {
+    params: &'a limits::Values,
+    sum: u16,
+}
+
+#[tactic(auto, unfolding(terms::specs::Tree::eval_v, terms::specs::Tree::eval_f))]
+impl<'a> Fold for Evaluation<'a> {
+    type OfValue = u16;
+
+    type OfFormula = bool;
+
+    ghost of_value = { λ e t. eval_v t e.params.now e.sum };
+
+    ghost of_formula = { λ e t. eval_f t e.params.now e.sum };
+
+    fn number(self, n: u16) -> u16 {
+        n
+    }
+
+    fn parameter(self, i: u16) -> u16 {
+        let params = self.params;
+        terms::parameter(params, i)
+    }
+
+    fn sum_value(self) -> u16 {
+        self.sum
+    }
+
+    fn arithmetic(
+        self,
+        op: Arith,
+        a: u16,
+        b: u16,
+        _desk: &limits::Fields,
+        _at: usize,
+        _depth: usize,
+    ) -> u16 {
+        terms::arith_value(op, a, b)
+    }
+
+    fn choice(
+        self,
+        f: bool,
+        a: u16,
+        b: u16,
+        _desk: &limits::Fields,
+        _at: usize,
+        _depth: usize,
+    ) -> u16 {
+        if f { a } else { b }
+    }
+
+    fn no_value(self) -> u16 {
+        0
+    }
+
+    fn constant(self, b: bool) -> bool {
+        b
+    }
+
+    fn comparison(self, op: Compare, a: u16, b: u16) -> bool {
+        terms::compare_holds(op, a, b)
+    }
+
+    fn negation(self, f: bool) -> bool {
+        !f
+    }
+
+    fn connective(self, op: Join, f: bool, g: bool) -> bool {
+        terms::join_holds(op, f, g)
+    }
+
+    fn no_formula(self) -> bool {
+        false
+    }
+}
+
+// The value of the term at a place of the desk's fields, for parameter values and a sum value.
 pub fn value(
     desk: &limits::Fields,
     at: usize,
@@ -38,37 +115,15 @@ pub fn value(
 ) -> Valued
     ensures { result ≡ answer_v at params.now sum (read_v depth (drop at desk.now)) }
 {
-    let fields: &[u16] = desk;
-    if depth != 0 {
-        if at < fields.len() {
-            if at + 1 < fields.len() {
-                let mark = fields[at];
-                if mark == 0 {
-                    return Valued {
-                        value: fields[at + 1],
-                        next: at + 2,
-                    };
-                }
-                if mark == 1 {
-                    return Valued {
-                        value: terms::parameter(params, fields[at + 1]),
-                        next: at + 2,
-                    };
-                }
-                if mark == 2 {
-                    return Valued {
-                        value: sum,
-                        next: at + 1,
-                    };
-                }
-            }
-        }
+    let evaluation = Evaluation { params, sum };
+    let term = term_fold::value(desk, at, evaluation, depth);
+    Valued {
+        value: term.made,
+        next: term.next,
     }
-    value_by_mark(desk, at, params, sum, depth)
 }
 
-// Whether the formula at a place of the desk's fields holds. `10` and `11` are answered here.
-#[cycle(formula_formula_by_mark_value_value_by_mark)]
+// Whether the formula at a place of the desk's fields holds.
 pub fn formula(
     desk: &limits::Fields,
     at: usize,
@@ -78,156 +133,10 @@ pub fn formula(
 ) -> Held
     ensures { result ≡ answer_f at params.now sum (read_f depth (drop at desk.now)) }
 {
-    let fields: &[u16] = desk;
-    if depth != 0 {
-        if at < fields.len() {
-            let mark = fields[at];
-            if mark == 10 {
-                return Held {
-                    holds: true,
-                    next: at + 1,
-                };
-            }
-            if mark == 11 {
-                return Held {
-                    holds: false,
-                    next: at + 1,
-                };
-            }
-        }
-    }
-    formula_by_mark(desk, at, params, sum, depth)
-}
-
-// The value of any term at a place. It calls itself for the last value of a choice.
-#[cycle(formula_formula_by_mark_value_value_by_mark)]
-fn value_by_mark(
-    desk: &limits::Fields,
-    at: usize,
-    params: &limits::Values,
-    sum: u16,
-    depth: usize,
-) -> Valued
-    ensures { result ≡ answer_v at params.now sum (read_v depth (drop at desk.now)) }
-{
-    let fields: &[u16] = desk;
-    if depth == 0 {
-        return Valued { value: 0, next: at };
-    }
-    if fields.len() <= at {
-        return Valued { value: 0, next: at };
-    }
-    let mark = terms::value_mark(fields[at]);
-    match mark {
-        ValueMark::Number => {
-            if at + 1 < fields.len() {
-                Valued {
-                    value: fields[at + 1],
-                    next: at + 2,
-                }
-            } else {
-                Valued { value: 0, next: at }
-            }
-        }
-        ValueMark::Parameter => {
-            if at + 1 < fields.len() {
-                Valued {
-                    value: terms::parameter(params, fields[at + 1]),
-                    next: at + 2,
-                }
-            } else {
-                Valued { value: 0, next: at }
-            }
-        }
-        ValueMark::SumValue => Valued {
-            value: sum,
-            next: at + 1,
-        },
-        ValueMark::Arithmetic(op) => {
-            let a = value(desk, at + 1, params, sum, depth - 1);
-            let b = value(desk, a.next, params, sum, depth - 1);
-            Valued {
-                value: terms::arith_value(op, a.value, b.value),
-                next: b.next,
-            }
-        }
-        // The one place that says whether the branch not taken is evaluated: it is, since its end has to be found in any case.
-        ValueMark::Choice => {
-            let f = formula(desk, at + 1, params, sum, depth - 1);
-            let a = value(desk, f.next, params, sum, depth - 1);
-            let b = value_by_mark(desk, a.next, params, sum, depth - 1);
-            if f.holds {
-                Valued {
-                    value: a.value,
-                    next: b.next,
-                }
-            } else {
-                Valued {
-                    value: b.value,
-                    next: b.next,
-                }
-            }
-        }
-        ValueMark::Wrong => Valued { value: 0, next: at },
-    }
-}
-
-// Whether any formula at a place holds. It calls itself for a negation.
-#[cycle(formula_formula_by_mark_value_value_by_mark)]
-fn formula_by_mark(
-    desk: &limits::Fields,
-    at: usize,
-    params: &limits::Values,
-    sum: u16,
-    depth: usize,
-) -> Held
-    ensures { result ≡ answer_f at params.now sum (read_f depth (drop at desk.now)) }
-{
-    let fields: &[u16] = desk;
-    if depth == 0 {
-        return Held {
-            holds: false,
-            next: at,
-        };
-    }
-    if fields.len() <= at {
-        return Held {
-            holds: false,
-            next: at,
-        };
-    }
-    let mark = terms::formula_mark(fields[at]);
-    match mark {
-        FormulaMark::Constant(b) => Held {
-            holds: b,
-            next: at + 1,
-        },
-        FormulaMark::Comparison(op) => {
-            let a = value(desk, at + 1, params, sum, depth - 1);
-            let b = value(desk, a.next, params, sum, depth - 1);
-            Held {
-                holds: terms::compare_holds(op, a.value, b.value),
-                next: b.next,
-            }
-        }
-        FormulaMark::Negation => {
-            let f = formula_by_mark(desk, at + 1, params, sum, depth - 1);
-            Held {
-                holds: !f.holds,
-                next: f.next,
-            }
-        }
-        FormulaMark::Connective(op) => {
-            let f = formula(desk, at + 1, params, sum, depth - 1);
-            let g = formula(desk, f.next, params, sum, depth - 1);
-            Held {
-                holds: terms::join_holds(op, f.holds, g.holds),
-                next: g.next,
-            }
-        }
-        FormulaMark::Wrong => Held {
-            holds: false,
-            next: at,
-        },
+    let evaluation = Evaluation { params, sum };
+    let term = term_fold::formula(desk, at, evaluation, depth);
+    Held {
+        holds: term.made,
+        next: term.next,
     }
 }

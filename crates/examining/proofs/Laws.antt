@@ -1,5 +1,5 @@
 -- What the functions return is what specs/Examined says.
-use Prim.Native.Nat.{ℕ, ◌+◌, ◌-◌, ◌^◌, ◌≤◌, ◌<◌}
+use Prim.Native.Nat.{ℕ, ◌+◌, ◌^◌, ◌≤◌, ◌<◌}
 use mathlib.Core.Path.{◌≡◌}
 use mathlib.Core.Logic.{◌≢◌}
 use mathlib.Core.Bool.{Bool, true, false}
@@ -21,21 +21,6 @@ use Rattle.answers.specs.declared.Phase.TheVariants as phase
 use Rattle.phases.specs.Phases.{phase_after}
 use Rattle.examining.specs.declared.Examined.{Examined}
 use Rattle.examining.specs.Examined.{ahead, walked_to, examined_next, failed_start, examined_from}
-
--- ---- how many states are ahead
-
-module _ (n next total : ℕ) where
-  pub ahead_none : total ≤ next → 0 ≡ ahead n next total
-  unfolding ahead
-  ahead_none h = omega arith
-
-  pub ahead_some : n < total - next → n ≡ ahead n next total
-  unfolding ahead
-  ahead_some h = omega arith
-
-  pub ahead_rest : total - next ≤ n → total - next ≡ ahead n next total
-  unfolding ahead
-  ahead_rest h = omega arith
 
 module _ (f s : List ℕ) (c : Counts) (p : List ℕ) (next n : ℕ) where
   -- ---- the next states are examined

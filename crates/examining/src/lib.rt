@@ -7,6 +7,7 @@ ghost use Rattle.examining.specs.Examined.{ahead, examined_next, examined_from};
 
 use answers::Phase;
 use design::Counts;
+use layout::Lines;
 
 // The phase after the states, the number of the next one, and how many were examined.
 #[derive(Clone, Copy)]
@@ -17,49 +18,47 @@ pub struct Examined {
 }
 
 // The next n states, or those that remain. Criterion 1 comes before state 0, in the first advance; if it fails, no state is examined.
-pub fn examine<'a>(
-    fields: &'a limits::Fields,
-    starts: &'a limits::Starts,
+pub fn examine(
+    lines: &Lines,
     counts: Counts,
-    plan: &'a [u16; walk::PLAN_LENGTH],
+    plan: &[u16; walk::PLAN_LENGTH],
     next: usize,
     n: u64,
 ) -> Examined
-    ensures { result ≡ examined_from fields.now starts.now counts plan.now next n }
+    ensures { result ≡ examined_from lines.now.fields lines.now.starts counts plan.now next n }
 {
     if next == 0 {
-        if start::holds(fields, starts, counts) {
-            return examine_next(fields, starts, counts, plan, next, n);
+        if start::holds(lines, counts) {
+            return examine_next(lines, counts, plan, next, n);
         }
-        let failure = start::failure(fields, starts, counts);
+        let failure = start::failure(lines, counts);
         return Examined {
             phase: Phase::Failed(failure),
             next: 0,
             count: 0,
         };
     }
-    examine_next(fields, starts, counts, plan, next, n)
+    examine_next(lines, counts, plan, next, n)
 }
 
 // The same without criterion 1: failed, accepted if the last state is done, or still open.
-fn examine_next<'a>(
-    fields: &'a limits::Fields,
-    starts: &'a limits::Starts,
+fn examine_next(
+    lines: &Lines,
     counts: Counts,
-    plan: &'a [u16; walk::PLAN_LENGTH],
+    plan: &[u16; walk::PLAN_LENGTH],
     next: usize,
     n: u64,
 ) -> Examined
-    ensures { result ≡ examined_next fields.now starts.now counts plan.now next n }
+    ensures { result ≡ examined_next lines.now.fields lines.now.starts counts plan.now next n }
 {
-    let total = layout::state_count(fields, starts, counts);
+    let total = lines.state_count(counts);
     let k = ahead(n, next, total);
-    let walked = walk::walk(fields, starts, counts, plan, next, k);
+    let walked = walk::walk(lines, counts, plan, next, k);
     let outcome = walked.outcome;
     let count = walked.count;
     let at = next + count;
     let ended = total <= at;
-    let phase = phases::after(fields, starts, counts, outcome, ended);
+    let phase = phases::after(lines, counts, outcome, ended);
     Examined {
         phase,
         next: at,
@@ -71,9 +70,5 @@ fn examine_next<'a>(
 fn ahead(n: u64, next: usize, total: usize) -> usize
     ensures { result ≡ ahead n next total }
 {
-    if total <= next {
-        return 0;
-    }
-    let left = total - next;
-    if n < left as u64 { n as usize } else { left }
+    n.min(total.saturating_sub(next) as u64) as usize
 }

@@ -22,18 +22,16 @@ use Rattle.design.specs.Lines.{kind_of, of_kind, count_of, internal_of}
 use Rattle.design.specs.Faults.{entry_of, of_rank, size_of}
 use Rattle.fault_lines.specs.Shows.{last_rank, states}
 use Rattle.line_faults.specs.Tests.{action_of}
-use Rattle.line_faults.specs.Tests.{cap, one, is_internal, step_of, gathered}
-use Rattle.line_faults.specs.declared.Ask.{Ask}
-use Rattle.line_faults.specs.declared.Ask.TheVariants as ask
+use Rattle.line_faults.specs.Tests.{cap, one, is_internal, gathered, add_fields, add_rank, the_rank, times_size, add_internal}
 
 -- ---- fields, and the rank of the last line
 
-pub fields_from_lem : (n : ℕ) (lines : List (List ℕ)) → n ≤ 65537 → gathered ask.Fields n lines ≡ cap (n + count_all lines)
+pub fields_from_lem : (n : ℕ) (lines : List (List ℕ)) → n ≤ 65537 → gathered add_fields n lines ≡ cap (n + count_all lines)
 unfolding gathered count_all
 fields_from_lem n [] h = omega arith
 fields_from_lem n (line ∷ lines) h = fields_from_lem (cap (n + length line)) lines (omega arith) ∙ omega arith
 
-pub last_all : (r : ℕ) (lines : List (List ℕ)) → gathered ask.LastRank r lines ≡ last_rank r lines
+pub last_all : (r : ℕ) (lines : List (List ℕ)) → gathered the_rank r lines ≡ last_rank r lines
 unfolding gathered last_rank
 last_all r [] = refl
 last_all r (line ∷ lines) = last_all (entry_of whole_text line).rank lines
@@ -44,7 +42,7 @@ unfoldable pub how_many : (List ℕ → Bool) → List (List ℕ) → ℕ
 how_many t [] = 0
 how_many t (line ∷ lines) = one (t line) + how_many t lines
 
-module _ (q : Ask) (t : List ℕ → Bool) (counts : (n : ℕ) (line : List ℕ) → step_of q n line ≡ cap (n + one (t line))) where
+module _ (q : ℕ → List ℕ → ℕ) (t : List ℕ → Bool) (counts : (n : ℕ) (line : List ℕ) → q n line ≡ cap (n + one (t line))) where
   pub count_from : (n : ℕ) (lines : List (List ℕ)) → n ≤ 65537 → gathered q n lines ≡ cap (n + how_many t lines)
   unfolding gathered how_many
   count_from n [] h = omega arith
@@ -60,9 +58,9 @@ ranks_many r (line ∷ lines) = go (eqb (entry_of whole_text line).rank r) (rank
     go true ih = omega arith
     go false ih = omega arith
 
-pub ranks_all : (r : ℕ) (lines : List (List ℕ)) → gathered (ask.Rank r) 0 lines ≡ cap (length (of_rank whole_text r lines))
+pub ranks_all : (r : ℕ) (lines : List (List ℕ)) → gathered (add_rank r) 0 lines ≡ cap (length (of_rank whole_text r lines))
 ranks_all r lines =
-    count_from (ask.Rank r) (λ line. eqb (entry_of whole_text line).rank r) (λ n line. refl) 0 lines (omega arith) ∙ rw (ranks_many r lines) (omega arith)
+    count_from (add_rank r) (λ line. eqb (entry_of whole_text line).rank r) (λ n line. refl) 0 lines (omega arith) ∙ rw (ranks_many r lines) (omega arith)
 
 pub internal_many : (n : ℕ) (lines : List (List ℕ)) → how_many is_internal lines ≡ internal_rows (map (row_of n) (of_kind 3 lines))
 unfolding how_many of_kind internal_rows
@@ -75,9 +73,9 @@ internal_many n (line ∷ lines) = go (eqb (kind_of line) 3) (eqb (action_of lin
     go true false e ih = rw e (omega arith)
     go false c e ih = omega arith
 
-pub internal_all : (lines : List (List ℕ)) → gathered ask.Internal 0 lines ≡ cap (internal_of lines)
+pub internal_all : (lines : List (List ℕ)) → gathered add_internal 0 lines ≡ cap (internal_of lines)
 internal_all lines =
-    count_from ask.Internal is_internal (λ n line. refl) 0 lines (omega arith) ∙ rw (internal_many (count_of 1 lines) lines) (omega arith)
+    count_from add_internal is_internal (λ n line. refl) 0 lines (omega arith) ∙ rw (internal_many (count_of 1 lines) lines) (omega arith)
 
 -- ---- whether any line passes
 
@@ -104,7 +102,7 @@ many_some t (l ∷ lines) line m e = go (Memᴰ.cases_cons m) (λ k. many_some t
     go (inl h) ih = rw (← h, e) (omega arith)
     go (inr k) ih = let s = ih k in omega arith
 
-module _ (q : Ask) (t : List ℕ → Bool) (counts : (n : ℕ) (line : List ℕ) → step_of q n line ≡ cap (n + one (t line))) where
+module _ (q : ℕ → List ℕ → ℕ) (t : List ℕ → Bool) (counts : (n : ℕ) (line : List ℕ) → q n line ≡ cap (n + one (t line))) where
   pub by_any : (lines : List (List ℕ)) → Reflects (Some t lines) (ltb 0 (gathered q 0 lines))
   by_any lines = rw (count_from q t counts 0 lines (omega arith)) (go (ltb 0 (cap (0 + how_many t lines))) refl)
     where
@@ -127,18 +125,18 @@ cap_times a (suc b) = go (leb a 65537) refl
         let y = mul-suc a b in
         rw m (omega arith)
 
-pub states_from : (n : ℕ) (lines : List (List ℕ)) → n ≤ 65537 → gathered ask.States n lines ≡ cap (n * states lines)
+pub states_from : (n : ℕ) (lines : List (List ℕ)) → n ≤ 65537 → gathered times_size n lines ≡ cap (n * states lines)
 unfolding gathered of_kind
 states_from n [] h = let e : n * 1 ≡ n = mul-one n in rw e (omega arith)
 states_from n (line ∷ lines) h = go (eqb (kind_of line) 1) (λ m k. states_from m lines k)
   where
-    go : (b : Bool) → ((m : ℕ) → m ≤ 65537 → gathered ask.States m lines ≡ cap (m * states lines))
-        → gathered ask.States (cond b (cap (cap n * size_of line)) n) lines ≡ cap (n * product (map size_of (cond b (line ∷ of_kind 1 lines) (of_kind 1 lines))))
+    go : (b : Bool) → ((m : ℕ) → m ≤ 65537 → gathered times_size m lines ≡ cap (m * states lines))
+        → gathered times_size (cond b (cap (cap n * size_of line)) n) lines ≡ cap (n * product (map size_of (cond b (line ∷ of_kind 1 lines) (of_kind 1 lines))))
     go true ih =
         let e : cap n ≡ n = omega arith in
         ih (cap (cap n * size_of line)) (omega arith)
         ∙ rw e (cap_times (n * size_of line) (states lines) ∙ ap cap (mul_assoc n (size_of line) (states lines)))
     go false ih = ih n h
 
-pub states_all : (lines : List (List ℕ)) → gathered ask.States 1 lines ≡ cap (states lines)
+pub states_all : (lines : List (List ℕ)) → gathered times_size 1 lines ≡ cap (states lines)
 states_all lines = states_from 1 lines (omega arith) ∙ ap cap (omega arith)

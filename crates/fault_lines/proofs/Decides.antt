@@ -35,8 +35,7 @@ use Rattle.action_check.proofs.ActionsFit.{by_zero}
 use Rattle.fault_lines.specs.Shows as shows
 use Rattle.fault_lines.specs.Shows.{Shows2, Shows3, Shows4, Shows5, Shows6, Shows7, last_rank, states}
 use Rattle.line_faults.specs.Tests.{action_of, span_of}
-use Rattle.line_faults.specs.Tests.{cap, small, has_action, clashes, gathered, bare_by, shows2, shows3, shows4, shows5, shows6, shows7}
-use Rattle.line_faults.specs.declared.Ask.TheVariants as ask
+use Rattle.line_faults.specs.Tests.{cap, small, has_action, clashes, gathered, bare_by, shows2, shows3, shows4, shows5, shows6, shows7, add_fields, add_rank, add_internal, add_action, add_clash}
 use Rattle.fault_lines.proofs.Counts.{fields_from_lem, last_all, ranks_all, internal_all, states_all, Some, by_any}
 
 -- ---- 2
@@ -61,7 +60,7 @@ by_2 text line later last r = by_iff to from (by_or (by_whole line) r)
 pub by_3 : (earlier : List (List ℕ)) (line : List ℕ) → Reflects (Shows3 earlier line) (shows3 earlier line)
 by_3 earlier line =
     let n = count_all earlier in
-    let e : gathered ask.Fields 0 earlier ≡ cap n = fields_from_lem 0 earlier (omega arith) ∙ ap cap (omega arith) in
+    let e : gathered add_fields 0 earlier ≡ cap n = fields_from_lem 0 earlier (omega arith) ∙ ap cap (omega arith) in
     rw e
     (by_iff to from
     (by_or (by_ltb 256 (length line)) (by_and (by_leb (cap n) 4096) (by_ltb 4096 (cap (cap n + length line))))))
@@ -232,16 +231,16 @@ by_terms lines line = go (line_fits (count_of 1 lines) (count_of 2 lines) (inter
 
 -- the counts of lines that stand in order are small
 module _ {lines : List (List ℕ)} (lay : Layout whole_text lines) where
-  small_1 : small (gathered (ask.Rank 1) 0 lines) ≡ count_of 1 lines
+  small_1 : small (gathered (add_rank 1) 0 lines) ≡ count_of 1 lines
   small_1 =
       let c = (counted lay).kind1.1 in
-      let e : gathered (ask.Rank 1) 0 lines ≡ count_of 1 lines = ranks_all 1 lines ∙ rw (rank_kind 1 (omega arith) (omega arith) lines) (omega arith) in
+      let e : gathered (add_rank 1) 0 lines ≡ count_of 1 lines = ranks_all 1 lines ∙ rw (rank_kind 1 (omega arith) (omega arith) lines) (omega arith) in
       rw (e, lt-ltb (count_of 1 lines) 65536 (omega arith))
 
-  small_2 : small (gathered (ask.Rank 2) 0 lines) ≡ count_of 2 lines
+  small_2 : small (gathered (add_rank 2) 0 lines) ≡ count_of 2 lines
   small_2 =
       let c = (counted lay).kind2.1 in
-      let e : gathered (ask.Rank 2) 0 lines ≡ count_of 2 lines = ranks_all 2 lines ∙ rw (rank_kind 2 (omega arith) (omega arith) lines) (omega arith) in
+      let e : gathered (add_rank 2) 0 lines ≡ count_of 2 lines = ranks_all 2 lines ∙ rw (rank_kind 2 (omega arith) (omega arith) lines) (omega arith) in
       rw (e, lt-ltb (count_of 2 lines) 65536 (omega arith))
 
   internal_few : (rows : List Row) → internal_rows rows ≤ length rows
@@ -253,12 +252,12 @@ module _ {lines : List (List ℕ)} (lay : Layout whole_text lines) where
       go true h = omega arith
       go false h = omega arith
 
-  small_internal : small (gathered ask.Internal 0 lines) ≡ internal_of lines
+  small_internal : small (gathered add_internal 0 lines) ≡ internal_of lines
   small_internal =
       let c = (counted lay).kind3 in
       let n = length-map (of_kind 3 lines) (row_of (count_of 1 lines)) in
       let f = internal_few (map (row_of (count_of 1 lines)) (of_kind 3 lines)) in
-      let e : gathered ask.Internal 0 lines ≡ internal_of lines = internal_all lines ∙ omega arith in
+      let e : gathered add_internal 0 lines ≡ internal_of lines = internal_all lines ∙ omega arith in
       rw (e, lt-ltb (internal_of lines) 65536 (omega arith))
 
   pub by_6 : (line : List ℕ) → Reflects (Shows6 lines line) (shows6 lines line)
@@ -303,10 +302,10 @@ module _ {lines : List (List ℕ)} (lay : Layout whole_text lines) (earlier : Li
   unfolding line_fits terms_fit entry_in
   condition_ok e = and_left _ _ (rw e at fits)
 
-  bare_is : kind_of line ≡ 3 → bare_by (small (gathered (ask.Rank 1) 0 lines)) (drop 3 line) ≡ is_zero (row_of (count_of 1 lines) line).carries
+  bare_is : kind_of line ≡ 3 → bare_by (small (gathered (add_rank 1) 0 lines)) (drop 3 line) ≡ is_zero (row_of (count_of 1 lines) line).carries
   bare_is e = rw (small_1 lay, condition_ok e)
 
-  impl_internal : kind_of line ≡ 3 → action_of line ≡ 0 → Reflects (Shows7 lines earlier line) (not (bare_by (small (gathered (ask.Rank 1) 0 lines)) (drop 3 line)))
+  impl_internal : kind_of line ≡ 3 → action_of line ≡ 0 → Reflects (Shows7 lines earlier line) (not (bare_by (small (gathered (add_rank 1) 0 lines)) (drop 3 line)))
   impl_internal k a = rw (bare_is k) (by_iff (shows.internal_data k a) from (by_not (by_zero (row_of (count_of 1 lines) line).carries)))
     where
       from : Shows7 lines earlier line → (row_of (count_of 1 lines) line).carries ≢ num 0
@@ -315,8 +314,8 @@ module _ {lines : List (List ℕ)} (lay : Layout whole_text lines) (earlier : Li
       from (shows.internal_data e f n) = n
       from (shows.spans_differ e m f g n) = absurd (omega arith)
 
-  impl_visible : kind_of line ≡ 3 → action_of line ≢ 0 → Reflects (Shows7 lines earlier line) (ltb 0 (gathered (ask.Action 3 (action_of line)) 0 earlier))
-  impl_visible k a = by_iff to from (by_any (ask.Action 3 (action_of line)) (has_action 3 (action_of line)) (λ n l. refl) earlier)
+  impl_visible : kind_of line ≡ 3 → action_of line ≢ 0 → Reflects (Shows7 lines earlier line) (ltb 0 (gathered (add_action 3 (action_of line)) 0 earlier))
+  impl_visible k a = by_iff to from (by_any (add_action 3 (action_of line)) (has_action 3 (action_of line)) (λ n l. refl) earlier)
     where
       to : Some (has_action 3 (action_of line)) earlier → Shows7 lines earlier line
       to s = let h = action_says 3 (action_of line) s.line s.passes in shows.twice (rw k row_3) a s.among (h.0 ∙ sym k) h.1
@@ -334,12 +333,12 @@ module _ {lines : List (List ℕ)} (lay : Layout whole_text lines) (earlier : Li
   Clash = Some (clashes (action_of line) (span_of line)) lines
 
   spec_row_lem : kind_of line ≡ 4
-      → Reflects (Shows7 lines earlier line) (eqb (action_of line) 0 || (ltb 0 (gathered (ask.Action 4 (action_of line)) 0 earlier) || ltb 0 (gathered (ask.Clash (action_of line) (span_of line)) 0 lines)))
+      → Reflects (Shows7 lines earlier line) (eqb (action_of line) 0 || (ltb 0 (gathered (add_action 4 (action_of line)) 0 earlier) || ltb 0 (gathered (add_clash (action_of line) (span_of line)) 0 lines)))
   spec_row_lem k =
       by_iff to from
       (by_or (by_eqb (action_of line) 0)
-      (by_or (by_any (ask.Action 4 (action_of line)) (has_action 4 (action_of line)) (λ n l. refl) earlier)
-      (by_any (ask.Clash (action_of line) (span_of line)) (clashes (action_of line) (span_of line)) (λ n l. refl) lines)))
+      (by_or (by_any (add_action 4 (action_of line)) (has_action 4 (action_of line)) (λ n l. refl) earlier)
+      (by_any (add_clash (action_of line) (span_of line)) (clashes (action_of line) (span_of line)) (λ n l. refl) lines)))
     where
       visible : (b : Bool) → eqb (action_of line) 0 ≡ b → Twice → Shows7 lines earlier line
       visible true e s = shows.internal_spec k (eqb-true (action_of line) 0 e)
@@ -375,9 +374,9 @@ module _ {lines : List (List ℕ)} (lay : Layout whole_text lines) (earlier : Li
       go : (x y z : Bool) → eqb (kind_of line) 3 ≡ x → eqb (kind_of line) 4 ≡ y → eqb (action_of line) 0 ≡ z
           → Reflects (Shows7 lines earlier line)
           (cond x
-          (cond z (not (bare_by (small (gathered (ask.Rank 1) 0 lines)) (drop 3 line))) (ltb 0 (gathered (ask.Action 3 (action_of line)) 0 earlier)))
+          (cond z (not (bare_by (small (gathered (add_rank 1) 0 lines)) (drop 3 line))) (ltb 0 (gathered (add_action 3 (action_of line)) 0 earlier)))
           (cond y
-          (eqb (action_of line) 0 || (ltb 0 (gathered (ask.Action 4 (action_of line)) 0 earlier) || ltb 0 (gathered (ask.Clash (action_of line) (span_of line)) 0 lines)))
+          (eqb (action_of line) 0 || (ltb 0 (gathered (add_action 4 (action_of line)) 0 earlier) || ltb 0 (gathered (add_clash (action_of line) (span_of line)) 0 lines)))
           false))
       go true y true ex ey ez = impl_internal (eqb-true (kind_of line) 3 ex) (eqb-true (action_of line) 0 ez)
       go true y false ex ey ez = impl_visible (eqb-true (kind_of line) 3 ex) (eqb-false (action_of line) 0 ez)

@@ -27,7 +27,10 @@ use Rattle.line_check.specs.LineFits.{line_fits}
 use Rattle.line_check.proofs.LineFits.{fault6_at}
 use Rattle.loader.specs.Load.{fault_of, loaded_of}
 use Rattle.loader.proofs.Lowest.{lowest_fault}
-use Rattle.loader.proofs.Passed.{fault_kept}
+use Rattle.std.specs.Prelude.{Result, Ok, Err}
+use Rattle.verdicts.specs.declared.Fault.{Fault as TextFault}
+use Rattle.verdicts.specs.Refusals.{fault_number}
+use Rattle.loader.proofs.Passed.{of_ok, of_err}
 use Rattle.loader.specs.declared.Loaded.{Loaded}
 use Rattle.fault_lines.specs.Shows as shows
 use Rattle.fault_lines.specs.Shows.{Cut, Shows2, Shows3, Shows4, Shows5, Shows6, Shows7, Shows, Tells}
@@ -322,5 +325,8 @@ too_long text from h =
     shows.none
     (λ j a p. let n = shows_from_2 p in let z = one_lowest (lowest_fault text (λ e. omega arith)) h in omega arith)
 
-pub fault_is : (text : List ℕ) (r : Loaded) → r ≡ loaded_of text → fault_of text ≡ r.fault
-fault_is text r e = sym (ap (λ (x : Loaded). x.fault) e ∙ fault_kept text)
+pub no_fault : (text : List ℕ) (from : ℕ) (r : Result Loaded TextFault) → r ≡ loaded_of text → (l : Loaded) → r ≡ Ok l → Tells text from 0
+no_fault text from r er l e = shows.none (λ j a p. let n = shows_from_2 p in let z = (of_ok text r er l e).0 in omega arith)
+
+pub fault_is : (text : List ℕ) (r : Result Loaded TextFault) → r ≡ loaded_of text → (f : TextFault) → r ≡ Err f → (k : ℕ) → k ≡ fault_number f → fault_of text ≡ k
+fault_is text r er f e k ek = of_err text r er f e ∙ sym ek

@@ -14,8 +14,10 @@ pub fn next(text: &[u8], from: usize) -> usize
     if limits::MAX_BYTES < text.len() {
         return 0; // a text that is too long is no line's fault
     }
-    let loaded = loader::load(text);
-    first_line(text, loaded.fault, from)
+    let Err(fault) = loader::load(text) else {
+        return 0; // no line of a design text
+    };
+    first_line(text, fault.number(), from)
 }
 
 // The same, where the fault is known.
@@ -26,6 +28,7 @@ fn first_line(text: &[u8], fault: u16, from: usize) -> usize
 {
     let mut at = 0;
     let mut line = 1;
+    // A line is asked for by its places in the text, and lines are of unequal length: a `for` over them would count both, and be no plainer.
     while at < text.len() {
         let end = line_faults::line_end(text, at);
         if line_faults::is_told(text, at, end, fault, from <= line) {

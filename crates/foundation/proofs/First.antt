@@ -1,11 +1,10 @@
 -- What the first failure among n is: the lowest that fails; and if there is none, every one passes. Then: a test that is the same
--- for all numbers needs one look; whether all pass can be asked in any order; and the search as a loop.
-use mathlib.Core.Path.{◌≡◌, refl, sym, ◌∙◌, ap, subst}
+-- for all numbers needs one look; and whether all pass can be asked in any order.
+use mathlib.Core.Path.{◌≡◌, refl, sym, ◌∙◌, subst}
 use mathlib.Core.Bool.{Bool, true, false, not, ◌&&◌}
-use Prim.Native.Nat.{ℕ, zero, suc, ◌+◌, ◌-◌, ◌≤◌, ◌<◌}
+use Prim.Native.Nat.{ℕ, zero, suc, ◌+◌, ◌≤◌, ◌<◌}
 use native.Mathlib.Omega.{arith}
 use native.Mathlib.Nat.{eq-or-lt_of_le}
-use native.Mathlib.Numerals.{add-one}
 use mathlib.Core.Logic.{◌⊎◌, inl, inr}
 use Rattle.foundation.specs.First.{Outcome, pass, fail, fail_if, or_else, first_in, AllPass, passes, all_in_range}
 use Rattle.foundation.specs.Reflects.{Reflects, so, not_so}
@@ -149,32 +148,3 @@ pub all_both : (t u : ℕ → Bool) (n i : ℕ) → all_in_range (λ j. t j && u
 unfolding all_in_range
 all_both t u zero i = refl
 all_both t u (suc n) i = rw (all_both t u n (suc i)) (and_swap (t i) (u i) (all_in_range t n (suc i)) (all_in_range u n (suc i)))
-
--- ---- the search as a loop that counts up: what is left of the search, from i on, is the whole of it
-
-module _ {A : Type 0} (f : ℕ → Outcome A) (n : ℕ) where
-  -- before the loop
-  pub loop_begins : first_in f (n - 0) 0 ≡ first_in f n 0
-  loop_begins = let e : n - 0 ≡ n = omega arith in rw e
-
-  -- a turn that passes
-  pub loop_turns : (i : ℕ) → i < n → f i ≡ pass → first_in f (n - i) i ≡ first_in f (n - (i + 1)) (i + 1)
-  loop_turns i l h = let e : n - i ≡ suc (n - (i + 1)) = omega arith in rw (e, add-one i) (first_goes f (n - suc i) i h)
-
-  -- a turn that fails
-  pub loop_fails : (i : ℕ) (x : A) → i < n → f i ≡ fail x → first_in f (n - i) i ≡ fail x
-  loop_fails i x l h = let e : n - i ≡ suc (n - (i + 1)) = omega arith in rw e (first_stops f (n - (i + 1)) i x h)
-
-  -- after the loop
-  pub loop_ends : (i : ℕ) → n ≤ i → first_in f (n - i) i ≡ pass
-  unfolding first_in
-  loop_ends i l = let e : n - i ≡ 0 = omega arith in rw e
-
--- the same where a test decides: b is what the code's call said at i
-module _ {A : Type 0} (t : ℕ → Bool) (p : ℕ → A) (n : ℕ) where
-  pub test_turns : (i : ℕ) {b : Bool} → i < n → b ≡ t i → b ≡ false
-      → first_in (λ e. fail_if (t e) (p e)) (n - i) i ≡ first_in (λ e. fail_if (t e) (p e)) (n - (i + 1)) (i + 1)
-  test_turns i l said no_fault = loop_turns (λ e. fail_if (t e) (p e)) n i l (ap (λ b. fail_if b (p i)) (sym said ∙ no_fault))
-
-  pub test_fails : (i : ℕ) {b : Bool} → i < n → b ≡ t i → b ≡ true → first_in (λ e. fail_if (t e) (p e)) (n - i) i ≡ fail (p i)
-  test_fails i l said fault = loop_fails (λ e. fail_if (t e) (p e)) n i (p i) l (ap (λ b. fail_if b (p i)) (sym said ∙ fault))

@@ -136,14 +136,7 @@ fn none() -> Entry
 pub fn has_terms(terms: Follow) -> bool
     ensures { result ≡ has_terms terms }
 {
-    match terms {
-        Follow::Nothing => false,
-        Follow::RowTerms => true,
-        Follow::Formula => true,
-        Follow::Mapped => true,
-        Follow::Value => true,
-        Follow::Marks => true,
-    }
+    !matches!(terms, Follow::Nothing)
 }
 
 // How many parameters a side has, where the implementation has n and the specification m.

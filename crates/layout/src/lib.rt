@@ -1,13 +1,21 @@
 // What is read off a desk's arrays before any state is looked at: whether the counts of lines fit, where the lines of a design stand
 // (`Shape`), where a line starts, the sizes and initial values of parameters, how many states there are, and the number of the initial
-// state. Every function answers any arrays and any counts. Which design the arrays hold is in the crate design.
+// state. Every function answers any arrays and any counts. Which design they hold is in the crate design.
 #![tactic(auto)]
 
 ghost use Rattle.std.specs.Prelude.{◌≡◌, ◌+◌, ◌*◌, ◌≤◌, ◌<◌, min, get_or, drop};
 ghost use Rattle.design.specs.Loaded.{line_from};
+ghost use Rattle.layout.specs.Lines.{no_lines};
 ghost use Rattle.layout.specs.Sizes.{counts_fit, sections_of, shape_of, product_up_to, state_count_in, number_up_to, initial_number_in};
 
 use design::{Counts, Process, Section, Shape};
+
+// The lines in a desk's arrays: the fields of all, one after the other, and where each line starts among them.
+#[derive(Clone, Copy)]
+pub struct Lines {
+    pub fields: limits::Fields,
+    pub starts: limits::Starts,
+}
 
 // One more than the most states that a design may have: a count that says "too many".
 pub const TOO_MANY: u32 = limits::MAX_STATES as u32 + 1;
@@ -48,7 +56,7 @@ fn sections(n: u8, m: u8, k: u8, l: u8, j: u8) -> Shape
                 count: l,
             },
         },
-        invariant: invariant,
+        invariant,
         mapping: invariant + 1,
         measure: invariant + 2,
         marks: Section {
@@ -74,13 +82,6 @@ pub fn shape_of(counts: Counts) -> Shape
     )
 }
 
-// Where line i starts among the fields, and 0 past the last line.
-pub fn line(starts: &limits::Starts, i: usize) -> u16
-    ensures { result ≡ get_or starts.now i 0 }
-{
-    terms::field(starts, i)
-}
-
 // Field k of the line that starts at a place, the kind being field 0.
 pub fn field_of(fields: &limits::Fields, line: u16, k: u16) -> u16
     ensures { result ≡ get_or (drop line fields.now) k 0 }
@@ -88,85 +89,95 @@ pub fn field_of(fields: &limits::Fields, line: u16, k: u16) -> u16
     terms::field(fields, line as usize + k as usize)
 }
 
-// The size of the parameter in line i.
-pub fn size<'a>(fields: &'a limits::Fields, starts: &'a limits::Starts, i: usize) -> u16
-    ensures { result ≡ get_or (line_from fields.now starts.now i) 1 0 }
-{
-    field_of(fields, line(starts, i), 1)
-}
-
-// The initial value of the parameter in line i.
-pub fn initial<'a>(fields: &'a limits::Fields, starts: &'a limits::Starts, i: usize) -> u16
-    ensures { result ≡ get_or (line_from fields.now starts.now i) 2 0 }
-{
-    field_of(fields, line(starts, i), 2)
-}
-
 // v * z + x, but no more than `most`.
 pub fn onward(v: u32, z: u16, x: u16, most: u32) -> u32
     ensures { result ≡ min (v * z + x) most }
 {
     let w = v as u64 * z as u64 + x as u64;
-    if w < most as u64 { w as u32 } else { most }
+    w.min(most as u64) as u32
 }
 
-// How many states there are, and `TOO_MANY` where there are more than a design may have; 0 where the counts do not fit.
-pub fn state_count<'a>(
-    fields: &'a limits::Fields,
-    starts: &'a limits::Starts,
-    counts: Counts,
-) -> usize
-    ensures { result ≡ state_count_in fields.now starts.now counts }
-{
-    if counts_fit(counts) {
-        product(fields, starts, counts.kind1) as usize
-    } else {
-        0
+impl Lines {
+    // No lines: zeros. A derived `Default` would say less (only of each field by itself), and one by hand be this under another name.
+    pub fn none() -> Lines
+        ensures { result ≡ no_lines }
+    {
+        Lines {
+            fields: [0u16; limits::MAX_FIELDS],
+            starts: [0u16; limits::STARTS],
+        }
     }
-}
 
-// The product of the first n sizes, but no more than `TOO_MANY`.
-fn product<'a>(fields: &'a limits::Fields, starts: &'a limits::Starts, n: usize) -> u32
-    ensures { result ≡ product_up_to fields.now starts.now n }
-{
-    let mut p = 1;
-    let mut i = 0;
-    while i < n {
-        p = onward(p, size(fields, starts, i), 0, TOO_MANY);
-        i += 1;
+    // Where line i starts among the fields, and 0 past the last line.
+    pub fn line(&self, i: usize) -> u16
+        ensures { result ≡ get_or self.now.starts i 0 }
+    {
+        terms::field(&self.starts, i)
     }
-    p
-}
 
-// The number of the initial state, where it is at most `LAST_NUMBER`, and else that; 0 where the counts do not fit.
-pub fn initial_number<'a>(
-    fields: &'a limits::Fields,
-    starts: &'a limits::Starts,
-    counts: Counts,
-) -> u16
-    ensures { result ≡ initial_number_in fields.now starts.now counts }
-{
-    if counts_fit(counts) {
-        number(fields, starts, counts.kind1) as u16
-    } else {
-        0
+    // Field k of line i, the kind being field 0.
+    pub fn field(&self, i: usize, k: u16) -> u16
+        ensures { result ≡ get_or (line_from self.now.fields self.now.starts i) k 0 }
+    {
+        field_of(&self.fields, self.line(i), k)
     }
-}
 
-// The number of the first n initial values, but no more than `LAST_NUMBER`.
-fn number<'a>(fields: &'a limits::Fields, starts: &'a limits::Starts, n: usize) -> u32
-    ensures { result ≡ number_up_to fields.now starts.now n }
-{
-    let mut v = 0;
-    let mut i = 0;
-    while i < n {
-        v = onward(
-            v,
-            size(fields, starts, i),
-            initial(fields, starts, i),
-            LAST_NUMBER,
-        );
-        i += 1;
+    // The size of the parameter in line i.
+    pub fn size(&self, i: usize) -> u16
+        ensures { result ≡ get_or (line_from self.now.fields self.now.starts i) 1 0 }
+    {
+        self.field(i, 1)
     }
-    v
+
+    // The initial value of the parameter in line i.
+    pub fn initial(&self, i: usize) -> u16
+        ensures { result ≡ get_or (line_from self.now.fields self.now.starts i) 2 0 }
+    {
+        self.field(i, 2)
+    }
+
+    // How many states there are, and `TOO_MANY` where there are more than a design may have; 0 where the counts do not fit.
+    pub fn state_count(&self, counts: Counts) -> usize
+        ensures { result ≡ state_count_in self.now.fields self.now.starts counts }
+    {
+        if counts_fit(counts) {
+            self.product(counts.kind1) as usize
+        } else {
+            0
+        }
+    }
+
+    // The product of the first n sizes, but no more than `TOO_MANY`.
+    fn product(&self, n: usize) -> u32
+        ensures { result ≡ product_up_to self.now.fields self.now.starts n }
+    {
+        let mut p = 1;
+        for i in 0..n {
+            p = onward(p, self.size(i), 0, TOO_MANY);
+        }
+        p
+    }
+
+    // The number of the initial state, where it is at most `LAST_NUMBER`, and else that; 0 where the counts do not fit.
+    pub fn initial_number(&self, counts: Counts) -> u16
+        ensures { result ≡ initial_number_in self.now.fields self.now.starts counts }
+    {
+        if counts_fit(counts) {
+            self.number(counts.kind1) as u16
+        } else {
+            0
+        }
+    }
+
+    // The number of the first n initial values, but no more than `LAST_NUMBER`. It starts from, adds and stops at something else than
+    // `product`: one loop with these three as parameters would be no plainer.
+    fn number(&self, n: usize) -> u32
+        ensures { result ≡ number_up_to self.now.fields self.now.starts n }
+    {
+        let mut v = 0;
+        for i in 0..n {
+            v = onward(v, self.size(i), self.initial(i), LAST_NUMBER);
+        }
+        v
+    }
 }

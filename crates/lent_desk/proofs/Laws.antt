@@ -20,7 +20,7 @@ use Rattle.lent_desk.specs.Lent.{desk_in, Keeps}
 -- ---- a desk in memory
 
 pub desk_is : (f s c p : List ℕ) (n : ℕ) (k : List ℕ) (q : Counts) (h : Phase) → q ≡ counts_in c → h ≡ phase_in k
-    → record { fields = f; starts = s; counts = q; plan = p; next = n; phase = h } ≡ desk_in f s c p n k
+    → record { lines = record { fields = f; starts = s }; counts = q; plan = p; next = n; phase = h } ≡ desk_in f s c p n k
 desk_is f s c p n k q h eq eh = rw (eq, eh)
 
 module _ (d e : Desk) (f s c p : List ℕ) (n : ℕ) (k : List ℕ) where

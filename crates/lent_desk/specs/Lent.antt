@@ -5,11 +5,11 @@ use Rattle.desk.specs.declared.Desk.{Desk}
 use Rattle.desk_numbers.specs.Numbers.{counts_told, counts_in, phase_told, phase_in}
 
 abbrev pub desk_in : List ℕ → List ℕ → List ℕ → List ℕ → ℕ → List ℕ → Desk
-desk_in f s c p n k = record { fields = f; starts = s; counts = counts_in c; plan = p; next = n; phase = phase_in k }
+desk_in f s c p n k = record { lines = record { fields = f; starts = s }; counts = counts_in c; plan = p; next = n; phase = phase_in k }
 
 pub record Keeps (d : Desk) (f s c p : List ℕ) (n : ℕ) (k : List ℕ) : Type 0 where
-  pub fields : f ≡ d.fields
-  pub starts : s ≡ d.starts
+  pub fields : f ≡ d.lines.fields
+  pub starts : s ≡ d.lines.starts
   pub counts : c ≡ counts_told d.counts
   pub plan : p ≡ d.plan
   pub next : n ≡ d.next

@@ -11,6 +11,7 @@ ghost use Rattle.lent_desk.specs.Lent.{desk_in, Keeps};
 
 use desk::Desk;
 use desk_numbers::{Standing, Tally};
+use layout::Lines;
 
 type Plan = [u16; walk::PLAN_LENGTH];
 
@@ -28,8 +29,7 @@ fn desk_in(
     ensures { result ≡ desk_in fields starts counts plan next phase }
 {
     Desk {
-        fields,
-        starts,
+        lines: Lines { fields, starts },
         counts: desk_numbers::counts_in(counts),
         plan,
         next,
@@ -49,17 +49,16 @@ fn put(
 )
     ensures { Keeps desk fields.new starts.new counts.new plan.new next.new phase.new }
 {
-    let held_fields = desk.fields;
-    let held_starts = desk.starts;
     let held = desk.counts;
+    let held_fields = desk.lines.fields;
+    let held_starts = desk.lines.starts;
     let held_plan = desk.plan;
-    let held_phase = desk.phase;
     *fields = held_fields;
     *starts = held_starts;
     *counts = [held.kind1, held.kind2, held.kind3, held.kind4, held.kind8];
     *plan = held_plan;
     *next = desk.next;
-    *phase = desk_numbers::phase_told(held_phase);
+    *phase = desk_numbers::phase_told(desk.phase);
 }
 
 // ---- calls

@@ -1,5 +1,5 @@
 -- What the functions return is what their contracts say: laws whose premises are what the code knows there, one fact each.
-use Prim.Native.Nat.{ℕ, suc, ◌+◌, ◌-◌, ◌*◌, ◌<◌, ◌≤◌}
+use Prim.Native.Nat.{ℕ, zero, suc, ◌+◌, ◌-◌, ◌*◌, ◌<◌, ◌≤◌}
 use mathlib.Core.Path.{◌≡◌, refl, sym, ap, ◌∙◌}
 use mathlib.Core.Bool.{Bool, true, false, not}
 use mathlib.Core.List.{List, [], ◌∷◌}
@@ -12,117 +12,109 @@ use Rattle.terms.specs.Tree as tree
 use Rattle.terms.specs.Tree.{ok_v, ok_f}
 use Rattle.terms.specs.Read.{read_v, read_f}
 use Rattle.reader.specs.Line.{field_there, fields_of}
-use Rattle.columns.specs.declared.Field.{Field}
-use Rattle.columns.specs.declared.Field.TheVariants.{Number, Malformed}
+use Rattle.std.specs.Prelude.{Option, Some, None, is_some}
 use Rattle.reader.proofs.Line.{first_field, no_field}
-use Rattle.term_check.specs.Checked.{checked, checked_v, checked_f}
-use Rattle.term_check.specs.declared.Checked.{Checked}
-use Rattle.term_check.specs.declared.Checked.TheVariants.{Next, Wrong}
-use Rattle.term_check.proofs.Laws.{good_of, took_of}
+use Rattle.term_check.specs.Checked.{checked_v, checked_f}
+use Rattle.term_check.proofs.Laws.{good_of, took_of, bad_of}
 use Rattle.term_check.proofs.Passed.{passed_v, passed_f}
 use Rattle.kinds.specs.Kinds.{whole_text, entry_in, Sort, value, formula, n_values, n_formulas, has_terms, sorts_of, reads_sum, own_of}
 use Rattle.kinds.specs.declared.Entry.{Entry}
 use Rattle.kinds.specs.declared.Follow.{Follow}
 use Rattle.kinds.specs.declared.Follow.TheVariants.{Nothing, RowTerms, Formula, Mapped, Value, Marks}
-use Rattle.line_check.specs.LineFits.{nothing, terms_fit, line_fits}
+use Rattle.line_check.specs.LineFits.{nothing, one_more, each_fits, terms_fit, line_fits}
 
 -- ---- the first field of a part
 
-module _ (part : List ℕ) (f : Field) (ef : f ≡ field_there part 0) where
-  pub ended_yes : f ≡ Malformed → true ≡ nothing (fields_of part)
-  ended_yes e = rw (no_field part (sym ef ∙ e))
-
-  pub ended_no : (x : ℕ) → f ≡ Number x → false ≡ nothing (fields_of part)
-  ended_no x e = rw (first_field part x (sym ef ∙ e))
+pub ended_by : (part : List ℕ) (f : Option ℕ) (none : Bool) → f ≡ field_there part 0 → is_some f ≡ not none → none ≡ nothing (fields_of part)
+ended_by part None true e h = rw (no_field part (sym e))
+ended_by part None false e h = cc
+ended_by part (Some x) true e h = cc
+ended_by part (Some x) false e h = rw (first_field part x (sym e))
 
 -- ---- a term, and what follows it
 
-bad : (ok : Bool) (used : ℕ) → checked ok used ≡ Wrong → ok ≡ false
-bad true used e = cc
-bad false used e = refl
-
 module _ (n : ℕ) (row : Bool) (sorts : List Sort) (part : List ℕ) where
-  module _ (a : Checked) (ea : a ≡ checked_v n row (read_v 32 (fields_of part))) where
-    pub value_wrong : a ≡ Wrong → false ≡ terms_fit n row (value ∷ sorts) (fields_of part)
-    unfolding terms_fit
-    value_wrong e = rw (bad (ok_v (read_v 32 (fields_of part)).tree n row) _ (sym ea ∙ e))
+  abbrev v_ok : tree.Value → Bool
+  v_ok t = ok_v t n row
 
-    pub value_next : (k : ℕ) → a ≡ Next k → terms_fit n row (value ∷ sorts) (fields_of part) ≡ terms_fit n row sorts (fields_of (drop (6 * k) part))
-    unfolding terms_fit
-    value_next k e =
-        let b = passed_v n row 32 part k (sym ea ∙ e) in
-        let v_ok : tree.Value → Bool = λ t. ok_v t n row in
-        rw (good_of (read_v 32) v_ok (fields_of part) ea e, took_of (read_v 32) v_ok (fields_of part) ea e, b.rest)
+  abbrev f_ok : tree.Formula → Bool
+  f_ok t = ok_f t n row
 
-  module _ (a : Checked) (ea : a ≡ checked_f n row (read_f 32 (fields_of part))) where
-    pub formula_wrong : a ≡ Wrong → false ≡ terms_fit n row (formula ∷ sorts) (fields_of part)
-    unfolding terms_fit
-    formula_wrong e = rw (bad (ok_f (read_f 32 (fields_of part)).tree n row) _ (sym ea ∙ e))
-
-    pub formula_next : (k : ℕ) → a ≡ Next k → terms_fit n row (formula ∷ sorts) (fields_of part) ≡ terms_fit n row sorts (fields_of (drop (6 * k) part))
-    unfolding terms_fit
-    formula_next k e =
-        let b = passed_f n row 32 part k (sym ea ∙ e) in
-        let f_ok : tree.Formula → Bool = λ t. ok_f t n row in
-        rw (good_of (read_f 32) f_ok (fields_of part) ea e, took_of (read_f 32) f_ok (fields_of part) ea e, b.rest)
-
--- ---- values: those still to come, from here, are so exactly if all of them are
-
-pub values_start : (n : ℕ) (row : Bool) (part : List ℕ) (count : ℕ)
-    → terms_fit n row (n_values (count - 0)) (fields_of part) ≡ terms_fit n row (n_values count) (fields_of part)
-values_start n row part count = let e : count - 0 ≡ count = omega arith in rw e
-
-module _ (n : ℕ) (row : Bool) (part : List ℕ) (count i : ℕ) (left : List ℕ)
-    (inv : terms_fit n row (n_values (count - i)) (fields_of left) ≡ terms_fit n row (n_values count) (fields_of part)) where
-  module _ (go : i < count) (v : Checked) (ev : v ≡ checked_v n row (read_v 32 (fields_of left))) where
-    one_more : count - i ≡ suc (count - (i + 1))
-    one_more = omega arith
-
-    now_value : terms_fit n row (value ∷ n_values (count - (i + 1))) (fields_of left) ≡ terms_fit n row (n_values count) (fields_of part)
-    now_value = rw one_more at inv
-
-    pub values_stop : v ≡ Wrong → false ≡ terms_fit n row (n_values count) (fields_of part)
-    values_stop e = value_wrong n row (n_values (count - (i + 1))) left v ev e ∙ now_value
-
-    pub values_turn : (k : ℕ) → v ≡ Next k → (after : List ℕ) → after ≡ drop (6 * k) left
-        → terms_fit n row (n_values (count - (i + 1))) (fields_of after) ≡ terms_fit n row (n_values count) (fields_of part)
-    values_turn k e after ea = rw ea (sym (value_next n row (n_values (count - (i + 1))) left v ev k e) ∙ now_value)
-
-  pub values_end : count ≤ i → (b : Bool) → b ≡ nothing (fields_of left) → b ≡ terms_fit n row (n_values count) (fields_of part)
+  pub value_wrong : None ≡ checked_v n row (read_v 32 (fields_of part)) → false ≡ terms_fit n row (value ∷ sorts) (fields_of part)
   unfolding terms_fit
-  values_end h b eb = let z : count - i ≡ 0 = omega arith in eb ∙ (rw z at inv)
+  value_wrong e = rw (bad_of (read_v 32) v_ok (fields_of part) e)
 
--- ---- formulas, in the same way
-
-pub formulas_start : (n : ℕ) (row : Bool) (part : List ℕ) (count : ℕ)
-    → terms_fit n row (n_formulas (count - 0)) (fields_of part) ≡ terms_fit n row (n_formulas count) (fields_of part)
-formulas_start n row part count = let e : count - 0 ≡ count = omega arith in rw e
-
-module _ (n : ℕ) (row : Bool) (part : List ℕ) (count i : ℕ) (left : List ℕ)
-    (inv : terms_fit n row (n_formulas (count - i)) (fields_of left) ≡ terms_fit n row (n_formulas count) (fields_of part)) where
-  module _ (go : i < count) (f : Checked) (ef : f ≡ checked_f n row (read_f 32 (fields_of left))) where
-    now_formula : terms_fit n row (formula ∷ n_formulas (count - (i + 1))) (fields_of left) ≡ terms_fit n row (n_formulas count) (fields_of part)
-    now_formula = let e : count - i ≡ suc (count - (i + 1)) = omega arith in rw e at inv
-
-    pub formulas_stop : f ≡ Wrong → false ≡ terms_fit n row (n_formulas count) (fields_of part)
-    formulas_stop e = formula_wrong n row (n_formulas (count - (i + 1))) left f ef e ∙ now_formula
-
-    pub formulas_turn : (k : ℕ) → f ≡ Next k → (after : List ℕ) → after ≡ drop (6 * k) left
-        → terms_fit n row (n_formulas (count - (i + 1))) (fields_of after) ≡ terms_fit n row (n_formulas count) (fields_of part)
-    formulas_turn k e after ea = rw ea (sym (formula_next n row (n_formulas (count - (i + 1))) left f ef k e) ∙ now_formula)
-
-  pub formulas_end : count ≤ i → (b : Bool) → b ≡ nothing (fields_of left) → b ≡ terms_fit n row (n_formulas count) (fields_of part)
+  pub value_next : (k : ℕ) → Some k ≡ checked_v n row (read_v 32 (fields_of part))
+      → terms_fit n row (value ∷ sorts) (fields_of part) ≡ terms_fit n row sorts (fields_of (drop (6 * k) part))
   unfolding terms_fit
-  formulas_end h b eb = let z : count - i ≡ 0 = omega arith in eb ∙ (rw z at inv)
+  value_next k e =
+      rw (good_of (read_v 32) v_ok (fields_of part) e, took_of (read_v 32) v_ok (fields_of part) e, (passed_v n row 32 part k e).rest)
+
+  pub formula_wrong : None ≡ checked_f n row (read_f 32 (fields_of part)) → false ≡ terms_fit n row (formula ∷ sorts) (fields_of part)
+  unfolding terms_fit
+  formula_wrong e = rw (bad_of (read_f 32) f_ok (fields_of part) e)
+
+  pub formula_next : (k : ℕ) → Some k ≡ checked_f n row (read_f 32 (fields_of part))
+      → terms_fit n row (formula ∷ sorts) (fields_of part) ≡ terms_fit n row sorts (fields_of (drop (6 * k) part))
+  unfolding terms_fit
+  formula_next k e =
+      rw (good_of (read_f 32) f_ok (fields_of part) e, took_of (read_f 32) f_ok (fields_of part) e, (passed_f n row 32 part k e).rest)
+
+-- ---- so many terms: those still to come, from here, are so exactly if all of them are
+
+module _ (next : List ℕ → Option ℕ) (part : List ℕ) (count i : ℕ) (left : List ℕ) (inv : each_fits next (count - i) left ≡ each_fits next count part) where
+  module _ (go : i < count) where
+    now_one : one_more (each_fits next (count - (i + 1))) (next left) left ≡ each_fits next count part
+    unfolding each_fits
+    now_one = let e : count - i ≡ suc (count - (i + 1)) = omega arith in rw e at inv
+
+    pub each_stop : None ≡ next left → false ≡ each_fits next count part
+    each_stop e = rw (← e) at now_one
+
+    pub each_turn : (k : ℕ) → Some k ≡ next left → (after : List ℕ) → after ≡ drop (6 * k) left
+        → each_fits next (count - (i + 1)) after ≡ each_fits next count part
+    each_turn k e after ea = rw ea (rw (← e) at now_one)
+
+  pub each_end : count ≤ i → (b : Bool) → b ≡ nothing (fields_of left) → b ≡ each_fits next count part
+  unfolding each_fits
+  each_end h b eb = let z : count - i ≡ 0 = omega arith in eb ∙ (rw z at inv)
+
+module _ (n : ℕ) (row : Bool) where
+  -- what the checks tell of a value and of a formula
+  abbrev pub next_value : List ℕ → Option ℕ
+  next_value part = checked_v n row (read_v 32 (fields_of part))
+
+  abbrev pub next_formula : List ℕ → Option ℕ
+  next_formula part = checked_f n row (read_f 32 (fields_of part))
+
+  value_by : (sorts : List Sort) (test : List ℕ → Bool) (part : List ℕ) (a : Option ℕ) → a ≡ next_value part
+      → ((later : List ℕ) → test later ≡ terms_fit n row sorts (fields_of later)) → one_more test a part ≡ terms_fit n row (value ∷ sorts) (fields_of part)
+  value_by sorts test part None e ih = value_wrong n row sorts part e
+  value_by sorts test part (Some k) e ih = ih (drop (6 * k) part) ∙ sym (value_next n row sorts part k e)
+
+  pub values_each : (count : ℕ) (part : List ℕ) → each_fits next_value count part ≡ terms_fit n row (n_values count) (fields_of part)
+  unfolding each_fits terms_fit
+  values_each zero part = refl
+  values_each (suc count) part = value_by (n_values count) (each_fits next_value count) part (next_value part) refl (values_each count)
+
+  formula_by : (sorts : List Sort) (test : List ℕ → Bool) (part : List ℕ) (a : Option ℕ) → a ≡ next_formula part
+      → ((later : List ℕ) → test later ≡ terms_fit n row sorts (fields_of later)) → one_more test a part ≡ terms_fit n row (formula ∷ sorts) (fields_of part)
+  formula_by sorts test part None e ih = formula_wrong n row sorts part e
+  formula_by sorts test part (Some k) e ih = ih (drop (6 * k) part) ∙ sym (formula_next n row sorts part k e)
+
+  pub formulas_each : (count : ℕ) (part : List ℕ) → each_fits next_formula count part ≡ terms_fit n row (n_formulas count) (fields_of part)
+  unfolding each_fits terms_fit
+  formulas_each zero part = refl
+  formulas_each (suc count) part = formula_by (n_formulas count) (each_fits next_formula count) part (next_formula part) refl (formulas_each count)
 
 -- a formula, and then values
-module _ (n : ℕ) (row : Bool) (part : List ℕ) (count : ℕ) (a : Checked) (ea : a ≡ checked_f n row (read_f 32 (fields_of part))) where
-  pub then_wrong : a ≡ Wrong → false ≡ terms_fit n row (formula ∷ n_values count) (fields_of part)
-  then_wrong e = formula_wrong n row (n_values count) part a ea e
+module _ (n : ℕ) (row : Bool) (part : List ℕ) (count : ℕ) where
+  pub then_wrong : None ≡ checked_f n row (read_f 32 (fields_of part)) → false ≡ terms_fit n row (formula ∷ n_values count) (fields_of part)
+  then_wrong e = formula_wrong n row (n_values count) part e
 
-  pub then_values : (k : ℕ) → a ≡ Next k → (after : List ℕ) → after ≡ drop (6 * k) part → (b : Bool)
+  pub then_values : (k : ℕ) → Some k ≡ checked_f n row (read_f 32 (fields_of part)) → (after : List ℕ) → after ≡ drop (6 * k) part → (b : Bool)
       → b ≡ terms_fit n row (n_values count) (fields_of after) → b ≡ terms_fit n row (formula ∷ n_values count) (fields_of part)
-  then_values k e after er b eb = eb ∙ rw er (sym (formula_next n row (n_values count) part a ea k e))
+  then_values k e after er b eb = eb ∙ rw er (sym (formula_next n row (n_values count) part k e))
 
 -- ---- the terms of a kind
 
@@ -152,17 +144,22 @@ module _ (n m i : ℕ) (part : List ℕ) (terms : Follow) (r : Bool) where
 -- ---- the fields before them
 
 module _ (part left : List ℕ) (i n : ℕ) (inv : fields_of left ≡ drop i (fields_of part)) where
-  module _ (go : i < n) (f : Field) (ef : f ≡ field_there left 0) where
-    pub after_none : f ≡ Malformed → fields_of left ≡ drop n (fields_of part)
-    after_none e =
-        let none : fields_of left ≡ [] = no_field left (sym ef ∙ e) in
+  module _ (go : i < n) where
+    pub after_none : (f : Option ℕ) (none : Bool) → f ≡ field_there left 0 → is_some f ≡ not none → none ≡ true → fields_of left ≡ drop n (fields_of part)
+    after_none None none e s h =
+        let none : fields_of left ≡ [] = no_field left (sym e) in
         let gone : drop (n - i) (fields_of left) ≡ [] = ap (drop (n - i)) none ∙ drop_of_length-le {A = ℕ} [] {i = n - i} (omega arith) in
         let all : i + (n - i) ≡ n = omega arith in
         none ∙ sym (ap (λ j. drop j (fields_of part)) (sym all) ∙ sym (drop-drop (n - i) i (fields_of part)) ∙ ap (drop (n - i)) (sym inv) ∙ gone)
+    after_none (Some x) true e s h = cc
+    after_none (Some x) false e s h = cc
 
-    pub after_turn : (x : ℕ) → f ≡ Number x → (after : List ℕ) → after ≡ drop (6 * 1) left → fields_of after ≡ drop (i + 1) (fields_of part)
-    after_turn x e after ea =
-        let one : fields_of after ≡ drop 1 (fields_of left) = rw (first_field left x (sym ef ∙ e), ea) in
+    pub after_turn : (f : Option ℕ) (none : Bool) → f ≡ field_there left 0 → is_some f ≡ not none → none ≡ false → (after : List ℕ) → after ≡ drop (6 * 1) left
+        → fields_of after ≡ drop (i + 1) (fields_of part)
+    after_turn None true e s h after ea = cc
+    after_turn None false e s h after ea = cc
+    after_turn (Some x) none e s h after ea =
+        let one : fields_of after ≡ drop 1 (fields_of left) = rw (first_field left x (sym e), ea) in
         one ∙ (ap (drop 1) inv ∙ drop-drop 1 i (fields_of part))
 
   pub after_end : i ≤ n → n ≤ i → fields_of left ≡ drop n (fields_of part)

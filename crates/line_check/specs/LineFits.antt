@@ -1,7 +1,8 @@
 -- Fault 6 as a test, on a line's fields: whether they are the terms that the line's kind asks for, one after the other, and nothing
 -- else. What it tests is `Terms` and `LineTerms` in design/specs/Faults; that it does is in proofs/LineFits. How terms are
 -- checked on a line's bytes is in the crate term_check.
-use Rattle.std.specs.Prelude.{ℕ, Bool, true, false, ◌&&◌, List, [], ◌∷◌, drop}
+use Rattle.std.specs.Prelude.{ℕ, zero, suc, ◌*◌, Bool, true, false, ◌&&◌, List, [], ◌∷◌, drop, Option, Some, None}
+use Rattle.reader.specs.Line.{fields_of}
 use Rattle.terms.specs.Tree.{ok_v, ok_f}
 use Rattle.terms.specs.Read.{read_v, read_f}
 use Rattle.foundation.specs.Reflects.{◌⇒◌}
@@ -11,6 +12,16 @@ use Rattle.kinds.specs.Kinds.{whole_text, entry_in, Sort, value, formula, has_te
 abbrev pub nothing : List ℕ → Bool
 nothing [] = true
 nothing (x ∷ fields) = false
+
+-- what is left after one, if there is one, passes the test
+abbrev pub one_more : (List ℕ → Bool) → Option ℕ → List ℕ → Bool
+one_more test None bytes = false
+one_more test (Some k) bytes = test (drop (6 * k) bytes)
+
+-- bytes are so many terms, each of as many fields as is told of what is left, and nothing else
+unfoldable pub each_fits : (List ℕ → Option ℕ) → ℕ → List ℕ → Bool
+each_fits next zero bytes = nothing (fields_of bytes)
+each_fits next (suc count) bytes = one_more (each_fits next count) (next bytes) bytes
 
 -- The fields are terms of these sorts, of n parameters, in a row or not. Each is read from where the one before ended; none is "a
 -- term with a wrong mark, a parameter that doesn't exist, a sum value outside a row", nor of "depth over 32"; and the line does not

@@ -4,14 +4,12 @@
 // answers any bytes. What is tested is in specs/LineFits; that it is the absence of fault 6, in proofs/LineFits.
 #![tactic(auto)]
 
-ghost use Rattle.std.specs.Prelude.{◌≡◌, ◌∷◌, drop};
+ghost use Rattle.std.specs.Prelude.{ℕ, ◌≡◌, ◌∷◌, List, Option, drop};
 ghost use Rattle.reader.specs.Line.{fields_of};
 ghost use Rattle.kinds.specs.Kinds.{formula, n_values, n_formulas, sorts_of, reads_sum};
-ghost use Rattle.line_check.specs.LineFits.{nothing, terms_fit, line_fits};
+ghost use Rattle.line_check.specs.LineFits.{nothing, terms_fit, each_fits, line_fits};
 
-use columns::Field;
 use kinds::Follow;
-use term_check::Checked;
 
 // Whether a line of this kind is as it should be, where n lines of the text are of kind 1 and m of kind 2, and i rows of the implementation
 // are internal.
@@ -46,8 +44,7 @@ fn terms_fit(part: &[u8], terms: Follow, n: u16, m: u16, i: u16) -> bool
 fn formula_then_values_fit(part: &[u8], count: usize, params: u16, row: bool) -> bool
     ensures { result ≡ terms_fit params row (formula ∷ n_values count) (fields_of part.now) }
 {
-    let f = term_check::formula(part, params, row, limits::MAX_DEPTH);
-    let Checked::Next(used) = f else {
+    let Some(used) = term_check::formula(part, params, row, limits::MAX_DEPTH) else {
         return false;
     };
     values_fit(reader::rest(part, used), count, params, row)
@@ -57,34 +54,31 @@ fn formula_then_values_fit(part: &[u8], count: usize, params: u16, row: bool) ->
 fn values_fit(part: &[u8], count: usize, params: u16, row: bool) -> bool
     ensures { result ≡ terms_fit params row (n_values count) (fields_of part.now) }
 {
-    let mut left = part;
-    let mut i = 0;
-    while i < count {
-        let v = term_check::value(left, params, row, limits::MAX_DEPTH);
-        let Checked::Next(used) = v else {
-            return false;
-        };
-        let after = reader::rest(left, used);
-        left = after;
-        i += 1;
-    }
-    ended(left)
+    each_fits(part, count, |left| {
+        term_check::value(left, params, row, limits::MAX_DEPTH)
+    })
 }
 
 // Whether a part is so many formulas and nothing else.
 fn formulas_fit(part: &[u8], count: usize, params: u16, row: bool) -> bool
     ensures { result ≡ terms_fit params row (n_formulas count) (fields_of part.now) }
 {
+    each_fits(part, count, |left| {
+        term_check::formula(left, params, row, limits::MAX_DEPTH)
+    })
+}
+
+// Whether a part is so many terms, by the check of one, and nothing else.
+fn each_fits<C: Fn(&[u8]) -> Option<usize>>(part: &[u8], count: usize, check: C) -> bool
+    requires { C.IsAlwaysCallable check }
+    ensures { (next : List ℕ → Option ℕ) → ((bytes : _) (r : _) → C.post check bytes r → r ≡ next bytes.now) → result ≡ each_fits next count part.now }
+{
     let mut left = part;
-    let mut done = 0;
-    while done < count {
-        let f = term_check::formula(left, params, row, limits::MAX_DEPTH);
-        let Checked::Next(used) = f else {
+    for i in 0..count {
+        let Some(used) = check(left) else {
             return false;
         };
-        let after = reader::rest(left, used);
-        left = after;
-        done += 1;
+        left = reader::rest(left, used);
     }
     ended(left)
 }
@@ -93,11 +87,7 @@ fn formulas_fit(part: &[u8], count: usize, params: u16, row: bool) -> bool
 fn ended(part: &[u8]) -> bool
     ensures { result ≡ nothing (fields_of part.now) }
 {
-    let first = reader::field_at(part, 0);
-    let Field::Number(_) = first else {
-        return true;
-    };
-    false // a field is left: the line ends late
+    reader::field_at(part, 0).is_none() // a field that is left: the line ends late
 }
 
 // What is left of a part after n fields; of a part with fewer, what stands after its last.
@@ -105,15 +95,11 @@ pub fn after_fields(part: &[u8], n: usize) -> &[u8]
     ensures { fields_of result.now ≡ drop n (fields_of part.now) }
 {
     let mut left = part;
-    let mut i = 0;
-    while i < n {
-        let first = reader::field_at(left, 0);
-        let Field::Number(_) = first else {
+    for i in 0..n {
+        if reader::field_at(left, 0).is_none() {
             return left;
-        };
-        let after = reader::rest(left, 1);
-        left = after;
-        i += 1;
+        }
+        left = reader::rest(left, 1);
     }
     left
 }

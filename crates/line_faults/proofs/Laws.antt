@@ -2,7 +2,7 @@
 -- the loops are in Turns.
 use mathlib.Core.Path.{◌≡◌, refl, sym, ap, ◌∙◌}
 use mathlib.Core.Logic.{◌≢◌}
-use mathlib.Core.Bool.{Bool, true, false, not, cond, ◌&&◌, ◌||◌, and-false}
+use mathlib.Core.Bool.{Bool, true, false, not, ◌&&◌, ◌||◌, and-false}
 use mathlib.Core.List.{List, [], ◌∷◌, nil≢cons}
 use Prim.Native.Nat.{ℕ, suc, ◌+◌, ◌-◌, ◌*◌, ◌<◌, ◌≤◌}
 use native.Mathlib.Omega.{arith}
@@ -13,16 +13,15 @@ use lib.ListN.{length, get_or, take, drop, get_or-eq_default}
 use lib.Seq.{drop-cons, length-take-le}
 use mir.Syntax.{w64}
 use mir.Val.{Fits}
-use Rattle.terms.specs.Tree.{ok_f}
+use Rattle.terms.specs.Tree.{Formula, ok_f}
 use Rattle.terms.specs.Read.{read_f}
-use Rattle.columns.specs.declared.Field.{Field}
-use Rattle.columns.specs.declared.Field.TheVariants.{Number, Malformed}
+use Rattle.std.specs.Prelude.{Option, Some, None, Result, Ok, Err, unwrap_or}
+use Rattle.std.specs.Result.{OkIff, result_unwrap_or}
 use Rattle.reader.specs.Line.{field_there, fields_of}
 use Rattle.reader.specs.Text.{is_line, fields_by_line}
 use Rattle.reader.proofs.Line.{first_field, no_field, rest_fields, fields_within}
 use Rattle.term_check.specs.Checked.{checked_f}
-use Rattle.term_check.specs.declared.Checked.{Checked}
-use Rattle.term_check.specs.declared.Checked.TheVariants.{Next, Wrong}
+use Rattle.term_check.proofs.Laws.{good_of, took_of, bad_of}
 use Rattle.kinds.specs.Kinds.{whole_text, entry_in, has_terms}
 use Rattle.kinds.specs.declared.Entry.{Entry}
 use Rattle.decision.specs.Admitted.{is_zero}
@@ -34,16 +33,12 @@ use Rattle.action_check.proofs.Laws.{zero_past, zero_other, zero_short, zero_sec
 use Rattle.loader.specs.Load.{line_test}
 use Rattle.line_check.specs.LineFits.{line_fits}
 use Rattle.line_faults.specs.Tests as tests
-use Rattle.line_faults.specs.declared.Ask.{Ask}
-use Rattle.line_faults.specs.declared.Ask.TheVariants as ask
 
 -- ---- numbers
 
-pub small_fits : (n : ℕ) → n < 65536 → n ≡ tests.small n
-small_fits n h = rw (lt-ltb n 65536 h)
-
-pub small_none : (n : ℕ) → 65536 ≤ n → 0 ≡ tests.small n
-small_none n h = rw (le-ltb n 65536 h)
+pub small_is : {E : Type 0} (n : ℕ) (r : Result ℕ E) → OkIff r (n < 65536) n → result_unwrap_or r 0 ≡ tests.small n
+small_is n (Ok m) h = rw (lt-ltb n 65536 h.0) h.1
+small_is n (Err e) h = rw (le-ltb n 65536 (omega arith))
 
 module _ (n size a : ℕ) (ea : a ≡ tests.cap n) where
   pub product_fits : size < 65536 → Fits w64 (a * size)
@@ -58,19 +53,20 @@ module _ (line : List ℕ) (k n : ℕ) (en : n ≡ length (fields_of line)) wher
   pub field_past : n ≤ k → 0 ≡ get_or (fields_of line) k 0
   field_past h = sym (get_or-eq_default (fields_of line) 0 (omega arith))
 
-  module _ (h : k < n) (f : Field) (ef : f ≡ field_there line k) where
+  module _ (h : k < n) (f : Option ℕ) (ef : f ≡ field_there line k) where
     rest_is : fields_of (drop (6 * k) line) ≡ get_or (fields_of line) k 0 ∷ drop (suc k) (fields_of line)
     rest_is = rest_fields k line (omega arith) ∙ drop-cons (fields_of line) k 0 (omega arith)
 
-    pub field_none : f ≡ Malformed → 0 ≡ get_or (fields_of line) k 0
-    field_none e =
-        let z : [] ≡ get_or (fields_of line) k 0 ∷ drop (suc k) (fields_of line) = sym (no_field (drop (6 * k) line) (sym ef ∙ e)) ∙ rest_is in
+    field_by : (g : Option ℕ) → g ≡ field_there line k → unwrap_or g 0 ≡ get_or (fields_of line) k 0
+    field_by None e =
+        let z : [] ≡ get_or (fields_of line) k 0 ∷ drop (suc k) (fields_of line) = sym (no_field (drop (6 * k) line) (sym e)) ∙ rest_is in
         absurd (nil≢cons z)
-
-    pub field_some : (m : ℕ) → f ≡ Number m → m ≡ get_or (fields_of line) k 0
-    field_some m e =
-        let z : m ∷ fields_of (drop 6 (drop (6 * k) line)) ≡ get_or (fields_of line) k 0 ∷ drop (suc k) (fields_of line) = sym (first_field (drop (6 * k) line) m (sym ef ∙ e)) ∙ rest_is in
+    field_by (Some m) e =
+        let z : m ∷ fields_of (drop 6 (drop (6 * k) line)) ≡ get_or (fields_of line) k 0 ∷ drop (suc k) (fields_of line) = sym (first_field (drop (6 * k) line) m (sym e)) ∙ rest_is in
         ap (λ l. get_or l 0 0) z
+
+    pub field_is : (r : ℕ) → r ≡ unwrap_or f 0 → r ≡ get_or (fields_of line) k 0
+    field_is r er = er ∙ field_by f ef
 
 pub rank_is : (k : ℕ) (e : Entry) → e ≡ entry_in whole_text k → e.rank ≡ (entry_in whole_text k).rank
 rank_is k e h = ap (λ (x : Entry). x.rank) h
@@ -117,53 +113,25 @@ module _ (part : List ℕ) (n : ℕ) (en : n ≡ length (fields_of part)) where
 
 -- ---- whether a row's data is that
 
-module _ (line : List ℕ) (n : ℕ) (p : List ℕ) (ep : fields_of p ≡ drop 3 (fields_of line)) (f : Checked) (ef : f ≡ checked_f n true (read_f 32 (fields_of p))) where
-  wrong_by : (ok : Bool) (u : ℕ) → f ≡ cond ok (Next u) Wrong → f ≡ Wrong → ok ≡ false
-  wrong_by true u e h = let z : Next u ≡ Wrong = sym e ∙ h in cc
-  wrong_by false u e h = refl
+module _ (line : List ℕ) (n : ℕ) (p : List ℕ) (ep : fields_of p ≡ drop 3 (fields_of line)) where
+  abbrev ok : Formula → Bool
+  ok f = ok_f f n true
 
-  next_by : (ok : Bool) (u v : ℕ) → f ≡ cond ok (Next u) Wrong → f ≡ Next v → (ok ≡ true) × (u ≡ v)
-  next_by true u v e h = let z : Next u ≡ Next v = sym e ∙ h in (refl, cc)
-  next_by false u v e h = let z : Wrong ≡ Next v = sym e ∙ h in (cc, cc)
+  pub bare_wrong : None ≡ checked_f n true (read_f 32 (fields_of p)) → true ≡ tests.bare_by n (drop 3 (fields_of line))
+  bare_wrong h = rw (← ep, bad_of (read_f 32) ok (fields_of p) h)
 
-  pub bare_wrong : f ≡ Wrong → true ≡ tests.bare_by n (drop 3 (fields_of line))
-  bare_wrong h = rw (← ep, wrong_by (ok_f (read_f 32 (fields_of p)).tree n true) (read_f 32 (fields_of p)).used ef h)
-
-  pub bare_next : (u : ℕ) → f ≡ Next u → (q : List ℕ) → fields_of q ≡ drop u (fields_of p) → (b : Bool) → b ≡ is_zero (value_in (fields_of q)).tree
-      → b ≡ tests.bare_by n (drop 3 (fields_of line))
-  bare_next u h q eq b eb = let z = next_by (ok_f (read_f 32 (fields_of p)).tree n true) (read_f 32 (fields_of p)).used u ef h in eb ∙ rw (← ep, z.0, z.1, eq)
+  pub bare_next : (u : ℕ) → Some u ≡ checked_f n true (read_f 32 (fields_of p)) → (q : List ℕ) → fields_of q ≡ drop u (fields_of p) → (b : Bool)
+      → b ≡ is_zero (value_in (fields_of q)).tree → b ≡ tests.bare_by n (drop 3 (fields_of line))
+  bare_next u h q eq b eb = eb ∙ rw (← ep, good_of (read_f 32) ok (fields_of p) h, took_of (read_f 32) ok (fields_of p) h, eq)
 
 -- ---- what a line makes of a number
 
-module _ (line : List ℕ) (q : Ask) (n x : ℕ) (ex : x ≡ get_or (fields_of line) 0 0) where
-  abbrev made : ℕ
-  made = tests.step_of q n (fields_of line)
+module _ (line : List ℕ) (n x : ℕ) (ex : x ≡ get_or (fields_of line) 0 0) where
+  pub size_times : x ≡ 1 → (y r : ℕ) → y ≡ get_or (fields_of line) 1 0 → r ≡ tests.cap (tests.cap n * y) → r ≡ tests.times_size n (fields_of line)
+  size_times h y r ey er = rw (← ex, eq-eqb x 1 h, ← ey) er
 
-  pub step_fields : q ≡ ask.Fields → (c r : ℕ) → c ≡ length (fields_of line) → r ≡ tests.cap (n + c) → r ≡ made
-  step_fields e c r ec er = rw (e, ← ec) er
-
-  pub step_rank : (k : ℕ) → q ≡ ask.Rank k → (a b r : ℕ) → a ≡ (entry_in whole_text x).rank → b ≡ tests.one (eqb a k) → r ≡ tests.cap (n + b) → r ≡ made
-  step_rank k e a b r ea eb er = rw (e, ← ex, ← ea, ← eb) er
-
-  pub step_last : q ≡ ask.LastRank → (a : ℕ) → a ≡ (entry_in whole_text x).rank → a ≡ made
-  step_last e a ea = rw e (ea ∙ ap (λ (k : ℕ). (entry_in whole_text k).rank) ex)
-
-  pub step_states : q ≡ ask.States → x ≡ 1 → (y r : ℕ) → y ≡ get_or (fields_of line) 1 0 → r ≡ tests.cap (tests.cap n * y) → r ≡ made
-  step_states e h y r ey er = rw (e, ← ex, eq-eqb x 1 h, ← ey) er
-
-  pub step_other : q ≡ ask.States → x ≢ 1 → n ≡ made
-  step_other e h = rw (e, ← ex, ne_eqb x 1 h)
-
-  pub step_internal : q ≡ ask.Internal → (t : Bool) (b r : ℕ) → t ≡ tests.has_action 3 0 (fields_of line) → b ≡ tests.one t → r ≡ tests.cap (n + b) → r ≡ made
-  step_internal e t b r et eb er = rw e (er ∙ rw (eb, et))
-
-  pub step_action : (k a : ℕ) → q ≡ ask.Action k a → (t : Bool) (b r : ℕ) → t ≡ tests.has_action k a (fields_of line) → b ≡ tests.one t → r ≡ tests.cap (n + b)
-      → r ≡ made
-  step_action k a e t b r et eb er = rw e (er ∙ rw (eb, et))
-
-  pub step_clash : (a s : ℕ) → q ≡ ask.Clash a s → (z : ℕ) → z ≡ get_or (fields_of line) 2 0 → (t : Bool) (b r : ℕ) → t ≡ tests.has_action 3 a (fields_of line)
-      → b ≡ tests.one (t && not (eqb z s)) → r ≡ tests.cap (n + b) → r ≡ made
-  step_clash a s e z ez t b r et eb er = rw e (er ∙ rw (eb, et, ez))
+  pub size_other : x ≢ 1 → n ≡ tests.times_size n (fields_of line)
+  size_other h = rw (← ex, ne_eqb x 1 h)
 
 -- ---- the tests of a line
 
@@ -184,7 +152,7 @@ module _ (before line : List ℕ) (n : ℕ) (en : n ≡ length (fields_of line))
   pub third_long : 256 < n → true ≡ tests.shows3 (fields_by_line before) (fields_of line)
   third_long h = rw (← en, lt-ltb 256 n h)
 
-  pub third_sum : n ≤ 256 → (s : ℕ) → s ≡ tests.gathered ask.Fields 0 (fields_by_line before) → (t : ℕ) → t ≡ tests.cap (s + n)
+  pub third_sum : n ≤ 256 → (s : ℕ) → s ≡ tests.gathered tests.add_fields 0 (fields_by_line before) → (t : ℕ) → t ≡ tests.cap (s + n)
       → leb s 4096 && ltb 4096 t ≡ tests.shows3 (fields_by_line before) (fields_of line)
   third_sum h s es t et = rw (← en, le-ltb 256 n h, ← es, et)
 
@@ -194,17 +162,17 @@ module _ (before line : List ℕ) (x : ℕ) (ex : x ≡ get_or (fields_of line) 
 
   -- by the line's entry, and whether its length fits
   abbrev fourth : Entry → Bool → Bool
-  fourth e b = (ltb e.rank (tests.gathered ask.LastRank 0 earlier) || leb e.most (tests.gathered (ask.Rank e.rank) 0 earlier)) || not b
+  fourth e b = (ltb e.rank (tests.gathered tests.the_rank 0 earlier) || leb e.most (tests.gathered (tests.add_rank e.rank) 0 earlier)) || not b
 
   fourth_is : (b : Bool) → b ≡ length_fits whole_text (fields_of line) → fourth e b ≡ tests.shows4 earlier (fields_of line)
   fourth_is b eb =
       ap (λ (f : Entry). fourth f b) (ee ∙ ap (entry_in whole_text) ex) ∙ ap (fourth (entry_of whole_text (fields_of line))) eb
 
-  module _ (g : ℕ) (eg : g ≡ tests.gathered ask.LastRank 0 earlier) where
+  module _ (g : ℕ) (eg : g ≡ tests.gathered tests.the_rank 0 earlier) where
     pub fourth_falls : e.rank < g → true ≡ tests.shows4 earlier (fields_of line)
     fourth_falls h = let t : true ≡ fourth e (length_fits whole_text (fields_of line)) = rw (← eg, lt-ltb e.rank g h) in t ∙ fourth_is _ refl
 
-    module _ (climbs : g ≤ e.rank) (m : ℕ) (em : m ≡ tests.gathered (ask.Rank e.rank) 0 earlier) where
+    module _ (climbs : g ≤ e.rank) (m : ℕ) (em : m ≡ tests.gathered (tests.add_rank e.rank) 0 earlier) where
       pub fourth_more : e.most ≤ m → true ≡ tests.shows4 earlier (fields_of line)
       fourth_more h =
           let t : true ≡ fourth e (length_fits whole_text (fields_of line)) = rw (← eg, le-ltb e.rank g climbs, ← em, le-leb e.most m h) in
@@ -221,7 +189,7 @@ module _ (before line : List ℕ) (b : Bool) (eb : b ≡ numbers_fit (fields_of 
   abbrev fifth_all : Bool
   fifth_all = tests.shows5 (fields_by_line before) (fields_of line)
 
-  fifth_is : (k z n : ℕ) → k ≡ get_or (fields_of line) 0 0 → z ≡ get_or (fields_of line) 1 0 → n ≡ tests.gathered ask.States 1 (fields_by_line before)
+  fifth_is : (k z n : ℕ) → k ≡ get_or (fields_of line) 0 0 → z ≡ get_or (fields_of line) 1 0 → n ≡ tests.gathered tests.times_size 1 (fields_by_line before)
       → fifth b k z n ≡ fifth_all
   fifth_is k z n ek ez en =
       let fits = numbers_fit (fields_of line) in
@@ -232,7 +200,7 @@ module _ (before line : List ℕ) (b : Bool) (eb : b ≡ numbers_fit (fields_of 
   pub fifth_numbers : not b ≡ true → true ≡ fifth_all
   fifth_numbers h =
       let fs = fields_of line in
-      let n = tests.gathered ask.States 1 (fields_by_line before) in
+      let n = tests.gathered tests.times_size 1 (fields_by_line before) in
       let t : true ≡ fifth b (kind_of fs) (get_or fs 1 0) n = rw (not-true b h) in
       t ∙ fifth_is (kind_of fs) (get_or fs 1 0) n refl refl refl
 
@@ -240,23 +208,23 @@ module _ (before line : List ℕ) (b : Bool) (eb : b ≡ numbers_fit (fields_of 
     pub fifth_other : k ≢ 1 → false ≡ fifth_all
     fifth_other n =
         let z = get_or (fields_of line) 1 0 in
-        let m = tests.gathered ask.States 1 (fields_by_line before) in
+        let m = tests.gathered tests.times_size 1 (fields_by_line before) in
         let t : false ≡ fifth b k z m = rw (not-false b h, ne_eqb k 1 n) in
         t ∙ fifth_is k z m ek refl refl
 
-    pub fifth_states : k ≡ 1 → (n : ℕ) → n ≡ tests.gathered ask.States 1 (fields_by_line before) → (z : ℕ) → z ≡ get_or (fields_of line) 1 0 → (t : ℕ)
+    pub fifth_states : k ≡ 1 → (n : ℕ) → n ≡ tests.gathered tests.times_size 1 (fields_by_line before) → (z : ℕ) → z ≡ get_or (fields_of line) 1 0 → (t : ℕ)
         → t ≡ tests.cap (tests.cap n * z) → leb n 65536 && ltb 65536 t ≡ fifth_all
     fifth_states e n en z ez t et =
         let s : leb n 65536 && ltb 65536 t ≡ fifth b k z n = rw (not-false b h, eq-eqb k 1 e, et) in
         s ∙ fifth_is k z n ek ez en
 
-pub sixth_is : (text line : List ℕ) (a n : ℕ) → a ≡ tests.gathered (ask.Rank 1) 0 (fields_by_line text) → n ≡ tests.small a
-    → (c m : ℕ) → c ≡ tests.gathered (ask.Rank 2) 0 (fields_by_line text) → m ≡ tests.small c
-    → (d i : ℕ) → d ≡ tests.gathered ask.Internal 0 (fields_by_line text) → i ≡ tests.small d
+pub sixth_is : (text line : List ℕ) (a n : ℕ) → a ≡ tests.gathered (tests.add_rank 1) 0 (fields_by_line text) → n ≡ tests.small a
+    → (c m : ℕ) → c ≡ tests.gathered (tests.add_rank 2) 0 (fields_by_line text) → m ≡ tests.small c
+    → (d i : ℕ) → d ≡ tests.gathered (tests.add_action 3 0) 0 (fields_by_line text) → i ≡ tests.small d
     → (x : ℕ) → x ≡ get_or (fields_of line) 0 0 → (b : Bool) → b ≡ line_fits n m i (fields_of line) x → not b ≡ tests.shows6 (fields_by_line text) (fields_of line)
 sixth_is text line a n ea en c m ec em d i ed ei x ex b eb =
     let lines = fields_by_line text in
-    let t : line_fits n m i (fields_of line) x ≡ line_test (tests.small (tests.gathered (ask.Rank 1) 0 lines)) (tests.small (tests.gathered (ask.Rank 2) 0 lines)) (tests.small (tests.gathered ask.Internal 0 lines)) (fields_of line) =
+    let t : line_fits n m i (fields_of line) x ≡ line_test (tests.small (tests.gathered (tests.add_rank 1) 0 lines)) (tests.small (tests.gathered (tests.add_rank 2) 0 lines)) (tests.small (tests.gathered tests.add_internal 0 lines)) (fields_of line) =
     rw (en, em, ei, ea, ec, ed, ex)
     in
     ap not (eb ∙ t)
@@ -265,11 +233,11 @@ module _ (text before line : List ℕ) (k : ℕ) (ek : k ≡ get_or (fields_of l
   abbrev seventh : Bool
   seventh = tests.shows7 (fields_by_line text) (fields_by_line before) (fields_of line)
 
-  pub seventh_bare : k ≡ 3 → a ≡ 0 → (g n : ℕ) → g ≡ tests.gathered (ask.Rank 1) 0 (fields_by_line text) → n ≡ tests.small g
+  pub seventh_bare : k ≡ 3 → a ≡ 0 → (g n : ℕ) → g ≡ tests.gathered (tests.add_rank 1) 0 (fields_by_line text) → n ≡ tests.small g
       → (b : Bool) → b ≡ tests.bare_by n (drop 3 (fields_of line)) → not b ≡ seventh
   seventh_bare hk ha g n eg en b eb = rw (← ek, eq-eqb k 3 hk, ← ea, eq-eqb a 0 ha, ← eg, ← en, ← eb)
 
-  pub seventh_impl : k ≡ 3 → a ≢ 0 → (g : ℕ) → g ≡ tests.gathered (ask.Action 3 a) 0 (fields_by_line before) → ltb 0 g ≡ seventh
+  pub seventh_impl : k ≡ 3 → a ≢ 0 → (g : ℕ) → g ≡ tests.gathered (tests.add_action 3 a) 0 (fields_by_line before) → ltb 0 g ≡ seventh
   seventh_impl hk ha g eg = rw (← ek, eq-eqb k 3 hk, ← ea, ne_eqb a 0 ha, ← eg)
 
   module _ (nk : k ≢ 3) where
@@ -279,11 +247,11 @@ module _ (text before line : List ℕ) (k : ℕ) (ek : k ≡ get_or (fields_of l
     pub seventh_internal : k ≡ 4 → a ≡ 0 → true ≡ seventh
     seventh_internal hk ha = rw (← ek, ne_eqb k 3 nk, eq-eqb k 4 hk, ← ea, eq-eqb a 0 ha)
 
-    module _ (hk : k ≡ 4) (ha : a ≢ 0) (g : ℕ) (eg : g ≡ tests.gathered (ask.Action 4 a) 0 (fields_by_line before)) where
+    module _ (hk : k ≡ 4) (ha : a ≢ 0) (g : ℕ) (eg : g ≡ tests.gathered (tests.add_action 4 a) 0 (fields_by_line before)) where
       pub seventh_spec : 0 < g → true ≡ seventh
       seventh_spec h = rw (← ek, ne_eqb k 3 nk, eq-eqb k 4 hk, ← ea, ne_eqb a 0 ha, ← eg, lt-ltb 0 g h)
 
-      pub seventh_span : g ≤ 0 → (s : ℕ) → s ≡ get_or (fields_of line) 2 0 → (c : ℕ) → c ≡ tests.gathered (ask.Clash a s) 0 (fields_by_line text) → ltb 0 c ≡ seventh
+      pub seventh_span : g ≤ 0 → (s : ℕ) → s ≡ get_or (fields_of line) 2 0 → (c : ℕ) → c ≡ tests.gathered (tests.add_clash a s) 0 (fields_by_line text) → ltb 0 c ≡ seventh
       seventh_span h s es c ec = rw (← ek, ne_eqb k 3 nk, eq-eqb k 4 hk, ← ea, ne_eqb a 0 ha, ← eg, le-ltb 0 g h, ← es, ← ec)
 
 -- ---- by the fault's number

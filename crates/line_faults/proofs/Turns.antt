@@ -1,5 +1,5 @@
 -- What a turn of each loop keeps: what is still to be done, from here, gives the whole.
-use Prim.Native.Nat.{ℕ, suc, ◌+◌, ◌-◌, ◌<◌, ◌≤◌, min}
+use Prim.Native.Nat.{ℕ, suc, ◌+◌, ◌-◌, ◌<◌, ◌≤◌, min, max}
 use mathlib.Core.Path.{◌≡◌, refl, sym, ap, ◌∙◌}
 use mathlib.Core.Logic.{◌≢◌}
 use mathlib.Core.Bool.{Bool, true, false, cond}
@@ -13,8 +13,7 @@ use lib.Seq.{drop-cons, drop-drop, drop-length, length-take-le}
 use Rattle.reader.specs.Line.{fields_of}
 use Rattle.reader.specs.Text.{lines_of, fields_by_line}
 use Rattle.reader.proofs.Text.{first_line, lines_first}
-use Rattle.line_faults.specs.Tests.{line_length, step_of, gathered}
-use Rattle.line_faults.specs.declared.Ask.{Ask}
+use Rattle.line_faults.specs.Tests.{line_length, gathered}
 
 -- ---- the end of a line
 
@@ -30,6 +29,18 @@ module _ (text : List ℕ) (at i : ℕ) (inv : i + line_length (drop i text) ≡
   pub end_last : length text ≤ i → i ≡ at + line_length (drop at text)
   unfolding line_length
   end_last h = let m = rw (drop_of_length-le text {i = i} h) at inv in omega arith
+
+  -- at the text's end, or where the line starts if that is past it
+  pub end_most : length text ≤ i → (at ≤ length text → i ≤ length text) → (r : ℕ) → r ≡ max at (length text) → r ≡ at + line_length (drop at text)
+  unfolding line_length
+  end_most h within r er = er ∙ go (leb at (length text)) refl
+    where
+      go : (b : Bool) → leb at (length text) ≡ b → max at (length text) ≡ at + line_length (drop at text)
+      go true e = let l = leb-true at (length text) e in let w = within l in let s = end_last h in omega arith
+      go false e =
+          let l = leb-false at (length text) e in
+          let z : at + 0 ≡ at = omega arith in
+          rw (drop_of_length-le text {i = at} (omega arith), z) (omega arith)
 
 -- ---- the lines of what is left of a text
 
@@ -86,12 +97,12 @@ module _ (text : List ℕ) (at end : ℕ) (h : at < length text) (ends : end ≡
 
 -- ---- what is gathered
 
-module _ (text : List ℕ) (q : Ask) (start at n : ℕ) (inv : gathered q n (fields_by_line (drop at text)) ≡ gathered q start (fields_by_line text)) where
-  pub gather_end : length text ≤ at → n ≡ gathered q start (fields_by_line text)
+module _ (text : List ℕ) (by : ℕ → List ℕ → ℕ) (start at n : ℕ) (inv : gathered by n (fields_by_line (drop at text)) ≡ gathered by start (fields_by_line text)) where
+  pub gather_end : length text ≤ at → n ≡ gathered by start (fields_by_line text)
   unfolding gathered lines_of
   gather_end h = rw (drop_of_length-le text {i = at} h) at inv
 
-  pub gather_on : at < length text → (end : ℕ) → end ≡ at + line_length (drop at text) → (m : ℕ) → m ≡ step_of q n (fields_of (take (end - at) (drop at text)))
-      → (to : ℕ) → to ≡ min (suc end) (length text) → gathered q m (fields_by_line (drop to text)) ≡ gathered q start (fields_by_line text)
+  pub gather_on : at < length text → (end : ℕ) → end ≡ at + line_length (drop at text) → (m : ℕ) → m ≡ by n (fields_of (take (end - at) (drop at text)))
+      → (to : ℕ) → to ≡ min (suc end) (length text) → gathered by m (fields_by_line (drop to text)) ≡ gathered by start (fields_by_line text)
   unfolding gathered
   gather_on h end ends m em to et = rw (em, et) (rw (lines_left text at end h ends) at inv)

@@ -13,8 +13,6 @@ use Rattle.design.specs.Faults.{entry_of, size_of}
 use Rattle.design.specs.Tests.{numbers_fit, length_fits}
 use Rattle.decision.specs.Admitted.{is_zero}
 use Rattle.loader.specs.Load.{line_test}
-use Rattle.line_faults.specs.declared.Ask.{Ask}
-use Rattle.line_faults.specs.declared.Ask.TheVariants as ask
 
 -- the action and the span of a row
 abbrev pub action_of : List ℕ → ℕ
@@ -46,19 +44,32 @@ has_action k a line = eqb (kind_of line) k && eqb (action_of line) a
 abbrev pub clashes : ℕ → ℕ → List ℕ → Bool
 clashes a s line = has_action 3 a line && not (eqb (span_of line) s)
 
--- what a line makes of the number so far
-abbrev pub step_of : Ask → ℕ → List ℕ → ℕ
-step_of ask.Fields n line = cap (n + length line)
-step_of (ask.Rank r) n line = cap (n + one (eqb (entry_of whole_text line).rank r))
-step_of ask.LastRank n line = (entry_of whole_text line).rank
-step_of ask.States n line = cond (eqb (kind_of line) 1) (cap (cap n * size_of line)) n
-step_of ask.Internal n line = cap (n + one (is_internal line))
-step_of (ask.Action k a) n line = cap (n + one (has_action k a line))
-step_of (ask.Clash a s) n line = cap (n + one (clashes a s line))
+-- what a line makes of the number so far: with its fields; one more if it is of the rank; its rank; times its size; one more if it is an
+-- internal row, a row of the kind with the action, or a kind 3 line with the action and another span
+abbrev pub add_fields : ℕ → List ℕ → ℕ
+add_fields n line = cap (n + length line)
 
-unfoldable pub gathered : Ask → ℕ → List (List ℕ) → ℕ
-gathered q n [] = n
-gathered q n (line ∷ lines) = gathered q (step_of q n line) lines
+abbrev pub add_rank : ℕ → ℕ → List ℕ → ℕ
+add_rank r n line = cap (n + one (eqb (entry_of whole_text line).rank r))
+
+abbrev pub the_rank : ℕ → List ℕ → ℕ
+the_rank n line = (entry_of whole_text line).rank
+
+abbrev pub times_size : ℕ → List ℕ → ℕ
+times_size n line = cond (eqb (kind_of line) 1) (cap (cap n * size_of line)) n
+
+abbrev pub add_internal : ℕ → List ℕ → ℕ
+add_internal n line = cap (n + one (is_internal line))
+
+abbrev pub add_action : ℕ → ℕ → ℕ → List ℕ → ℕ
+add_action k a n line = cap (n + one (has_action k a line))
+
+abbrev pub add_clash : ℕ → ℕ → ℕ → List ℕ → ℕ
+add_clash a s n line = cap (n + one (clashes a s line))
+
+unfoldable pub gathered : (ℕ → List ℕ → ℕ) → ℕ → List (List ℕ) → ℕ
+gathered by n [] = n
+gathered by n (line ∷ lines) = gathered by (by n line) lines
 
 -- a count that a field can be
 abbrev pub small : ℕ → ℕ
@@ -71,23 +82,23 @@ shows2 last line = not (is_line line) || last
 
 abbrev pub shows3 : List (List ℕ) → List ℕ → Bool
 shows3 earlier line =
-    let n = gathered ask.Fields 0 earlier in
+    let n = gathered add_fields 0 earlier in
     ltb max_line_fields (length line) || (leb n max_fields && ltb max_fields (cap (n + length line)))
 
 abbrev pub shows4 : List (List ℕ) → List ℕ → Bool
 shows4 earlier line =
     let e = entry_of whole_text line in
-    (ltb e.rank (gathered ask.LastRank 0 earlier) || leb e.most (gathered (ask.Rank e.rank) 0 earlier))
+    (ltb e.rank (gathered the_rank 0 earlier) || leb e.most (gathered (add_rank e.rank) 0 earlier))
     || not (length_fits whole_text line)
 
 abbrev pub shows5 : List (List ℕ) → List ℕ → Bool
 shows5 earlier line =
-    let n = gathered ask.States 1 earlier in
+    let n = gathered times_size 1 earlier in
     not (numbers_fit line) || (eqb (kind_of line) 1 && (leb n max_states && ltb max_states (cap (cap n * size_of line))))
 
 abbrev pub shows6 : List (List ℕ) → List ℕ → Bool
 shows6 lines line =
-    not (line_test (small (gathered (ask.Rank 1) 0 lines)) (small (gathered (ask.Rank 2) 0 lines)) (small (gathered ask.Internal 0 lines)) line)
+    not (line_test (small (gathered (add_rank 1) 0 lines)) (small (gathered (add_rank 2) 0 lines)) (small (gathered add_internal 0 lines)) line)
 
 -- the data after a condition of n parameters is `0 0`
 abbrev pub bare_by : ℕ → List ℕ → Bool
@@ -100,9 +111,9 @@ shows7 lines earlier line =
     let k = kind_of line in
     let a = action_of line in
     cond (eqb k 3)
-    (cond (eqb a 0) (not (bare_by (small (gathered (ask.Rank 1) 0 lines)) (drop 3 line))) (ltb 0 (gathered (ask.Action 3 a) 0 earlier)))
+    (cond (eqb a 0) (not (bare_by (small (gathered (add_rank 1) 0 lines)) (drop 3 line))) (ltb 0 (gathered (add_action 3 a) 0 earlier)))
     (cond (eqb k 4)
-    (eqb a 0 || (ltb 0 (gathered (ask.Action 4 a) 0 earlier) || ltb 0 (gathered (ask.Clash a (span_of line)) 0 lines)))
+    (eqb a 0 || (ltb 0 (gathered (add_action 4 a) 0 earlier) || ltb 0 (gathered (add_clash a (span_of line)) 0 lines)))
     false)
 
 -- of the fault with this number, for a line's bytes: the text, what is before the line, and whether the text ends with it

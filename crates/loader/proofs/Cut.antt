@@ -9,7 +9,10 @@ use lib.Dec.{ltb}
 use lib.ListN.{length, take, length-take}
 use lib.Seq.{take_all}
 use Rattle.reader.specs.Text.{columns_fault}
-use Rattle.loader.specs.Load.{fault_of, refused_by, loaded_of}
+use Rattle.std.specs.Prelude.{Err}
+use Rattle.verdicts.specs.declared.Fault.TheVariants.{TooLong}
+use Rattle.verdicts.specs.Refusals.{fault_by}
+use Rattle.loader.specs.Load.{fault_of, loaded_of}
 
 -- what is one and the same for every text over the limit goes by the first 28,673 bytes
 pub by_start : {A : Type 0} (f : List ℕ → A) (a : A) → ((text : List ℕ) → 28672 < length text → f text ≡ a)
@@ -30,9 +33,9 @@ fault_long text h = rw (lt-ltb 28672 (length text) h)
 pub fault_cut : (text : List ℕ) → fault_of (take 28673 text) ≡ fault_of text
 fault_cut text = by_start fault_of 1 fault_long text
 
-loaded_long : (text : List ℕ) → 28672 < length text → loaded_of text ≡ refused_by 1
-unfolding loaded_of
+loaded_long : (text : List ℕ) → 28672 < length text → loaded_of text ≡ Err TooLong
+unfolding loaded_of fault_by
 loaded_long text h = rw (fault_long text h)
 
 pub loaded_cut : (text : List ℕ) → loaded_of (take 28673 text) ≡ loaded_of text
-loaded_cut text = by_start loaded_of (refused_by 1) loaded_long text
+loaded_cut text = by_start loaded_of (Err TooLong) loaded_long text

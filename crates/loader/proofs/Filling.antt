@@ -9,22 +9,15 @@ use lib.ListN.{length, get_or, set, take, drop, length-drop}
 use lib.Seq.{sets, drop-drop}
 use Rattle.reader.specs.Line.{field_there, fields_of, next_at}
 use Rattle.reader.specs.Text.{fields_by_line, count_all, columns_fault}
-use Rattle.columns.specs.declared.Field.{Field}
-use Rattle.columns.specs.declared.Field.TheVariants.{Number, Malformed}
+use Rattle.std.specs.Prelude.{Some, None}
 use Rattle.reader.proofs.Line.{first_field, no_field, next_moved}
 use Rattle.reader.proofs.Turns.{count_turn}
 use Rattle.reader.proofs.Faults.{columns_free, most_in_all}
 use Rattle.design.specs.Loaded.{joined, starts_from}
 use Rattle.design.specs.Tests.{each_line_is}
 use Rattle.design.proofs.Loaded.{sets_append}
-use Rattle.loader.specs.Filled.{Filled, stored}
+use Rattle.loader.specs.Filled.{Filled}
 use Rattle.loader.proofs.Places.{AtLine, at_first, at_end, at_next, more_lines, these, part_fields, line_fields, next_within}
-
-pub copy_start : (into vs : List ℕ) (to : ℕ) → sets into (to + 0) vs ≡ sets into to vs
-copy_start into vs to = let e : to + 0 ≡ to = omega arith in rw e
-
-pub number_stored : (into : List ℕ) (at n : ℕ) (f : Field) → f ≡ Number n → set into at n ≡ stored into at f
-number_stored into at n f e = rw e
 
 -- ---- the fields of a part: k of them are stored, from `to` on
 
@@ -32,18 +25,18 @@ module _ (bytes into whole : List ℕ) (to k : ℕ) (inv : sets into (to + k) (f
   later : drop 6 (drop (6 * k) bytes) ≡ drop (6 * (k + 1)) bytes
   later = let e : 6 * k + 6 ≡ 6 * (k + 1) = omega arith in drop-drop 6 (6 * k) bytes ∙ ap (λ (j : ℕ). drop j bytes) e
 
-  pub copy_stop : field_there bytes k ≡ Malformed → into ≡ whole
+  pub copy_stop : field_there bytes k ≡ None → into ≡ whole
   copy_stop e = rw (no_field (drop (6 * k) bytes) e) at inv
 
-  pub copy_turn : (n : ℕ) → field_there bytes k ≡ Number n
-      → sets (stored into (to + k) (field_there bytes k)) (to + next_at bytes k) (fields_of (drop (6 * next_at bytes k) bytes)) ≡ whole
+  pub copy_turn : (n : ℕ) → field_there bytes k ≡ Some n
+      → sets (set into (to + k) n) (to + next_at bytes k) (fields_of (drop (6 * next_at bytes k) bytes)) ≡ whole
   copy_turn n e =
       let next : to + (k + 1) ≡ suc (to + k) = omega arith in
-      rw (next_moved bytes k n e, e, next) (rw (first_field (drop (6 * k) bytes) n e, later) at inv)
+      rw (next_moved bytes k n e, next) (rw (first_field (drop (6 * k) bytes) n e, later) at inv)
 
 -- there is room for one more
 pub copy_place : (bytes : List ℕ) (to k : ℕ) → k + length (fields_of (drop (6 * k) bytes)) ≡ length (fields_of bytes) → to + length (fields_of bytes) ≤ 4096
-    → (n : ℕ) → field_there bytes k ≡ Number n → to + k < 4096
+    → (n : ℕ) → field_there bytes k ≡ Some n → to + k < 4096
 copy_place bytes to k inv fit n e = omega (arith, count_turn bytes k inv n e, next_moved bytes k n e)
 
 -- ---- filling: k lines are stored, `to` fields

@@ -1,23 +1,30 @@
 -- What `loader::load` returns where its search ends: a fault of the columns, too many lines, a fault of the lines, or none.
 use Prim.Native.Nat.{ℕ, ◌+◌, ◌≤◌, ◌<◌}
 use mathlib.Core.Path.{◌≡◌, sym, ap, ◌∙◌}
-use mathlib.Core.Logic.{◌≢◌}
 use mathlib.Core.List.{List, []}
 use native.Mathlib.Omega.{arith}
 use borrow.Author.Tests.{ne_eqb}
-use lib.ListN.{length, replicate, length-append}
+use lib.ListN.{length, length-append}
 use Rattle.foundation.proofs.Reflects.{is_not}
 use Rattle.reader.specs.Text.{fields_by_line, columns_fault}
 use Rattle.reader.proofs.Faults.{columns_free, most_in_all}
 use Rattle.kinds.specs.Kinds.{whole_text}
 use Rattle.design.specs.Lines.{of_kind, counts_of}
-use Rattle.design.specs.Loaded.{held_lines, fields_held, starts_held}
+use Rattle.design.specs.Loaded.{joined, starts_from, held_lines, fields_held, starts_held}
 use Rattle.design.specs.declared.Counts.{Counts}
 use Rattle.design.proofs.Fault4.{Layout, by_layout, layout_of}
 use Rattle.design.proofs.WholeText.{in_order, counted}
 use Rattle.design.proofs.Loaded.{lines_held}
+use Rattle.layout.specs.Lines.{no_lines}
+use Rattle.layout.specs.declared.Lines.{Lines}
+use Rattle.std.proofs.lemmas.List.Edits.{sets}
 use Rattle.loader.specs.Filled.{Filled}
-use Rattle.loader.specs.Load.{table_fault, fault_of, refused_by, loaded_of, Holds}
+use Rattle.verdicts.specs.declared.Fault.{Fault}
+use Rattle.verdicts.specs.declared.Fault.TheVariants as fault
+use Rattle.verdicts.specs.Refusals.{fault_number, fault_found}
+use Rattle.verdicts.proofs.Refusals.{of_its_number, number_is_some}
+use Rattle.std.specs.Prelude.{Result, Ok, Err, IsErrAnd, ⊤}
+use Rattle.loader.specs.Load.{table_fault, fault_of, loaded_of, Holds}
 use Rattle.loader.specs.declared.Loaded.{Loaded}
 
 -- ---- lines without fault 4 are at most 84
@@ -58,32 +65,37 @@ many_lines lines h =
 
 -- ---- the search ends
 
+passed_on : (f : Fault) (r : Result Loaded Fault) → IsErrAnd r (λ (x : Fault). x ≡ f) → r ≡ Err f
+passed_on f (Err x) e = ap Err e
+passed_on f (Ok l) e = absurd e
+
 module _ (text : List ℕ) where
-  turned_down : (k : ℕ) → k ≢ 0 → fault_of text ≡ k → (r : Loaded) → r ≡ refused_by k → r ≡ loaded_of text
+  -- a fault that is the text's lowest
+  turned_down : (f : Fault) → fault_of text ≡ fault_number f → Err f ≡ loaded_of text
   unfolding loaded_of
-  turned_down k z e r er = rw (e, ne_eqb k 0 z) er
+  turned_down f e = rw (e, ne_eqb (fault_number f) 0 (number_is_some f), of_its_number f)
 
-  module _ (k : ℕ) (ek : k ≡ columns_fault text) where
-    pub load_columns : k ≢ 0 → (r : Loaded) → r ≡ refused_by k → r ≡ loaded_of text
+  module _ (c : Result ⊤ Fault) (ec : fault_found c ≡ columns_fault text) where
+    pub load_columns : (f : Fault) → c ≡ Err f → (r : Result Loaded Fault) → IsErrAnd r (λ (x : Fault). x ≡ f) → r ≡ loaded_of text
     unfolding fault_of
-    load_columns z r er = turned_down k z (rw (← ek, ne_eqb k 0 z)) r er
+    load_columns f e r er = passed_on f r er ∙ let n : columns_fault text ≡ fault_number f = sym ec ∙ ap fault_found e in turned_down f (rw (n, ne_eqb (fault_number f) 0 (number_is_some f)))
 
-    module _ (ok : k ≡ 0) where
+    module _ (u : ⊤) (ok : c ≡ Ok u) where
       pub free : columns_fault text ≡ 0
-      free = sym ek ∙ ok
+      free = sym ec ∙ ap fault_found ok
 
       fault_is : fault_of text ≡ table_fault (fields_by_line text)
       unfolding fault_of
       fault_is = rw free
 
-      module _ (n : ℕ) (fields starts : List ℕ) (f : Filled (fields_by_line text) (replicate 4096 0) (replicate 85 0) n fields starts) where
+      module _ (n : ℕ) (fields starts : List ℕ) (z : Lines) (ez : z ≡ no_lines) (f : Filled (fields_by_line text) z.fields z.starts n fields starts) where
         too_many : 84 < n → 84 < length (fields_by_line text)
         too_many h =
             let g : length (fields_by_line text) ≤ 84 → ⊥ = λ l. let e = f.few l in omega arith in
             omega arith
 
-        pub load_many : 84 < n → (r : Loaded) → r ≡ refused_by 4 → r ≡ loaded_of text
-        load_many h r er = turned_down 4 (λ z. omega arith) (fault_is ∙ many_lines (fields_by_line text) (too_many h)) r er
+        pub load_many : 84 < n → Err fault.Layout ≡ loaded_of text
+        load_many h = turned_down fault.Layout (fault_is ∙ many_lines (fields_by_line text) (too_many h))
 
         module _ (h : n ≤ 84) where
           not_many : length (fields_by_line text) ≤ 84
@@ -91,24 +103,24 @@ module _ (text : List ℕ) where
 
           fields_are : fields ≡ fields_held (fields_by_line text)
           unfolding fields_held
-          fields_are = f.fields_held_lem not_many
+          fields_are = f.fields_held_lem not_many ∙ ap (λ l. sets l.fields 0 (joined (fields_by_line text))) ez
 
           starts_are : starts ≡ starts_held (fields_by_line text)
           unfolding starts_held
-          starts_are = f.starts_held_lem not_many
+          starts_are = f.starts_held_lem not_many ∙ ap (λ l. sets l.starts 0 (starts_from 0 (fields_by_line text))) ez
 
-          module _ (c : Counts) (ec : c ≡ counts_of (held_lines fields starts n)) where
-            counts_are : c ≡ counts_of (fields_by_line text)
+          module _ (d : Counts) (ed : d ≡ counts_of (held_lines fields starts n)) where
+            counts_are : d ≡ counts_of (fields_by_line text)
             counts_are =
-                ec ∙ rw (fields_are, starts_are, f.few not_many) (ap counts_of (lines_held (fields_by_line text) not_many (most_in_all text (columns_free text free).third)))
+                ed ∙ rw (fields_are, starts_are, f.few not_many) (ap counts_of (lines_held (fields_by_line text) not_many (most_in_all text (columns_free text free).third)))
 
-            pub holds : Holds text fields starts n c
+            pub holds : Holds text fields starts n d
             holds = record { free = free; fields_held_lem = fields_are; starts_held_lem = starts_are; lines_all = f.few not_many; few = h; counts_all = counts_are }
 
-            module _ (t : ℕ) (et : t ≡ table_fault (fields_by_line text)) where
-              pub load_table : t ≢ 0 → (r : Loaded) → r ≡ refused_by t → r ≡ loaded_of text
-              load_table z r er = turned_down t z (fault_is ∙ sym et) r er
+            module _ (t : Result ⊤ Fault) (et : fault_found t ≡ table_fault (fields_by_line text)) where
+              pub load_table : (f : Fault) → t ≡ Err f → (r : Result Loaded Fault) → IsErrAnd r (λ (x : Fault). x ≡ f) → r ≡ loaded_of text
+              load_table f e r er = passed_on f r er ∙ turned_down f (fault_is ∙ (sym et ∙ ap fault_found e))
 
-              pub load_done : t ≡ 0 → record { fault = 0; fields = fields; starts = starts; counts = c } ≡ loaded_of text
+              pub load_done : (v : ⊤) → t ≡ Ok v → ◌≡◌ {A = Result Loaded Fault} (Ok (record { lines = record { fields = fields; starts = starts }; counts = d })) (loaded_of text)
               unfolding loaded_of
-              load_done z = rw (fault_is, ← et, z, ← fields_are, ← starts_are, ← counts_are)
+              load_done v e = rw (fault_is, ← et, e, ← fields_are, ← starts_are, ← counts_are)

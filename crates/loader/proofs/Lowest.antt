@@ -146,3 +146,6 @@ free_settled (free b) d = refl
 -- a text gets no fault exactly if it is a design text
 pub free_exactly : (t : List ℕ) → (fault_of t ≡ 0) ↔ DesignText t
 free_exactly t = (settled_free (settled t), free_settled (settled t))
+
+pub fault_at_most : (t : List ℕ) → fault_of t ≢ 0 → fault_of t ≤ 7
+fault_at_most t z = (fault_number (found (lowest_fault t z))).1

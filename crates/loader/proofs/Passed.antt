@@ -1,7 +1,7 @@
 -- Of a text that is loaded: its lines stand in order and are made of their terms, so the arrays hold its design (`design_in_lem`), and its lines
 -- are the printing of its design (`lines_printed`).
 use Prim.Native.Nat.{ℕ, ◌≤◌}
-use mathlib.Core.Path.{◌≡◌, refl, sym}
+use mathlib.Core.Path.{◌≡◌, refl, sym, ap, ◌∙◌}
 use mathlib.Core.Bool.{Bool, true, false, cond}
 use mathlib.Core.List.{List}
 use native.Mathlib.Omega.{arith}
@@ -26,9 +26,14 @@ use Rattle.design.proofs.Reprinted.{lines_again}
 use Rattle.layout.specs.Sizes.{counts_fit}
 use Rattle.line_check.proofs.LineFits.{by_line}
 use Rattle.action_check.specs.ActionsFit.{actions_fit}
-use Rattle.loader.specs.Load.{line_test, terms_fit_all, table_fault, fault_of, loaded_of}
+use Rattle.std.specs.Prelude.{Result, Ok, Err}
+use Rattle.verdicts.specs.declared.Fault.{Fault}
+use Rattle.verdicts.specs.Refusals.{fault_number, fault_found}
+use Rattle.verdicts.proofs.Refusals.{its_number}
+use Rattle.loader.specs.declared.Loaded.{Loaded}
+use Rattle.loader.specs.Load.{line_test, terms_fit_all, table_fault, fault_of, held_by, loaded_of}
 use Rattle.loader.proofs.Loading.{few_lines}
-use Rattle.loader.proofs.Lowest.{free_exactly}
+use Rattle.loader.proofs.Lowest.{free_exactly, fault_at_most}
 use Rattle.loader.proofs.Admitted.{text_admitted}
 
 -- no fault is given: each test passed
@@ -42,6 +47,13 @@ tests_by true true true false h = absurd (omega arith)
 tests_by true true false d h = absurd (omega arith)
 tests_by true false c d h = absurd (omega arith)
 tests_by false b c d h = absurd (omega arith)
+
+ok_is : {l k : Loaded} → ◌≡◌ {A = Result Loaded Fault} (Ok l) (Ok k) → l ≡ k
+ok_is {l} e = ap (λ (r : Result Loaded Fault). loaded_or l r) e
+  where
+    loaded_or : Loaded → Result Loaded Fault → Loaded
+    loaded_or x (Ok y) = y
+    loaded_or x (Err f) = x
 
 module _ (text : List ℕ) (ok : fault_of text ≡ 0) where
   abbrev lines : List (List ℕ)
@@ -85,10 +97,22 @@ module _ (text : List ℕ) (ok : fault_of text ≡ 0) where
   counts_allowed_lem = let q = counted lay in rw (le-leb _ 8 q.kind1.1, le-leb _ 8 q.kind2.1, le-leb _ 32 q.kind3, le-leb _ 32 q.kind4, le-leb _ 1 q.kind8)
 
 -- the fault is told
-pub fault_kept : (text : List ℕ) → (loaded_of text).fault ≡ fault_of text
+pub fault_kept : (text : List ℕ) → fault_found (loaded_of text) ≡ fault_of text
 unfolding loaded_of
 fault_kept text = go (eqb (fault_of text) 0) refl
   where
-    go : (b : Bool) → eqb (fault_of text) 0 ≡ b → (loaded_of text).fault ≡ fault_of text
+    go : (b : Bool) → eqb (fault_of text) 0 ≡ b → fault_found (loaded_of text) ≡ fault_of text
     go true e = rw e (sym (eqb-true (fault_of text) 0 e))
-    go false e = rw e
+    go false e = let z = eqb-false (fault_of text) 0 e in rw e (its_number (fault_of text) z (fault_at_most text z))
+
+-- what a text comes to, read off: its fault, or no fault and its lines
+module _ (text : List ℕ) (r : Result Loaded Fault) (er : r ≡ loaded_of text) where
+  pub fault_is : fault_of text ≡ fault_found r
+  fault_is = sym (rw er (fault_kept text))
+
+  pub of_err : (f : Fault) → r ≡ Err f → fault_of text ≡ fault_number f
+  of_err f e = fault_is ∙ ap fault_found e
+
+  pub of_ok : (l : Loaded) → r ≡ Ok l → (fault_of text ≡ 0) × (l ≡ held_by (fields_by_line text))
+  unfolding loaded_of
+  of_ok l e = let z : fault_of text ≡ 0 = fault_is ∙ ap fault_found e in (z, ok_is (sym e ∙ (er ∙ rw z)))

@@ -1,8 +1,10 @@
--- What loading a text comes to: its lowest fault, or 0 and the arrays that hold its lines.
+-- What loading a text comes to: its lowest fault, or the arrays that hold its lines.
 -- The faults are said in design/specs/Faults; here they are tests, in the order of their numbers, and the first one found is the
 -- lowest anywhere in the text (proofs/Lowest).
-use Rattle.std.specs.Prelude.{ℕ, ◌≤◌, ◌≡◌, Bool, cond, List, eqb, length, replicate}
-use Rattle.limits.specs.Limits.{max_fields, max_lines, line_starts}
+use Rattle.std.specs.Prelude.{ℕ, ◌≤◌, ◌≡◌, Bool, cond, List, eqb, length, Result, Ok, Err}
+use Rattle.limits.specs.Limits.{max_lines}
+use Rattle.verdicts.specs.declared.Fault.{Fault}
+use Rattle.verdicts.specs.Refusals.{fault_by}
 use Rattle.reader.specs.Text.{fields_by_line, columns_fault}
 use Rattle.kinds.specs.Kinds.{whole_text}
 use Rattle.design.specs.Lines.{kind_of, count_of, counts_of, internal_of, design_of}
@@ -35,21 +37,13 @@ table_fault lines =
 unfoldable pub fault_of : List ℕ → ℕ
 fault_of text = cond (eqb (columns_fault text) 0) (table_fault (fields_by_line text)) (columns_fault text)
 
--- a fault, and nothing in the arrays
-abbrev pub refused_by : ℕ → Loaded
-refused_by k = record {
-  fault = k;
-  fields = replicate max_fields 0;
-  starts = replicate line_starts 0;
-  counts = record { kind1 = 0; kind2 = 0; kind3 = 0; kind4 = 0; kind8 = 0 };
-}
-
--- no fault, and the lines in the arrays
+-- the lines in the arrays
 abbrev pub held_by : List (List ℕ) → Loaded
-held_by lines = record { fault = 0; fields = fields_held lines; starts = starts_held lines; counts = counts_of lines }
+held_by lines = record { lines = record { fields = fields_held lines; starts = starts_held lines }; counts = counts_of lines }
 
-unfoldable pub loaded_of : List ℕ → Loaded
-loaded_of text = cond (eqb (fault_of text) 0) (held_by (fields_by_line text)) (refused_by (fault_of text))
+-- no fault, and the lines in the arrays; or the lowest fault
+unfoldable pub loaded_of : List ℕ → Result Loaded Fault
+loaded_of text = cond (eqb (fault_of text) 0) (Ok (held_by (fields_by_line text))) (Err (fault_by (fault_of text)))
 
 -- arrays that hold a text's lines, as far as the code knows when it looks for faults 4 to 7
 pub record Holds (text fields starts : List ℕ) (n : ℕ) (c : Counts) : Type 0 where

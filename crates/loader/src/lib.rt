@@ -3,111 +3,75 @@
 // that the first one found so is the lowest anywhere in the text is in proofs/Lowest.
 #![tactic(auto)]
 
-ghost use Rattle.std.specs.Prelude.{◌≡◌, ◌+◌, ◌<◌, ◌≤◌, length};
+ghost use Rattle.std.specs.Prelude.{◌≡◌, ◌+◌, ◌≤◌, length};
 ghost use Rattle.std.proofs.lemmas.List.Edits.{sets};
 ghost use Rattle.reader.specs.Line.{fields_of};
 ghost use Rattle.reader.specs.Text.{fields_by_line, columns_fault};
 ghost use Rattle.design.specs.Lines.{kind_of};
 ghost use Rattle.design.specs.Tests.{each_line_is};
-ghost use Rattle.loader.specs.Filled.{Filled, stored};
+ghost use Rattle.loader.specs.Filled.{Filled};
 ghost use Rattle.layout.specs.Sizes.{shape_of};
-ghost use Rattle.loader.specs.Load.{line_test, internal_with, table_fault, loaded_of, refused_by, Holds};
+ghost use Rattle.verdicts.specs.Refusals.{fault_found};
+ghost use Rattle.loader.specs.Load.{line_test, internal_with, table_fault, loaded_of, Holds};
 
-use columns::Field;
 use design::Counts;
+use layout::Lines;
 use reader::LineReader;
+use verdicts::Fault;
 
-// A text's fault, or 0; then the arrays hold the text's lines.
+// A text's lines in the arrays, and how many there are of each kind.
 #[derive(Clone, Copy)]
 pub struct Loaded {
-    pub fault: u16,
-    pub fields: limits::Fields,
-    pub starts: limits::Starts,
+    pub lines: Lines,
     pub counts: Counts,
 }
 
-// The lowest fault of a text, or the arrays that hold it.
-pub fn load(text: &[u8]) -> Loaded
+// The arrays that hold a text, or its lowest fault.
+pub fn load(text: &[u8]) -> Result<Loaded, Fault>
     ensures { result ≡ loaded_of text.now }
 {
-    let fault = text_check::columns_fault(text);
-    if fault != 0 {
-        return refused(fault);
+    text_check::columns_fault(text)?;
+    let mut lines = Lines::none();
+    let n = fill(text, &mut lines.fields, &mut lines.starts);
+    if limits::MAX_LINES < n {
+        return Err(Fault::Layout);
     }
-    let mut fields = [0u16; limits::MAX_FIELDS];
-    let mut starts = [0u16; limits::STARTS];
-    let lines = fill(text, &mut fields, &mut starts);
-    if limits::MAX_LINES < lines {
-        return refused(4);
-    }
-    let counts = table_check::counts_of(&fields, &starts, lines);
-    let fault = table_fault(text, &fields, &starts, lines, counts);
-    if fault != 0 {
-        return refused(fault);
-    }
-    Loaded {
-        fault: 0,
-        fields,
-        starts,
-        counts,
-    }
+    let counts = table_check::counts_of(&lines.fields, &lines.starts, n);
+    table_fault(text, &lines, n, counts)?;
+    Ok(Loaded { lines, counts })
 }
 
-// Nothing is loaded.
-fn refused(fault: u16) -> Loaded
-    ensures { result ≡ refused_by fault }
+// The lowest of the faults 4 to 7.
+fn table_fault(text: &[u8], lines: &Lines, n: usize, counts: Counts) -> Result<(), Fault>
+    requires { Holds text.now lines.now.fields lines.now.starts n counts }
+    ensures { fault_found result ≡ table_fault (fields_by_line text.now) }
 {
-    Loaded {
-        fault,
-        fields: [0u16; limits::MAX_FIELDS],
-        starts: [0u16; limits::STARTS],
-        counts: Counts {
-            kind1: 0,
-            kind2: 0,
-            kind3: 0,
-            kind4: 0,
-            kind8: 0,
-        },
+    if !table_check::layout_fits(&lines.fields, &lines.starts, n) {
+        return Err(Fault::Layout);
     }
-}
-
-// The lowest of the faults 4 to 7, or 0.
-fn table_fault<'a>(
-    text: &'a [u8],
-    fields: &'a limits::Fields,
-    starts: &'a limits::Starts,
-    lines: usize,
-    counts: Counts,
-) -> u16
-    requires { Holds text.now fields.now starts.now lines counts }
-    ensures { result ≡ table_fault (fields_by_line text.now) }
-{
-    if !table_check::layout_fits(fields, starts, lines) {
-        return 4;
+    if !table_check::numbers_fit(&lines.fields, &lines.starts, n) {
+        return Err(Fault::Bounds);
     }
-    if !table_check::numbers_fit(fields, starts, lines) {
-        return 5;
+    if limits::MAX_STATES < lines.state_count(counts) {
+        return Err(Fault::Bounds);
     }
-    if limits::MAX_STATES < layout::state_count(fields, starts, counts) {
-        return 5;
-    }
-    let internal = internal_rows(fields, starts, counts);
+    let internal = internal_rows(lines, counts);
     if !terms_fit(text, counts.kind1 as u16, counts.kind2 as u16, internal) {
-        return 6;
+        return Err(Fault::Terms);
     }
-    if !action_check::actions_fit(fields, starts, counts) {
-        return 7;
+    if !action_check::actions_fit(lines, counts) {
+        return Err(Fault::Actions);
     }
-    0
+    Ok(())
 }
 
 // How many rows of the implementation are internal, where the lines are so many.
-fn internal_rows<'a>(fields: &'a limits::Fields, starts: &'a limits::Starts, counts: Counts) -> u16
-    ensures { result ≡ internal_with fields.now starts.now (shape_of counts) }
+fn internal_rows(lines: &Lines, counts: Counts) -> u16
+    ensures { result ≡ internal_with lines.now.fields lines.now.starts (shape_of counts) }
 {
     let shape = layout::shape_of(counts);
     let rows = shape.implementation.rows.count as u16;
-    marks::internal_rows(fields, starts, shape.implementation, rows)
+    marks::internal_rows(lines, shape.implementation, rows)
 }
 
 // Whether each line is the terms of its kind, where n lines are of kind 1 and m of kind 2, and i rows are internal.
@@ -139,11 +103,7 @@ fn line_terms_fit(line: &[u8], n: u16, m: u16, i: u16) -> bool
 fn kind_of(line: &[u8]) -> u16
     ensures { result ≡ kind_of (fields_of line.now) }
 {
-    let first = reader::field_at(line, 0);
-    let Field::Number(kind) = first else {
-        return 0;
-    };
-    kind
+    reader::field_at(line, 0).unwrap_or(0)
 }
 
 // The fields of a text's lines one after the other, and where each line starts; how many lines there are, or one more than
@@ -155,6 +115,7 @@ fn fill(text: &[u8], fields: &mut limits::Fields, starts: &mut limits::Starts) -
     let mut at = 0;
     let mut to = 0;
     let mut lines = 0;
+    // Where a line starts is what is stored, and lines are of unequal length: a `for` over them would count both, and be no plainer.
     while at < text.len() {
         if limits::MAX_LINES <= lines {
             return limits::MAX_LINES + 1;
@@ -178,21 +139,10 @@ fn copy_fields(part: &[u8], fields: &mut limits::Fields, to: usize) -> usize
     let mut reader = LineReader::new(part);
     loop {
         let next = reader.next();
-        if next.reader.at == reader.at {
+        let Some(n) = next.field else {
             return reader.at;
-        }
-        store(fields, to + reader.at, next.field);
+        };
+        fields[to + reader.at] = n;
         reader = next.reader;
     }
-}
-
-// A field's number into the array, at a place.
-fn store(fields: &mut limits::Fields, at: usize, field: Field)
-    requires { at < 4096 }
-    ensures { fields.new ≡ stored fields.old at field }
-{
-    let Field::Number(n) = field else {
-        return;
-    };
-    fields[at] = n;
 }

@@ -14,8 +14,7 @@ use lib.ListN.{get_or, length, length-set, set}
 use lib.Seq.{get_or-set_same, get_or-set_other}
 use Rattle.marked_edges.specs.Edges.{edges}
 use Rattle.longest_runs.specs.Runs.{Run, stay, more, OnLoop, LongestIs, KeptPast, Written, longest, loop}
-use Rattle.longest_runs.specs.declared.Lengths.{Lengths}
-use Rattle.longest_runs.specs.declared.Lengths.TheVariants as lengths
+use Rattle.std.specs.Prelude.{Result, Ok, Err}
 use Rattle.longest_runs.proofs.Counted.{Change, unseen, unseen_most, unseen_less}
 use Rattle.longest_runs.proofs.Kept.{kept_none}
 use Rattle.longest_runs.proofs.Runs.{RunOf, run_then}
@@ -172,7 +171,7 @@ module _ (next : ℕ → ℕ → ℕ) (n : ℕ) where
 
   pub record WrittenFrom (before : List ℕ) : Type 0 where
     pub after : List ℕ
-    pub answer : Lengths
+    pub answer : Result (Unit {0}) ℕ
     pub is : Written next n before after answer
 
   pub written_there : (before : List ℕ) → n ≤ length before → WrittenFrom before
@@ -182,7 +181,7 @@ module _ (next : ℕ → ℕ → ℕ) (n : ℕ) where
       go (inl f) =
           let o = comes_back f.is.run f.below (λ _. 0) (unseen_most (λ _. 0) n) (λ u seen. absurd (omega arith)) in
           let p = place (λ s l. l ≡ 0) n before fits (λ s h. (0, refl)) in
-          record { after = p.after; answer = lengths.Loop o.0; is = loop o.0 p.kept p.good o.1.0 o.1.1 }
+          record { after = p.after; answer = Err o.0; is = loop o.0 p.kept p.good o.1.0 o.1.1 }
       go (inr o) =
           let p = place (LongestIs next n) n before fits (λ s h. longest_below s h n (omega arith) (λ l b r. o s h (begins_with r.run n b))) in
-          record { after = p.after; answer = lengths.Longest; is = longest p.kept p.good }
+          record { after = p.after; answer = Ok tt; is = longest p.kept p.good }

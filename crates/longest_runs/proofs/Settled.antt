@@ -4,8 +4,7 @@ use Prim.Native.Nat.{ℕ, ◌+◌, ◌<◌, ◌≤◌, max}
 use native.Mathlib.Omega.{arith}
 use native.Mathlib.Decide.{ℕ_discrete, dec_lt}
 use Rattle.marked_edges.specs.Edges.{edges}
-use Rattle.longest_runs.specs.Search.{done, Attained, nothing, by_step, SettledTo, Seen, all_seen}
-use Rattle.longest_runs.specs.declared.Sight.{Sight}
+use Rattle.longest_runs.specs.Search.{done, Attained, nothing, by_step, SettledTo, Seen}
 
 module _ (next : ℕ → ℕ → ℕ) (n : ℕ) (m v : ℕ → ℕ) (s : ℕ) where
   attained_on : (k e b : ℕ) → k ≤ e → Attained next n v s k b → Attained next n v s e b
@@ -60,12 +59,11 @@ module _ (next : ℕ → ℕ → ℕ) (n : ℕ) (m v : ℕ → ℕ) (s : ℕ) wh
       one (yes l) = let e : b' ≡ b = omega arith in rw e (attained_on k (k + 1) b (omega arith) g.attained)
       one (no l) = let z : v (next s k) ≡ v t = ap v (there k refl) in by_step k (omega arith) (rw (← to) inside) (omega arith)
 
-  pub seen_all : (b : ℕ) (r : Sight) → s < n → r ≡ all_seen b → SettledTo next n m v s edges b → Seen next n m v s r.edge r.best r.to
-  seen_all b r h e g =
-      rw e
-      (record {
+  pub seen_all : (b : ℕ) → s < n → SettledTo next n m v s edges b → Seen next n m v s edges b 0
+  seen_all b h g =
+      record {
         settled = g;
         inside = omega arith;
         leads = λ l. absurd (omega arith);
         not_done = λ l. absurd (omega arith);
-      })
+      }

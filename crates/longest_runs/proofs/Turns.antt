@@ -1,5 +1,5 @@
 -- The turns of the search's loop over the arrays: what holds between two turns, what each leaves, and that less is left to do.
-use mathlib.Core.Path.{◌≡◌, ◌∙◌}
+use mathlib.Core.Path.{◌≡◌, refl, ◌∙◌}
 use mathlib.Core.List.{List}
 use Prim.Native.Nat.{ℕ, ◌+◌, ◌-◌, ◌*◌, ◌<◌, ◌≤◌}
 use native.Mathlib.Omega.{arith}
@@ -8,9 +8,8 @@ use mir.Syntax.{w64}
 use mir.Val.{Fits}
 use Rattle.marked_edges.specs.Edges.{edges}
 use Rattle.longest_runs.specs.Runs.{Step, KeptPast, Written, longest, loop}
-use Rattle.longest_runs.specs.Search.{view, Cleared, Ready, Seen, Fresh}
-use Rattle.longest_runs.specs.declared.Lengths.{Lengths}
-use Rattle.longest_runs.specs.declared.Lengths.TheVariants.{Longest, Loop}
+use Rattle.longest_runs.specs.Search.{view, done, Cleared, Ready, Seen, Fresh}
+use Rattle.std.specs.Prelude.{Result, Ok, Err}
 use Rattle.longest_runs.proofs.Counted.{Change, put, unseen, unseen_kept, unseen_less}
 use Rattle.longest_runs.proofs.Kept.{kept_none, kept_then, kept_set}
 use Rattle.longest_runs.proofs.Underway.{Underway, at_first, root_passed, at_last, entered, finished, looked, step_left, closes}
@@ -58,14 +57,14 @@ search_begins next n out mark path b =
     }
 
 -- what the search writes on a slice that was cleared is written on the slice before
-pub filled_from : (next : ℕ → ℕ → ℕ) (n : ℕ) (before out after : List ℕ) (r : Lengths) → Cleared n before out → Written next n out after r
+pub filled_from : (next : ℕ → ℕ → ℕ) (n : ℕ) (before out after : List ℕ) (r : Result (Unit {0}) ℕ) → Cleared n before out → Written next n out after r
     → Written next n before after r
 filled_from next n before out after r c (longest k f) = longest (kept_then n before out after c.kept k) f
 filled_from next n before out after r c (loop s k z i o) = loop s (kept_then n before out after c.kept k) z i o
 
 module _ (next : ℕ → ℕ → ℕ) (n : ℕ) (before out mark path : List ℕ) (depth root : ℕ)
     (g : Searching next n before out mark path depth root) where
-  pub search_ends : depth ≡ 0 → root ≡ n → Written next n before out Longest
+  pub search_ends : depth ≡ 0 → root ≡ n → Written next n before out (Ok tt)
   search_ends e f =
       let u : Underway next n (view mark) (view path) (view out) 0 n = rw (e, f) at g.underway in
       longest g.kept (at_last next n (view mark) (view path) (view out) u)
@@ -187,14 +186,11 @@ module _ (next : ℕ → ℕ → ℕ) (n : ℕ) (before out mark path : List ℕ
 
       -- ---- the state that its next step leads to
 
-      module _ (more : edge ≡ edges → ⊥) where
-        left : edge < edges
-        left = let q = seen.settled.most in omega arith
-
+      module _ (left : edge < edges) where
         pub cleared_long : (after : List ℕ) → Cleared n out' after → length after ≡ length before
         cleared_long after c = c.kept.same_length ∙ out_kept.same_length
 
-        pub search_loops : (after : List ℕ) → (get_or mark' to 0 ≡ 0 → ⊥) → Cleared n out' after → Written next n before after (Loop to)
+        pub search_loops : (after : List ℕ) → (get_or mark' to 0 ≡ 0 → ⊥) → Cleared n out' after → Written next n before after (Err to)
         search_loops after b c =
             loop to (kept_then n before out' after out_kept c.kept) c.zeros seen.inside
             (closes next n (view mark) (view mark') (view path) (view out) (view out') (depth - 1) root s edge best to last seen marked raised
@@ -244,3 +240,11 @@ module _ (next : ℕ → ℕ → ℕ) (n : ℕ) (before out mark path : List ℕ
 
           pub push_less : work n (set mark' to 1) (depth + 1) root < work n mark depth root
           push_less = let u = fewer in omega arith
+
+    -- no step is left
+    module _ (best : ℕ) (seen : Seen next n (view mark) (view out) s edges best 0) where
+      pub all_finished : Searching next n before (set out s best) (set mark s done) path (depth - 1) root
+      all_finished = search_finishes edges best 0 seen refl
+
+      pub all_less : work n (set mark s done) (depth - 1) root < work n mark depth root
+      all_less = finish_less edges best 0 seen

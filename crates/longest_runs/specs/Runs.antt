@@ -1,10 +1,8 @@
 -- Longest runs and loops over steps by number: step k of state s leads to state `next s k`, and to none where that is no number below n.
 -- What is so of the first n places of a slice after `fill`. The words are those of criteria/specs/Step and Measure, over numbers; that they
 -- agree with these is in measure/proofs/Runs.
-use Rattle.std.specs.Prelude.{◌≡◌, List, ℕ, suc, ◌<◌, ◌≤◌, get_or, length}
+use Rattle.std.specs.Prelude.{◌≡◌, List, ℕ, suc, ◌<◌, ◌≤◌, get_or, length, Result, Ok, Err}
 use Rattle.marked_edges.specs.Edges.{edges}
-use Rattle.longest_runs.specs.declared.Lengths.{Lengths}
-use Rattle.longest_runs.specs.declared.Lengths.TheVariants.{Longest, Loop}
 
 -- a step from s to t
 pub record Step (next : ℕ → ℕ → ℕ) (n s t : ℕ) : Type 0 where
@@ -36,7 +34,7 @@ pub record KeptPast (n : ℕ) (before after : List ℕ) : Type 0 where
   pub same_length : length after ≡ length before
   pub past : (s : ℕ) → n ≤ s → get_or after s 0 ≡ get_or before s 0
 
--- what `fill` wrote
-pub data Written (next : ℕ → ℕ → ℕ) (n : ℕ) (before after : List ℕ) : Lengths → Type 0 where
-  longest : KeptPast n before after → ((s : ℕ) → s < n → LongestIs next n s (get_or after s 0)) → Written next n before after Longest
-  loop : (s : ℕ) → KeptPast n before after → ((t : ℕ) → t < n → get_or after t 0 ≡ 0) → s < n → OnLoop next n s → Written next n before after (Loop s)
+-- what `fill` wrote: the lengths, or zeros for a loop, on which state s is
+pub data Written (next : ℕ → ℕ → ℕ) (n : ℕ) (before after : List ℕ) : Result (Unit {0}) ℕ → Type 0 where
+  longest : KeptPast n before after → ((s : ℕ) → s < n → LongestIs next n s (get_or after s 0)) → Written next n before after (Ok tt)
+  loop : (s : ℕ) → KeptPast n before after → ((t : ℕ) → t < n → get_or after t 0 ≡ 0) → s < n → OnLoop next n s → Written next n before after (Err s)

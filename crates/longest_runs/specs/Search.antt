@@ -1,7 +1,7 @@
 -- What the functions of the search promise. A state s has a mark m s: 0 as long as the search has not come to it, `done` when all its steps
 -- are settled, else one more than the number of those that are; v s is the length of the longest run by these. A step is settled when it
 -- leads to a state that is done, or to none.
-use Rattle.std.specs.Prelude.{◌≡◌, List, ℕ, ◌+◌, ◌-◌, ◌<◌, ◌≤◌, get_or, length}
+use Rattle.std.specs.Prelude.{◌≡◌, List, ℕ, ◌+◌, ◌-◌, ◌<◌, ◌≤◌, get_or, length, MatchOption}
 use Rattle.design.specs.declared.Shape.{Shape}
 use Rattle.marked_edges.specs.Edges.{edges, next_in}
 use Rattle.longest_runs.specs.Runs.{KeptPast}
@@ -52,16 +52,18 @@ pub record Seen (next : ℕ → ℕ → ℕ) (n : ℕ) (m v : ℕ → ℕ) (s ed
   pub leads : edge < edges → to ≡ next s edge
   pub not_done : edge < edges → m to ≡ done → ⊥
 
+-- a step is left
+pub record StepLeft (next : ℕ → ℕ → ℕ) (n : ℕ) (m v : ℕ → ℕ) (s edge best to : ℕ) : Type 0 where
+  pub one : edge < edges
+  pub seen : Seen next n m v s edge best to
+
 -- both over the arrays, f the fields, st the starts of lines and h the shape
 abbrev pub ReadyIn : List ℕ → List ℕ → Shape → ℕ → List ℕ → List ℕ → ℕ → Type 0
 ReadyIn f st h n mark out s = Ready (next_in f st h) n (view mark) (view out) s (length out)
 
 abbrev pub SeenIn : List ℕ → List ℕ → Shape → ℕ → List ℕ → List ℕ → ℕ → Sight → Type 0
-SeenIn f st h n mark out s r = Seen (next_in f st h) n (view mark) (view out) s r.edge r.best r.to
-
--- no step is left
-abbrev pub all_seen : ℕ → Sight
-all_seen b = record { edge = edges; best = b; to = 0 }
+SeenIn f st h n mark out s r =
+    MatchOption r.step (Seen (next_in f st h) n (view mark) (view out) s edges r.best 0) (λ x. StepLeft (next_in f st h) n (view mark) (view out) s x.edge r.best x.to)
 
 -- the arrays before the search
 pub record Fresh (n : ℕ) (mark path out : List ℕ) : Type 0 where

@@ -9,7 +9,8 @@ use Rattle.design.specs.Loaded.{fields_held, starts_held, design_at}
 use Rattle.design.specs.declared.Shape.{Shape}
 use Rattle.layout.specs.Sizes.{shape_of}
 use Rattle.layout.proofs.Sizes.{sections_kept}
-use Rattle.loader.specs.Load.{fault_of, held_by, loaded_of}
+use Rattle.loader.specs.Load.{fault_of, held_by}
+use Rattle.looking.specs.Told.{arrays_of}
 use Rattle.loader.specs.declared.Loaded.{Loaded}
 use Rattle.loader.proofs.Passed.{design_in_lem, counts_allowed_lem}
 use Rattle.desk_numbers.specs.Numbers.{counts_told, counts_in}
@@ -18,12 +19,12 @@ module _ (text : List ℕ) (free : fault_of text ≡ 0) where
   abbrev lines : List (List ℕ)
   lines = fields_by_line text
 
-  loaded_held : loaded_of text ≡ held_by lines
-  unfolding loaded_of
+  loaded_held : arrays_of text ≡ held_by lines
+  unfolding arrays_of
   loaded_held = rw (eq-eqb (fault_of text) 0 free)
 
-  pub held_design : design_at (loaded_of text).fields (loaded_of text).starts (shape_of (counts_in (counts_told (loaded_of text).counts))) ≡ design_text text
+  pub held_design : design_at (arrays_of text).lines.fields (arrays_of text).lines.starts (shape_of (counts_in (counts_told (arrays_of text).counts))) ≡ design_text text
   held_design =
-      ap (λ (l : Loaded). design_at l.fields l.starts (shape_of (counts_in (counts_told l.counts)))) loaded_held
+      ap (λ (l : Loaded). design_at l.lines.fields l.lines.starts (shape_of (counts_in (counts_told l.counts)))) loaded_held
       ∙ ap (λ (h : Shape). design_at (fields_held lines) (starts_held lines) h) (sections_kept (counts_of lines) (counts_allowed_lem text free))
       ∙ design_in_lem text free

@@ -4,6 +4,7 @@ use mathlib.Core.Bool.{Bool, true, false, cond}
 use mathlib.Core.List.{List, [], ◌∷◌}
 use Prim.Native.Nat.{ℕ, ◌+◌}
 use lib.ListN.{length, get_or, drop}
+use Rattle.criteria.specs.Design.{Design}
 use Rattle.terms.specs.Read.{read_v, read_f}
 use Rattle.terms.proofs.Read.{place}
 use Rattle.design.specs.Line.{values_in, invariant_of, mapping_of, measure_value}
@@ -16,27 +17,57 @@ use Rattle.lowest_failure.specs.Search.{criterion_for}
 use Rattle.steps.specs.Arrays.{first_values}
 use Rattle.loader.specs.declared.Loaded.{Loaded}
 use Rattle.loader.specs.Load.{fault_of, loaded_of}
-use Rattle.loader.proofs.Passed.{fault_kept}
-use Rattle.desk_numbers.specs.Numbers.{counts_told}
+use Rattle.loader.proofs.Passed.{of_ok, of_err}
+use Rattle.desk_numbers.specs.Numbers.{counts_told, counts_in}
+use Rattle.std.specs.Prelude.{Result, Ok, Err, replicate}
+use borrow.Author.Tests.{ne_eqb}
+use Rattle.verdicts.specs.declared.Fault.{Fault}
+use Rattle.verdicts.specs.Refusals.{fault_number}
+use Rattle.verdicts.proofs.Refusals.{number_is_some}
+use Rattle.layout.specs.Lines.{no_lines}
+use Rattle.layout.specs.declared.Lines.{Lines}
 use Rattle.told_terms.specs.Terms.{value_told, formula_told, values_told}
 use Rattle.told_terms.proofs.Laws.{eight}
 use Rattle.told_rows.specs.Rows.{told_row}
-use Rattle.looking.specs.Told.{state_told, criterion_told}
+use Rattle.looking.specs.Told.{arrays_of, state_told, criterion_told}
 
 -- ---- a text
 
-module _ (text : List ℕ) (l : Loaded) (el : l ≡ loaded_of text) where
-  pub fault_told : l.fault ≡ fault_of text
-  fault_told = ap (λ (k : Loaded). k.fault) el ∙ fault_kept text
+module _ (text : List ℕ) (q : Result Loaded Fault) (eq : q ≡ loaded_of text) where
+  module _ (l : Loaded) (e : q ≡ Ok l) where
+    pub no_fault : 0 ≡ fault_of text
+    no_fault = sym (of_ok text q eq l e).0
 
-  pub fields_held_lem : l.fields ≡ (loaded_of text).fields
-  fields_held_lem = ap (λ (k : Loaded). k.fields) el
+    held : l ≡ arrays_of text
+    unfolding arrays_of
+    held = (of_ok text q eq l e).1 ∙ rw (of_ok text q eq l e).0
 
-  pub starts_held_lem : l.starts ≡ (loaded_of text).starts
-  starts_held_lem = ap (λ (k : Loaded). k.starts) el
+    pub fields_held_lem : (w : List ℕ) → w ≡ l.lines.fields → w ≡ (arrays_of text).lines.fields
+    fields_held_lem w ew = ew ∙ ap (λ (k : Loaded). k.lines.fields) held
 
-  pub counts_held : counts_told l.counts ≡ counts_told (loaded_of text).counts
-  counts_held = ap (λ (k : Loaded). counts_told k.counts) el
+    pub starts_held_lem : (w : List ℕ) → w ≡ l.lines.starts → w ≡ (arrays_of text).lines.starts
+    starts_held_lem w ew = ew ∙ ap (λ (k : Loaded). k.lines.starts) held
+
+    pub counts_held : (w : List ℕ) → w ≡ counts_told l.counts → w ≡ counts_told (arrays_of text).counts
+    counts_held w ew = ew ∙ ap (λ (k : Loaded). counts_told k.counts) held
+
+  module _ (f : Fault) (e : q ≡ Err f) where
+    pub fault_told : (k : ℕ) → k ≡ fault_number f → k ≡ fault_of text
+    fault_told k ek = ek ∙ sym (of_err text q eq f e)
+
+    module _ (z : Lines) (ez : z ≡ no_lines) (c : Counts) (ec : c ≡ counts_in (replicate 5 0)) where
+      nothing : record { lines = z; counts = c } ≡ arrays_of text
+      unfolding arrays_of
+      nothing = rw (ez, ec, of_err text q eq f e, ne_eqb (fault_number f) 0 (number_is_some f))
+
+      pub fields_zero : (w : List ℕ) → w ≡ z.fields → w ≡ (arrays_of text).lines.fields
+      fields_zero w ew = ew ∙ ap (λ (k : Loaded). k.lines.fields) nothing
+
+      pub starts_zero : (w : List ℕ) → w ≡ z.starts → w ≡ (arrays_of text).lines.starts
+      starts_zero w ew = ew ∙ ap (λ (k : Loaded). k.lines.starts) nothing
+
+      pub counts_zero : (w : List ℕ) → w ≡ counts_told c → w ≡ counts_told (arrays_of text).counts
+      counts_zero w ew = ew ∙ ap (λ (k : Loaded). counts_told k.counts) nothing
 
 -- ---- terms on a line after its kind
 
@@ -61,34 +92,44 @@ pub state_places : (a b : ℕ) (w : List ℕ) → length w ≡ 8
 unfolding first_values
 state_places a b w e = ap (λ (l : List ℕ). a ∷ b ∷ l) (eight w e)
 
--- ---- a state
+-- ---- the arrays that are lent, as one value
 
-pub state_told_lem : (f s v : List ℕ) (h : Shape) (c k : Counts) (a b : ℕ) (m w : List ℕ) → c ≡ k → h ≡ shape_of c
-    → a ≡ formula_told (invariant_of (line_from f s h.invariant)) v 0
-    → b ≡ value_told (measure_value (line_from f s h.measure)) v 0
-    → m ≡ values_told (mapping_of h.specification.parameters.count (line_from f s h.mapping)) v 0
-    → w ≡ a ∷ b ∷ m → w ≡ state_told (design_at f s (shape_of k)) v
-unfolding state_told
-state_told_lem f s v h c k a b m w ec eh ea eb em ew = ew ∙ rw (ea, eb, em) (ap (λ (g : Shape). state_told (design_at f s g) v) (eh ∙ ap shape_of ec))
+module _ (f s : List ℕ) (z : Lines) (ef : z.fields ≡ f) (es : z.starts ≡ s) where
+  same_design : (h : Shape) → design_at z.fields z.starts h ≡ design_at f s h
+  same_design h = ap (λ (x : List ℕ). design_at x z.starts h) ef ∙ ap (λ (x : List ℕ). design_at f x h) es
 
--- ---- a row
+  -- ---- a state
 
-pub row_by_counts : (f s v : List ℕ) (h : Shape) (c k : Counts) (side row e : ℕ) (w : List ℕ) → c ≡ k → h ≡ shape_of c → w ≡ told_row (design_at f s h) side row v e
-    → w ≡ told_row (design_at f s (shape_of k)) side row v e
-row_by_counts f s v h c k side row e w ec eh ew = ew ∙ ap (λ (g : Shape). told_row (design_at f s g) side row v e) (eh ∙ ap shape_of ec)
+  pub state_told_lem : (v : List ℕ) (h : Shape) (c k : Counts) (a b : ℕ) (m w : List ℕ) → c ≡ k → h ≡ shape_of c
+      → a ≡ formula_told (invariant_of (line_from z.fields z.starts h.invariant)) v 0
+      → b ≡ value_told (measure_value (line_from z.fields z.starts h.measure)) v 0
+      → m ≡ values_told (mapping_of h.specification.parameters.count (line_from z.fields z.starts h.mapping)) v 0
+      → w ≡ a ∷ b ∷ m → w ≡ state_told (design_at f s (shape_of k)) v
+  unfolding state_told
+  state_told_lem v h c k a b m w ec eh ea eb em ew =
+      ew ∙ rw (ea, eb, em) (ap (λ (d : Design). state_told d v) (same_design h) ∙ ap (λ (g : Shape). state_told (design_at f s g) v) (eh ∙ ap shape_of ec))
 
--- ---- a criterion
+  -- ---- a row
+
+  pub row_by_counts : (v : List ℕ) (h : Shape) (c k : Counts) (side row e : ℕ) (w : List ℕ) → c ≡ k → h ≡ shape_of c → w ≡ told_row (design_at z.fields z.starts h) side row v e
+      → w ≡ told_row (design_at f s (shape_of k)) side row v e
+  row_by_counts v h c k side row e w ec eh ew =
+      ew ∙ (ap (λ (d : Design). told_row d side row v e) (same_design h) ∙ ap (λ (g : Shape). told_row (design_at f s g) side row v e) (eh ∙ ap shape_of ec))
+
+  -- ---- a criterion
+
+  module _ (v : List ℕ) (h : Shape) (c q : Counts) (ec : c ≡ q) (eh : h ≡ shape_of c) (n k e : ℕ) (b : Bool) (eb : b ≡ criterion_for (design_at z.fields z.starts h) v n k e) where
+    by_counts : cond b 1 0 ≡ criterion_told (design_at f s (shape_of q)) v n k e
+    unfolding criterion_told
+    by_counts =
+        ap (λ (x : Bool). cond x 1 0) eb
+        ∙ (ap (λ (d : Design). criterion_told d v n k e) (same_design h) ∙ ap (λ (g : Shape). criterion_told (design_at f s g) v n k e) (eh ∙ ap shape_of ec))
+
+    pub criterion_holds : b ≡ true → 1 ≡ criterion_told (design_at f s (shape_of q)) v n k e
+    criterion_holds y = sym (ap (λ (x : Bool). cond x 1 0) y) ∙ by_counts
+
+    pub criterion_fails : b ≡ false → 0 ≡ criterion_told (design_at f s (shape_of q)) v n k e
+    criterion_fails y = sym (ap (λ (x : Bool). cond x 1 0) y) ∙ by_counts
 
 pub fits_by_counts : (h : Shape) (c : Counts) → h ≡ shape_of c → Fits h
 fits_by_counts h c eh = subst Fits (sym eh) (shape_fits c)
-
-module _ (f s v : List ℕ) (h : Shape) (c q : Counts) (ec : c ≡ q) (eh : h ≡ shape_of c) (n k e : ℕ) (b : Bool) (eb : b ≡ criterion_for (design_at f s h) v n k e) where
-  by_counts : cond b 1 0 ≡ criterion_told (design_at f s (shape_of q)) v n k e
-  unfolding criterion_told
-  by_counts = ap (λ (x : Bool). cond x 1 0) eb ∙ ap (λ (g : Shape). criterion_told (design_at f s g) v n k e) (eh ∙ ap shape_of ec)
-
-  pub criterion_holds : b ≡ true → 1 ≡ criterion_told (design_at f s (shape_of q)) v n k e
-  criterion_holds y = sym (ap (λ (x : Bool). cond x 1 0) y) ∙ by_counts
-
-  pub criterion_fails : b ≡ false → 0 ≡ criterion_told (design_at f s (shape_of q)) v n k e
-  criterion_fails y = sym (ap (λ (x : Bool). cond x 1 0) y) ∙ by_counts

@@ -8,14 +8,16 @@ ghost use Rattle.std.specs.Prelude.{◌≡◌, ◌∷◌, drop};
 ghost use Rattle.design.specs.Line.{value_in, formula_in, invariant_of, mapping_of, measure_value};
 ghost use Rattle.design.specs.Loaded.{line_from, design_at};
 ghost use Rattle.layout.specs.Sizes.{shape_of};
-ghost use Rattle.loader.specs.Load.{fault_of, loaded_of};
+ghost use Rattle.loader.specs.Load.{fault_of};
 ghost use Rattle.fault_lines.specs.Shows.{Tells};
 ghost use Rattle.desk_numbers.specs.Numbers.{counts_told, counts_in};
 ghost use Rattle.told_terms.specs.Terms.{value_told, formula_told, values_told};
 ghost use Rattle.told_rows.specs.Rows.{told_row};
-ghost use Rattle.looking.specs.Told.{state_told, criterion_told};
+ghost use Rattle.looking.specs.Told.{arrays_of, state_told, criterion_told};
 
+use design::Counts;
 use desk_numbers::Tally;
+use layout::Lines;
 use told_rows::RowPlaces;
 use told_terms::Places;
 
@@ -24,7 +26,7 @@ type StatePlaces = [u32; 2 + limits::MAX_PARAMETERS];
 
 // ---- a text taken apart
 
-// For C: the number of a text's lowest fault, or 0; and the arrays that hold it.
+// For C: the number of a text's lowest fault, or 0; and the arrays that hold it, zeros where it has one.
 pub fn hold_design(
     text: &[u8],
     fields: &mut limits::Fields,
@@ -32,18 +34,38 @@ pub fn hold_design(
     counts: &mut Tally,
 ) -> u32
     ensures value { result ≡ fault_of text.now }
-    ensures fields_after { fields.new ≡ (loaded_of text.now).fields }
-    ensures starts_after { starts.new ≡ (loaded_of text.now).starts }
-    ensures counts_after { counts.new ≡ counts_told (loaded_of text.now).counts }
+    ensures fields_after { fields.new ≡ (arrays_of text.now).lines.fields }
+    ensures starts_after { starts.new ≡ (arrays_of text.now).lines.starts }
+    ensures counts_after { counts.new ≡ counts_told (arrays_of text.now).counts }
 {
-    let loaded = loader::load(text);
-    let held_fields = loaded.fields;
-    let held_starts = loaded.starts;
-    let held = loaded.counts;
-    *fields = held_fields;
-    *starts = held_starts;
+    match loader::load(text) {
+        Ok(loaded) => {
+            put(&loaded.lines, loaded.counts, fields, starts, counts);
+            0
+        }
+        Err(fault) => {
+            let nothing = desk_numbers::counts_in([0; 5]);
+            put(&Lines::none(), nothing, fields, starts, counts);
+            fault.number() as u32
+        }
+    }
+}
+
+// Writes lines and counts there.
+fn put(
+    lines: &Lines,
+    held: Counts,
+    fields: &mut limits::Fields,
+    starts: &mut limits::Starts,
+    counts: &mut Tally,
+)
+    ensures fields_after { fields.new ≡ lines.now.fields }
+    ensures starts_after { starts.new ≡ lines.now.starts }
+    ensures counts_after { counts.new ≡ counts_told held }
+{
+    *fields = lines.fields;
+    *starts = lines.starts;
     *counts = [held.kind1, held.kind2, held.kind3, held.kind4, held.kind8];
-    loaded.fault as u32
 }
 
 // For C: the first line from one on that shows the fault by which a text is turned down, counted from 1; 0 if there is none.
@@ -69,44 +91,39 @@ pub fn look_formula(fields: &limits::Fields, at: usize, values: &limits::Values,
     told_terms::formula(fields, at, values, sum)
 }
 
+// The lines in the two arrays, which C lends one by one.
+fn lines_in(fields: &limits::Fields, starts: &limits::Starts) -> Lines
+    ensures fields_value { result.fields ≡ fields.now }
+    ensures starts_value { result.starts ≡ starts.now }
+{
+    Lines {
+        fields: *fields,
+        starts: *starts,
+    }
+}
+
 // ---- a state
 
 // The formula, the value, and n values one after the other, that stand on a line after its kind.
-fn formula_in_line<'a>(
-    fields: &'a limits::Fields,
-    starts: &'a limits::Starts,
-    line: u8,
-    values: &limits::Values,
-) -> u32
-    ensures { result ≡ formula_told (invariant_of (line_from fields.now starts.now line)) values.now 0 }
+fn formula_in_line(lines: &Lines, line: u8, values: &limits::Values) -> u32
+    ensures { result ≡ formula_told (invariant_of (line_from lines.now.fields lines.now.starts line)) values.now 0 }
 {
-    let start = layout::line(starts, line as usize);
-    told_terms::formula(fields, start as usize + 1, values, 0)
+    let start = lines.line(line as usize);
+    told_terms::formula(&lines.fields, start as usize + 1, values, 0)
 }
 
-fn value_in_line<'a>(
-    fields: &'a limits::Fields,
-    starts: &'a limits::Starts,
-    line: u8,
-    values: &limits::Values,
-) -> u32
-    ensures { result ≡ value_told (measure_value (line_from fields.now starts.now line)) values.now 0 }
+fn value_in_line(lines: &Lines, line: u8, values: &limits::Values) -> u32
+    ensures { result ≡ value_told (measure_value (line_from lines.now.fields lines.now.starts line)) values.now 0 }
 {
-    let start = layout::line(starts, line as usize);
-    told_terms::value(fields, start as usize + 1, values, 0)
+    let start = lines.line(line as usize);
+    told_terms::value(&lines.fields, start as usize + 1, values, 0)
 }
 
-fn values_in_line<'a>(
-    fields: &'a limits::Fields,
-    starts: &'a limits::Starts,
-    line: u8,
-    n: u8,
-    values: &limits::Values,
-) -> Places
-    ensures { result ≡ values_told (mapping_of n (line_from fields.now starts.now line)) values.now 0 }
+fn values_in_line(lines: &Lines, line: u8, n: u8, values: &limits::Values) -> Places
+    ensures { result ≡ values_told (mapping_of n (line_from lines.now.fields lines.now.starts line)) values.now 0 }
 {
-    let start = layout::line(starts, line as usize);
-    told_terms::values(fields, start as usize + 1, n, values, 0)
+    let start = lines.line(line as usize);
+    told_terms::values(&lines.fields, start as usize + 1, n, values, 0)
 }
 
 // For C: invariant, measure and mapped values at a state of the implementation.
@@ -119,11 +136,12 @@ pub fn look_state<'a>(
 )
     ensures { told.new ≡ state_told (design_at fields.now starts.now (shape_of (counts_in counts.now))) values.now }
 {
+    let lines = lines_in(fields, starts);
     let shape = layout::shape_of(desk_numbers::counts_in(*counts));
     let n = shape.specification.parameters.count;
-    let invariant = formula_in_line(fields, starts, shape.invariant, values);
-    let measure = value_in_line(fields, starts, shape.measure, values);
-    let mapped = values_in_line(fields, starts, shape.mapping, n, values);
+    let invariant = formula_in_line(&lines, shape.invariant, values);
+    let measure = value_in_line(&lines, shape.measure, values);
+    let mapped = values_in_line(&lines, shape.mapping, n, values);
     *told = state_places(invariant, measure, mapped);
 }
 
@@ -151,8 +169,9 @@ pub fn look_row<'a>(
 )
     ensures { told.new ≡ told_row (design_at fields.now starts.now (shape_of (counts_in counts.now))) side row values.now sum }
 {
+    let lines = lines_in(fields, starts);
     let shape = layout::shape_of(desk_numbers::counts_in(*counts));
-    *told = told_rows::row(fields, starts, shape, side, row, values, sum);
+    *told = told_rows::row(&lines, shape, side, row, values, sum);
 }
 
 // ---- a criterion
@@ -169,9 +188,10 @@ pub fn look_criterion<'a>(
 ) -> u32
     ensures { result ≡ criterion_told (design_at fields.now starts.now (shape_of (counts_in counts.now))) values.now criterion row sum }
 {
+    let lines = lines_in(fields, starts);
     let shape = layout::shape_of(desk_numbers::counts_in(*counts));
     let state = *values;
-    let holds = lowest_failure::criterion(fields, starts, shape, state, criterion, row, sum);
+    let holds = lowest_failure::criterion(&lines, shape, state, criterion, row, sum);
     if holds {
         told_terms::HOLDS
     } else {

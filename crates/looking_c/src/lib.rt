@@ -5,12 +5,12 @@ ghost use Rattle.std.specs.Prelude.{◌≡◌, drop};
 ghost use Rattle.design.specs.Line.{value_in, formula_in};
 ghost use Rattle.design.specs.Loaded.{design_at};
 ghost use Rattle.layout.specs.Sizes.{shape_of};
-ghost use Rattle.loader.specs.Load.{fault_of, loaded_of};
+ghost use Rattle.loader.specs.Load.{fault_of};
 ghost use Rattle.fault_lines.specs.Shows.{Tells};
 ghost use Rattle.desk_numbers.specs.Numbers.{counts_told, counts_in};
 ghost use Rattle.told_terms.specs.Terms.{value_told, formula_told};
 ghost use Rattle.told_rows.specs.Rows.{told_row};
-ghost use Rattle.looking.specs.Told.{state_told, criterion_told};
+ghost use Rattle.looking.specs.Told.{arrays_of, state_told, criterion_told};
 
 use desk_numbers::Tally;
 use told_rows::RowPlaces;
@@ -18,7 +18,7 @@ use told_rows::RowPlaces;
 // What is told of a state: invariant and measure, and then the mapped values.
 type StatePlaces = [u32; 2 + limits::MAX_PARAMETERS];
 
-// The number of a text's lowest fault, or 0; and the arrays that hold it.
+// The number of a text's lowest fault, or 0; and the arrays that hold it, zeros where it has one.
 #[unsafe(no_mangle)]
 pub extern "C" fn hold_design(
     text: &[u8],
@@ -27,9 +27,9 @@ pub extern "C" fn hold_design(
     counts: &mut Tally,
 ) -> u32
     ensures value { result ≡ fault_of text.now }
-    ensures fields_after { fields.new ≡ (loaded_of text.now).fields }
-    ensures starts_after { starts.new ≡ (loaded_of text.now).starts }
-    ensures counts_after { counts.new ≡ counts_told (loaded_of text.now).counts }
+    ensures fields_after { fields.new ≡ (arrays_of text.now).lines.fields }
+    ensures starts_after { starts.new ≡ (arrays_of text.now).lines.starts }
+    ensures counts_after { counts.new ≡ counts_told (arrays_of text.now).counts }
 {
     looking::hold_design(text, fields, starts, counts)
 }

@@ -1,28 +1,27 @@
--- What the search of the code returns: the arms of the choice of a criterion, and the turns of the loops over sum values, rows and
--- criteria, each the search for a first failure of foundation/proofs/First; and that it is the search of decision/specs/Examine.
-use mathlib.Core.Path.{◌≡◌, refl, sym, ◌∙◌, ap}
+-- What the search of the code returns: the arms of the choice of a criterion, and the searches through sum values, rows and criteria, each
+-- the search for a first failure of foundation/proofs/First; and that it is the search of decision/specs/Examine.
+use mathlib.Core.Path.{◌≡◌, refl, sym, ◌∙◌}
 use mathlib.Core.Bool.{Bool, true, false, not, cond}
 use mathlib.Core.List.{List}
 use Prim.Native.Nat.{ℕ, zero, suc, ◌+◌, ◌-◌, ◌≤◌, ◌<◌}
 use native.Mathlib.Omega.{arith}
 use borrow.Author.Tests.{eq-eqb, ne_eqb, not-true, not-false}
 use lib.ListN.{length}
+use Rattle.std.specs.Prelude.{Option, Some, None, MatchOption}
 use Rattle.foundation.specs.First.{Outcome, fail, fail_if, or_else, first_in}
 use Rattle.foundation.specs.Trial.{Place as At, place, first_place, in_criterion}
-use Rattle.foundation.proofs.First.{first_alike, loop_begins, loop_turns, loop_fails, loop_ends, test_turns, test_fails}
+use Rattle.foundation.proofs.First.{first_alike, all_pass, fail_first}
 use Rattle.criteria.specs.Design.{Design, Row, State}
 use Rattle.criteria.specs.Rows.{row_at}
-use Rattle.decision.specs.Tests.{focus_b, holds2, holds3, holds4, holds5, holds6, holds7, holds8, holds9}
+use Rattle.decision.specs.Tests.{holds2, holds3, holds4, holds5, holds6, holds7, holds8, holds9}
 use Rattle.decision.specs.Examine.{trial, first_failing}
 use Rattle.design.specs.Loaded.{design_at}
 use Rattle.design.specs.declared.Shape.{Shape}
-use Rattle.layout.specs.Sizes.{Fits}
-use Rattle.steps.specs.Arrays.{row_span, mapped_in}
+use Rattle.layout.specs.declared.Lines.{Lines}
+use Rattle.steps.specs.Arrays.{row_span}
 use Rattle.steps.proofs.States.{rows_count}
-use Rattle.lowest_failure.specs.Search.{Known, told_place, at_impl, at_impl_by, at_spec, holds_for, criterion_for, span_for, rows_for, in_row, in_all_rows, in_criteria}
+use Rattle.lowest_failure.specs.Search.{told_place, at_impl, at_impl_by, at_spec, holds_for, criterion_for, span_for, rows_for, in_row, in_all_rows, in_criteria}
 use Rattle.verdicts.specs.declared.Place.{Place}
-use Rattle.lowest_failure.specs.declared.Finding.{Finding}
-use Rattle.lowest_failure.specs.declared.Finding.TheVariants.{Nothing, Found}
 
 -- ---- which criterion, which rows
 
@@ -74,93 +73,30 @@ module _ (d : Design) (v : State) (r : Bool) (n k e : ℕ) where
   unfolding holds_for
   arm_else h3 h4 h5 h6 h7 h8 er = er ∙ simp (ne_eqb n 3 h3, ne_eqb n 4 h4, ne_eqb n 5 h5, ne_eqb n 6 h6, ne_eqb n 7 h7, ne_eqb n 8 h8)
 
-  pub arm2 : n ≡ 2 → r ≡ holds2 d v → r ≡ criterion_for d v n k e
-  unfolding criterion_for
-  arm2 y er = er ∙ rw (eq-eqb n 2 y)
-
-  pub arm_others : (n ≡ 2 → ⊥) → r ≡ holds_for d v n k e → r ≡ criterion_for d v n k e
-  unfolding criterion_for
-  arm_others y er = er ∙ rw (ne_eqb n 2 y)
-
--- ---- the loops
+-- ---- the searches
 
 module _ (d : Design) (v : State) where
   -- the sum values of a row
-  module _ (n k : ℕ) where
-    abbrev fail_at : ℕ → Outcome At
-    fail_at e = fail_if (not (holds_for d v n k e)) (place n k e)
+  abbrev fail_at : ℕ → ℕ → ℕ → Outcome At
+  fail_at n k e = fail_if (not (holds_for d v n k e)) (place n k e)
 
-    unfoldable pub sums_left : ℕ → ℕ → Outcome At
-    sums_left m e = first_in fail_at (m - e) e
-
-    pub sums_begin : (m : ℕ) → m ≡ span_for d n k → sums_left m 0 ≡ in_row d v n k
-    unfolding sums_left in_row
-    sums_begin m em = loop_begins fail_at m ∙ ap (λ m. first_in fail_at m 0) em
-
-    pub sums_turn : (m e : ℕ) (r : Bool) → e < m → r ≡ holds_for d v n k e → not r ≡ false → sums_left m e ≡ in_row d v n k → sums_left m (e + 1) ≡ in_row d v n k
-    unfolding sums_left
-    sums_turn m e r l er y inv = sym (test_turns (λ x. not (holds_for d v n k x)) (λ x. place n k x) m e {b = not r} l (ap not er) y) ∙ inv
-
-    pub sums_fail : (m e : ℕ) (r : Bool) → e < m → r ≡ holds_for d v n k e → not r ≡ true → sums_left m e ≡ in_row d v n k
-        → told_place (Found (record { criterion = n; row = k; sum = e })) ≡ in_row d v n k
-    unfolding sums_left
-    sums_fail m e r l er y inv = sym (test_fails (λ x. not (holds_for d v n k x)) (λ x. place n k x) m e {b = not r} l (ap not er) y) ∙ inv
-
-    pub sums_end : (m e : ℕ) → m ≤ e → sums_left m e ≡ in_row d v n k → told_place Nothing ≡ in_row d v n k
-    unfolding sums_left
-    sums_end m e l inv = sym (loop_ends fail_at m e l) ∙ inv
+  pub sums : (n k m : ℕ) (r : Option ℕ) (x : Option Place) → m ≡ span_for d n k
+      → MatchOption r ((e : ℕ) → 0 ≤ e → e < m → holds_for d v n k e ≡ true)
+      (λ i. (0 ≤ i) × (i < m) × (holds_for d v n k i ≡ false) × ((e : ℕ) → 0 ≤ e → e < i → holds_for d v n k e ≡ true))
+      → MatchOption r (x ≡ None) (λ i. x ≡ Some (record { criterion = n; row = k; sum = i })) → told_place x ≡ in_row d v n k
+  unfolding in_row
+  sums n k m None x em none ex = rw ex (rw em at (sym (all_pass (fail_at n k) m 0 (λ e l u. rw (none e l (omega arith))))))
+  sums n k m (Some i) x em (from, below, failing, before) ex =
+      rw ex
+      (rw em at
+      (sym
+      (fail_first (fail_at n k) m 0 (place n k i)
+      (record { at = i; from = from; below = omega arith; fails = rw failing; before = λ e l u. rw (before e l u) }))))
 
   -- the rows of a criterion
-  module _ (h : Shape) (n : ℕ) where
-    abbrev tried : ℕ → Outcome At
-    tried k = in_row d v n k
-
-    unfoldable pub rows_left : ℕ → ℕ → Outcome At
-    rows_left m k = first_in tried (suc m - k) k
-
-    pub rows_begin : (m : ℕ) → m ≡ rows_for h n → rows_left m 0 ≡ in_all_rows h d v n
-    unfolding rows_left in_all_rows
-    rows_begin m em = loop_begins tried (suc m) ∙ ap (λ m. first_in tried (suc m) 0) em
-
-    pub rows_turn : (m k : ℕ) (r : Finding) → k ≤ m → told_place r ≡ in_row d v n k → r ≡ Nothing → rows_left m k ≡ in_all_rows h d v n → rows_left m (k + 1) ≡ in_all_rows h d v n
-    unfolding rows_left
-    rows_turn m k r l er y inv = sym (loop_turns tried (suc m) k (omega arith) (sym er ∙ ap told_place y)) ∙ inv
-
-    pub rows_fail : (m k : ℕ) (r : Finding) (x : Place) → k ≤ m → told_place r ≡ in_row d v n k → r ≡ Found x → rows_left m k ≡ in_all_rows h d v n → told_place r ≡ in_all_rows h d v n
-    unfolding rows_left
-    rows_fail m k r x l er y inv =
-        let e = ap told_place y in
-        e ∙ sym (loop_fails tried (suc m) k _ (omega arith) (sym er ∙ e)) ∙ inv
-
-    pub rows_end : (m k : ℕ) → m < k → rows_left m k ≡ in_all_rows h d v n → told_place Nothing ≡ in_all_rows h d v n
-    unfolding rows_left
-    rows_end m k l inv = sym (loop_ends tried (suc m) k (omega arith)) ∙ inv
-
-  -- the criteria
-  module _ (h : Shape) where
-    abbrev tries : ℕ → Outcome At
-    tries n = in_all_rows h d v n
-
-    unfoldable pub criteria_left : ℕ → Outcome At
-    criteria_left n = first_in tries (10 - n) n
-
-    pub criteria_begin : criteria_left 3 ≡ in_criteria h d v
-    unfolding criteria_left in_criteria
-    criteria_begin = refl
-
-    pub criteria_turn : (n : ℕ) (r : Finding) → n < 10 → told_place r ≡ in_all_rows h d v n → r ≡ Nothing → criteria_left n ≡ in_criteria h d v → criteria_left (n + 1) ≡ in_criteria h d v
-    unfolding criteria_left
-    criteria_turn n r l er y inv = sym (loop_turns tries 10 n l (sym er ∙ ap told_place y)) ∙ inv
-
-    pub criteria_fail : (n : ℕ) (r : Finding) (x : Place) → n < 10 → told_place r ≡ in_all_rows h d v n → r ≡ Found x → criteria_left n ≡ in_criteria h d v → told_place r ≡ in_criteria h d v
-    unfolding criteria_left
-    criteria_fail n r x l er y inv =
-        let e = ap told_place y in
-        e ∙ sym (loop_fails tries 10 n _ l (sym er ∙ e)) ∙ inv
-
-    pub criteria_end : (n : ℕ) → 10 ≤ n → criteria_left n ≡ in_criteria h d v → told_place Nothing ≡ in_criteria h d v
-    unfolding criteria_left
-    criteria_end n l inv = sym (loop_ends tries 10 n l) ∙ inv
+  pub rows : (h : Shape) (n m : ℕ) → m ≡ rows_for h n → first_in (λ k. in_row d v n k) (m + 1 - 0) 0 ≡ in_all_rows h d v n
+  unfolding in_all_rows
+  rows h n m em = let e : m + 1 - 0 ≡ suc m = omega arith in rw (e, em)
 
 -- ---- the search is that of the crate decision
 
@@ -207,15 +143,26 @@ module _ (f s : List ℕ) (h : Shape) (v : State) where
       go true = refl
       go false = refl
 
-  -- what is known of the state
-  pub knows : (t : List ℕ) (b : Bool) → Fits h → t ≡ mapped_in f s h v → b ≡ focus_b d v → Known h d (record { state = v; mapped = t; focus = b })
-  unfolding mapped_in
-  knows t b fits et eb = record { fits = fits; mapped_is = et; focus_is = eb }
+-- criterion 2 before the others, and a criterion by its number: the design and the state that are looked at are those that are given
+module _ (l m : Lines) (h g : Shape) (v w : State) (same : (m ≡ l) × (g ≡ h)) (is : w ≡ v) where
+  abbrev given : Design
+  given = design_at l.fields l.starts h
 
-  -- criterion 2 before the others
-  module _ (two : Bool) (said : two ≡ holds2 d v) where
-    pub second_fails : not two ≡ true → told_place (Found (record { criterion = 2; row = 0; sum = 0 })) ≡ first_failing d v
-    second_fails y = whole false (sym (not-true two y) ∙ said)
+  abbrev looked_at : Design
+  looked_at = design_at m.fields m.starts g
 
-    pub second_holds : (r : Finding) → not two ≡ false → told_place r ≡ in_criteria h d v → told_place r ≡ first_failing d v
-    second_holds r y er = er ∙ whole true (sym (not-false two y) ∙ said)
+  module _ (two : Bool) (said : two ≡ holds2 looked_at w) where
+    pub second_fails : not two ≡ true → told_place (Some (record { criterion = 2; row = 0; sum = 0 })) ≡ first_failing given v
+    second_fails y = whole l.fields l.starts h v false (sym (not-true two y) ∙ rw (same.0, same.1, is) at said)
+
+    pub second_holds : (r : Option Place) → not two ≡ false → told_place r ≡ in_criteria g looked_at w → told_place r ≡ first_failing given v
+    second_holds r y er = rw (same.0, same.1, is) at er ∙ whole l.fields l.starts h v true (sym (not-false two y) ∙ rw (same.0, same.1, is) at said)
+
+  module _ (r : Bool) (n k e : ℕ) where
+    pub arm2 : n ≡ 2 → r ≡ holds2 looked_at w → r ≡ criterion_for given v n k e
+    unfolding criterion_for
+    arm2 y er = rw (same.0, same.1, is) at er ∙ rw (eq-eqb n 2 y)
+
+    pub arm_others : (n ≡ 2 → ⊥) → r ≡ holds_for looked_at w n k e → r ≡ criterion_for given v n k e
+    unfolding criterion_for
+    arm_others y er = rw (same.0, same.1, is) at er ∙ rw (ne_eqb n 2 y)

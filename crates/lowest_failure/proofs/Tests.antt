@@ -1,19 +1,18 @@
--- What the tests of the code return is what the crate decision says of the design in the arrays; and the turns of the loops that look
--- for a marked step.
+-- What the tests of the code return is what the crate decision says of the design in the arrays.
 use mathlib.Core.Path.{◌≡◌, refl, sym, ◌∙◌, ap}
 use mathlib.Core.Logic.{◌⊎◌, inl, inr, ◌≢◌}
 use mathlib.Core.Bool.{Bool, true, false, not, ◌&&◌, ◌||◌, true≢false, not-not}
 use mathlib.Core.List.{List}
-use Prim.Native.Nat.{ℕ, zero, suc, ◌+◌, ◌-◌, ◌≤◌, ◌<◌}
+use Prim.Native.Nat.{ℕ, zero, suc, ◌+◌, ◌≤◌}
+use native.Mathlib.Numerals.{add-one}
 use native.Mathlib.Omega.{arith}
 use native.Mathlib.Decide.{dec_le}
-use borrow.Author.Tests.{not-true, not-false, eqb-true}
+use borrow.Author.Tests.{eqb-true}
 use lib.Dec.{eqb, ltb}
 use lib.ListN.{length, length-map, get_or}
 use Rattle.foundation.specs.First.{all_in_range}
 use Rattle.foundation.specs.Radix.{same_b}
 use Rattle.foundation.specs.Reflects.{◌⇒◌}
-use Rattle.foundation.proofs.All.{all_begin, all_turn, all_fail, all_end}
 use Rattle.foundation.proofs.Trial.{place_passes}
 use Rattle.criteria.specs.Design.{Design, Row, mapped}
 use Rattle.criteria.specs.Step.{next_state}
@@ -24,6 +23,7 @@ use Rattle.decision.proofs.Alike.{has_value_alike, has_formula_alike, have_alike
 use Rattle.decision.proofs.Find.{Found, Missing, find, found_partner}
 use Rattle.design.specs.Loaded.{design_at}
 use Rattle.design.specs.declared.Shape.{Shape}
+use Rattle.layout.specs.Sizes.{Fits}
 use Rattle.steps.specs.Arrays.{padded, step_of, row_step, row_span, row_with, below_in, same_in, inside_in, mapped_in, measure_in}
 use Rattle.defined.specs.Defined.{has_invariant_in, has_mapping_in, has_measure_in}
 use Rattle.marks.specs.Marks.{marked_in}
@@ -31,8 +31,7 @@ use Rattle.marks.proofs.Held.{marked_held}
 use Rattle.steps.specs.declared.Step.{Step}
 use Rattle.steps.proofs.Arrays.{row_past}
 use Rattle.steps.proofs.States as states
-use Rattle.lowest_failure.specs.Search.{Known, quiet_in, at_impl, at_impl_by, at_spec}
-use Rattle.lowest_failure.specs.declared.Here.{Here}
+use Rattle.lowest_failure.specs.Search.{quiet_in, at_impl, at_impl_by, at_spec}
 
 twice : (b x : Bool) → b || x ≡ not (not b) || x
 twice b x = ap (λ z. z || x) (sym (not-not b))
@@ -79,12 +78,9 @@ module _ (f s : List ℕ) (h : Shape) (v : List ℕ) (k e : ℕ) where
       go false z true y = refl
       go true z true y = ap (λ m. m ⇒ x) (mark_agrees y z)
 
-module _ (f s : List ℕ) (h : Shape) (here : Here) (known : Known h (design_at f s h) here) where
+module _ (f s : List ℕ) (h : Shape) (v t : List ℕ) (focus : Bool) (fits : Fits h) (mapped_is : t ≡ mapped_in f s h v) (focus_is : focus ≡ focus_b (design_at f s h) v) where
   abbrev d : Design
   d = design_at f s h
-
-  abbrev v : List ℕ
-  v = here.state
 
   abbrev n : ℕ
   n = h.specification.parameters.count
@@ -96,20 +92,24 @@ module _ (f s : List ℕ) (h : Shape) (here : Here) (known : Known h (design_at 
   spec_at k = row_at d.spec.rows k
 
   few : n ≤ 8
-  few = known.fits.specification.parameters
+  few = fits.specification.parameters
 
   short : length (mapped d v) ≤ 8
   short = rw (states.mapped_length f s h v) few
 
-  pub holds2_is : (b : Bool) → b ≡ below_in f s h.specification here.mapped → b ≡ holds2 d v
+  mapped_there : t ≡ padded (mapped d v)
+  unfolding mapped_in
+  mapped_there = mapped_is
+
+  pub holds2_is : (b : Bool) → b ≡ below_in f s h.specification t → b ≡ holds2 d v
   holds2_is b eb =
-      eb ∙ ap (λ t. below_in f s h.specification t) known.mapped_is
-      ∙ states.below_held f s h.specification known.fits.specification (mapped d v) (states.mapped_length f s h v)
+      eb ∙ ap (λ t. below_in f s h.specification t) mapped_there
+      ∙ states.below_held f s h.specification fits.specification (mapped d v) (states.mapped_length f s h v)
 
   -- the specification's rows at the mapped state
-  spec_step : (j e : ℕ) → row_step f s h.specification j here.mapped e ≡ step_of (spec_at j) (mapped d v) e
+  spec_step : (j e : ℕ) → row_step f s h.specification j t e ≡ step_of (spec_at j) (mapped d v) e
   unfolding row_step
-  spec_step j e = ap (λ t. step_of (spec_at j) t e) known.mapped_is ∙ states.step_held (mapped d v) short (spec_at j) e
+  spec_step j e = ap (λ t. step_of (spec_at j) t e) mapped_there ∙ states.step_held (mapped d v) short (spec_at j) e
 
   impl_step : (j e : ℕ) (q : Step) → q ≡ row_step f s h.implementation j v e → q ≡ step_of (impl_at j) v e
   unfolding row_step
@@ -129,7 +129,7 @@ module _ (f s : List ℕ) (h : Shape) (here : Here) (known : Known h (design_at 
       next = next_state (impl_at k) v e
 
       next_short : length next ≤ 8
-      next_short = states.next_short f s h.implementation known.fits.implementation k v e
+      next_short = states.next_short f s h.implementation fits.implementation k v e
 
       -- what has a value there
       agree : (i : ℕ) → get_or (padded next) i 0 ≡ get_or next i 0
@@ -141,10 +141,10 @@ module _ (f s : List ℕ) (h : Shape) (here : Here) (known : Known h (design_at 
         where
           go : (length (impl_at k).next ≡ h.implementation.parameters.count) ⊎ (impl_at k ≡ no_row)
               → not (step_of (impl_at k) v e).enabled || (inside_in f s h (padded next) && has_f d.invariant next 0) ≡ holds3 d v (impl_at k) e
-          go (inl m) = rw (states.inside_held f s h known.fits next (length-map (impl_at k).next _ ∙ m))
+          go (inl m) = rw (states.inside_held f s h fits next (length-map (impl_at k).next _ ∙ m))
           go (inr m) = rw m
 
-      pub holds4_is : (w : List ℕ) (b has : Bool) → w ≡ mapped_in f s h r.next → b ≡ same_in n here.mapped w → has ≡ has_mapping_in f s h r.next
+      pub holds4_is : (w : List ℕ) (b has : Bool) → w ≡ mapped_in f s h r.next → b ≡ same_in n t w → has ≡ has_mapping_in f s h r.next
           → not r.enabled || (not (eqb r.action 0) || (b && has)) ≡ at_impl holds4 d v k e
       unfolding at_impl row_step step_of has_mapping_in
       holds4_is w b has ew eb eh =
@@ -153,7 +153,7 @@ module _ (f s : List ℕ) (h : Shape) (here : Here) (known : Known h (design_at 
             eb,
             ew,
             er,
-            known.mapped_is,
+            mapped_there,
             states.mapped_held f s h next next_short,
             states.same_held (mapped d v) (mapped d next) n (states.mapped_length f s h v) (states.mapped_length f s h next) few,
             have_alike (padded next) next agree d.mapping 0,
@@ -165,7 +165,7 @@ module _ (f s : List ℕ) (h : Shape) (here : Here) (known : Known h (design_at 
       holds5_is there measure marked has et em ek eh =
           rw (eh, ek, et, em, er, states.measure_held f s h next next_short, has_value_alike (padded next) next agree d.measure 0) (mark_asked f s h v k e _)
 
-      module _ (j : ℕ) (q : Step) (ej : j ≡ row_with f s h.specification r.action) (eq : q ≡ row_step f s h.specification j here.mapped e) where
+      module _ (j : ℕ) (q : Step) (ej : j ≡ row_with f s h.specification r.action) (eq : q ≡ row_step f s h.specification j t e) where
         pub holds6_is : not r.enabled || (eqb r.action 0 || q.enabled) ≡ at_impl holds6 d v k e
         unfolding at_impl step_of row_with
         holds6_is = ap (λ b. not r.enabled || b) (twice (eqb r.action 0) q.enabled) ∙ rw (eq, spec_step j e, ej, impl_step k e r er)
@@ -195,10 +195,10 @@ module _ (f s : List ℕ) (h : Shape) (here : Here) (known : Known h (design_at 
                 states.same_held (mapped d next) (next_state (spec_at i) (mapped d v) e) n (states.mapped_length f s h next)
                 (length-map (spec_at i).next _ ∙ answer_length (impl_at k).action some) few
 
-    pub holds7_is : (j : ℕ) (q : Step) → r ≡ row_step f s h.specification k here.mapped e → j ≡ row_with f s h.implementation r.action
-        → q ≡ row_step f s h.implementation j v e → not here.focus || (not r.enabled || q.enabled) ≡ at_spec holds7 d v k e
+    pub holds7_is : (j : ℕ) (q : Step) → r ≡ row_step f s h.specification k t e → j ≡ row_with f s h.implementation r.action
+        → q ≡ row_step f s h.implementation j v e → not focus || (not r.enabled || q.enabled) ≡ at_spec holds7 d v k e
     unfolding at_spec step_of row_with
-    holds7_is j q er ej eq = rw (impl_step j e q eq, ej, er, spec_step k e, known.focus_is)
+    holds7_is j q er ej eq = rw (impl_step j e q eq, ej, er, spec_step k e, focus_is)
 
 -- ---- focus points
 
@@ -206,55 +206,20 @@ module _ (f s : List ℕ) (h : Shape) (v : List ℕ) where
   abbrev design : Design
   design = design_at f s h
 
-  module _ (k : ℕ) where
-    abbrev quiet_at : ℕ → Bool
-    quiet_at e = not (marked_test design v k (row_at design.impl.rows k) e)
+  abbrev pub quiet_at : ℕ → ℕ → Bool
+  quiet_at k e = not (marked_test design v k (row_at design.impl.rows k) e)
 
-    unfoldable pub quiet_left : ℕ → ℕ → Bool
-    quiet_left m e = all_in_range quiet_at (m - e) e
+  pub quiet_says : (k e : ℕ) (r : Step) (marked b : Bool) → r ≡ row_step f s h.implementation k v e → marked ≡ marked_in f s h k v e
+      → b ≡ not (eqb r.action 0 && (r.enabled && marked)) → b ≡ quiet_at k e
+  unfolding row_step step_of
+  quiet_says k e r marked b er ek eb = eb ∙ ap not (rw (er, ek) (mark_tested f s h v k e))
 
-    pub quiet_begin : (m : ℕ) → m ≡ row_span f s h.implementation k → quiet_left m 0 ≡ quiet_in design v k
-    unfolding quiet_left quiet_in row_span
-    quiet_begin m em = all_begin quiet_at m ∙ ap (λ m. all_in_range quiet_at m 0) em
+  pub quiet_is : (k m : ℕ) → m ≡ row_span f s h.implementation k → all_in_range (quiet_at k) m 0 ≡ quiet_in design v k
+  unfolding quiet_in row_span
+  quiet_is k m em = rw em
 
-    module _ (m e : ℕ) (r : Step) (marked : Bool) (l : e < m) (er : r ≡ row_step f s h.implementation k v e) (ek : marked ≡ marked_in f s h k v e) (inv : quiet_left m e ≡ quiet_in design v k) where
-      quiet_says : (b : Bool) → eqb r.action 0 && (r.enabled && marked) ≡ b → quiet_at e ≡ not b
-      unfolding row_step step_of
-      quiet_says b y = ap not (sym (mark_tested f s h v k e) ∙ sym (rw (er, ek)) ∙ y)
-
-      pub quiet_turn : eqb r.action 0 && (r.enabled && marked) ≡ false → quiet_left m (e + 1) ≡ quiet_in design v k
-      unfolding quiet_left
-      quiet_turn y = sym (all_turn quiet_at m e l (quiet_says false y)) ∙ inv
-
-      pub quiet_fail : eqb r.action 0 && (r.enabled && marked) ≡ true → false ≡ quiet_in design v k
-      unfolding quiet_left
-      quiet_fail y = sym (all_fail quiet_at m e l (quiet_says true y)) ∙ inv
-
-    pub quiet_end : (m e : ℕ) → m ≤ e → quiet_left m e ≡ quiet_in design v k → true ≡ quiet_in design v k
-    unfolding quiet_left
-    quiet_end m e l inv = sym (all_end quiet_at m e l) ∙ inv
-
-  abbrev rows : ℕ
-  rows = h.implementation.rows.count
-
-  unfoldable pub focus_left : ℕ → Bool
-  focus_left k = all_in_range (λ x. quiet_in design v x) (suc rows - k) k
-
-  pub focus_begin : focus_left 0 ≡ focus_b design v
-  unfolding focus_left quiet_in
-  focus_begin =
-      all_begin (λ x. quiet_in design v x) (suc rows)
-      ∙ ap (λ m. all_in_range (λ k. quiet_in design v k) (suc m) 0) (sym (states.rows_count f s h.implementation))
+  pub focus_is : all_in_range (λ k. quiet_in design v k) (h.implementation.rows.count + 1) 0 ≡ focus_b design v
+  unfolding quiet_in
+  focus_is =
+      ap (λ m. all_in_range (λ k. quiet_in design v k) m 0) (add-one h.implementation.rows.count ∙ ap suc (sym (states.rows_count f s h.implementation)))
       ∙ sym (place_passes (suc (length design.impl.rows)) (λ k. (row_at design.impl.rows k).span) (λ k e. marked_test design v k (row_at design.impl.rows k) e) (λ k e. (k, e)))
-
-  pub focus_turn : (k : ℕ) (b : Bool) → k ≤ rows → b ≡ quiet_in design v k → not b ≡ false → focus_left k ≡ focus_b design v → focus_left (k + 1) ≡ focus_b design v
-  unfolding focus_left
-  focus_turn k b l eb y inv = sym (all_turn (λ x. quiet_in design v x) (suc rows) k (omega arith) (sym eb ∙ not-false b y)) ∙ inv
-
-  pub focus_fail : (k : ℕ) (b : Bool) → k ≤ rows → b ≡ quiet_in design v k → not b ≡ true → focus_left k ≡ focus_b design v → false ≡ focus_b design v
-  unfolding focus_left
-  focus_fail k b l eb y inv = sym (all_fail (λ x. quiet_in design v x) (suc rows) k (omega arith) (sym eb ∙ not-true b y)) ∙ inv
-
-  pub focus_end : (k : ℕ) → rows < k → focus_left k ≡ focus_b design v → true ≡ focus_b design v
-  unfolding focus_left
-  focus_end k l inv = sym (all_end (λ x. quiet_in design v x) (suc rows) k (omega arith)) ∙ inv

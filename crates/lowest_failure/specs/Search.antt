@@ -1,29 +1,17 @@
--- What is known of a state where the search looks, what its answer says, and the parts of the search: criterion 2, then of each of the
--- criteria 3 to 9 its rows, of each its sum values, by the tests of the crate decision. It is the search of decision/specs/Examine
--- (proofs/Search).
-use Rattle.std.specs.Prelude.{◌≡◌, Bool, not, cond, ℕ, suc, eqb}
+-- What the answer of the search says, and the parts of the search: criterion 2, then of each of the criteria 3 to 9 its rows, of each its
+-- sum values, by the tests of the crate decision. It is the search of decision/specs/Examine (proofs/Search).
+use Rattle.std.specs.Prelude.{Bool, not, cond, ℕ, suc, eqb, Option, Some, None}
 use Rattle.foundation.specs.First.{Outcome, pass, fail, fail_if, first_in, all_in_range}
 use Rattle.foundation.specs.Trial.{Place, place}
-use Rattle.criteria.specs.Design.{Design, Row, State, mapped}
+use Rattle.criteria.specs.Design.{Design, Row, State}
 use Rattle.criteria.specs.Rows.{row_at, marked_test}
-use Rattle.decision.specs.Tests.{focus_b, holds2, holds3, holds4, holds5, holds6, holds7, holds8, holds9}
+use Rattle.decision.specs.Tests.{holds2, holds3, holds4, holds5, holds6, holds7, holds8, holds9}
 use Rattle.design.specs.declared.Shape.{Shape}
-use Rattle.layout.specs.Sizes.{Fits}
-use Rattle.steps.specs.Arrays.{padded}
-use Rattle.lowest_failure.specs.declared.Here.{Here}
-use Rattle.lowest_failure.specs.declared.Finding.{Finding}
-use Rattle.lowest_failure.specs.declared.Finding.TheVariants.{Nothing, Found}
 
 -- the code's answer
-abbrev pub told_place : Finding → Outcome Place
-told_place Nothing = pass
-told_place (Found x) = fail x
-
--- what is known of a state is so
-pub record Known (h : Shape) (d : Design) (here : Here) : Type 0 where
-  pub fits : Fits h
-  pub mapped_is : here.mapped ≡ padded (mapped d here.state)
-  pub focus_is : here.focus ≡ focus_b d here.state
+abbrev pub told_place : Option Place → Outcome Place
+told_place None = pass
+told_place (Some x) = fail x
 
 -- row k has no marked step for any sum value
 unfoldable pub quiet_in : Design → State → ℕ → Bool

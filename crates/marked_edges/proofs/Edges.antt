@@ -5,10 +5,9 @@ use mathlib.Core.List.{List}
 use Prim.Native.Nat.{ℕ, ◌+◌, ◌*◌, ◌-◌, ◌/◌, ◌%◌, ◌≤◌, ◌<◌}
 use native.Mathlib.Omega.{arith}
 use native.Mathlib.Decide.{dec_lt}
-use borrow.Author.Tests.{lt-ltb, le-ltb, ltb-true, ltb-false, not-true}
+use borrow.Author.Tests.{lt-ltb, le-ltb, not-true, not-false}
 use lib.Dec.{ltb}
 use Rattle.terms.specs.Tree.{eval_f}
-use Rattle.terms.proofs.And.{and_left, and_right}
 use Rattle.criteria.specs.Design as design
 use Rattle.criteria.specs.Step.{next_state}
 use Rattle.criteria.specs.Rows.{marked_test}
@@ -20,10 +19,10 @@ use Rattle.steps.specs.Arrays.{padded, number_in}
 use Rattle.steps.proofs.Arrays.{row_past}
 use Rattle.marks.specs.Marks.{mark_holds}
 use Rattle.plan.specs.Plan.{impl_plan}
-use Rattle.row_looks.specs.Looks.{left, next_from, row_of, IsAt, FirstOn}
+use Rattle.row_looks.specs.Looks.{left, next_from, row_of, IsAt, FoundOn, NoneOn}
 use Rattle.row_looks.specs.declared.Row.{Row}
 use Rattle.row_looks.specs.declared.Look.{Look}
-use Rattle.marked_edges.specs.Edges.{nowhere, edge_row, edge_in, leads_in, FirstMarked, FirstFrom}
+use Rattle.marked_edges.specs.Edges.{nowhere, edge_row, edge_in, leads_in, FoundMarked, NoneMarked, FirstFrom, NoneFrom}
 
 -- ---- the sum values of a row
 
@@ -35,22 +34,14 @@ module _ (f : List ℕ) (row : Row) (v : List ℕ) (from : ℕ) where
     pub after : from ≤ sum
     pub none_before : (e : ℕ) → from ≤ e → e < sum → test e ≡ false
 
-  pub none_visible : not row.internal ≡ true → FirstMarked f row v from (record { sum = from; at = 0 })
-  none_visible y =
-      let z : row.internal ≡ false = not-true row.internal y in
-      record {
-        after = omega arith;
-        none_before = λ e a b. absurd (omega arith);
-        holds = λ q. absurd (true≢false (sym q ∙ z));
-        marked = λ q. absurd (true≢false (sym q ∙ z));
-        at = λ q. absurd (true≢false (sym q ∙ z));
-      }
+  pub none_visible : not row.internal ≡ true → NoneMarked f row v from
+  none_visible y = record { none = λ q. absurd (true≢false (sym q ∙ not-true row.internal y)) }
 
   pub none_starts : NoneTo from
   none_starts = record { after = omega arith; none_before = λ e a b. absurd (omega arith) }
 
   -- up to the next for which the row is enabled
-  none_on : (sum : ℕ) (r : Look) → FirstOn f row v sum r → NoneTo sum → NoneTo r.sum
+  none_on : (sum : ℕ) (r : Look) → FoundOn f row v sum r → NoneTo sum → NoneTo r.sum
   none_on sum r o n =
       record {
         after = let a = o.after in let b = n.after in omega arith;
@@ -61,30 +52,26 @@ module _ (f : List ℕ) (row : Row) (v : List ℕ) (from : ℕ) where
       go e a b (yes l) = n.none_before e a l
       go e a b (no l) = rw (o.none_before e (omega arith) b)
 
-  pub none_left : (sum : ℕ) (r : Look) → FirstOn f row v sum r → row.looks ≤ r.sum → NoneTo sum → FirstMarked f row v from r
-  none_left sum r o past n =
+  pub one_found : (sum : ℕ) (r : Look) (b : Bool) → not row.internal ≡ false → FoundOn f row v sum r → r.sum < 256 → b ≡ mark_holds f row.mark v r.sum → b ≡ true → NoneTo sum
+      → FoundMarked f row v from r
+  one_found sum r b int o few eb y n =
       let k = none_on sum r o n in
       record {
+        internal = not-false row.internal int;
         after = k.after;
+        below = o.below;
+        small = few;
         none_before = k.none_before;
-        holds = λ _ l. absurd (omega arith);
-        marked = λ _ l. absurd (omega arith);
-        at = λ _ l. absurd (omega arith);
+        holds = o.holds;
+        marked = sym eb ∙ y;
+        at = o.at;
       }
 
-  pub one_found : (sum : ℕ) (r : Look) (b : Bool) → FirstOn f row v sum r → b ≡ mark_holds f row.mark v r.sum → b ≡ true → NoneTo sum
-      → FirstMarked f row v from r
-  one_found sum r b o eb y n =
-      let k = none_on sum r o n in
-      record {
-        after = k.after;
-        none_before = k.none_before;
-        holds = λ _. o.holds;
-        marked = λ _ _. sym eb ∙ y;
-        at = λ _. o.at;
-      }
+  -- the next has no number
+  pub none_far : (sum : ℕ) (r : Look) → FoundOn f row v sum r → 256 ≤ r.sum → NoneTo sum → NoneMarked f row v from
+  none_far sum r o far n = let k = none_on sum r o n in record { none = λ _ e a u l. k.none_before e a (omega arith) }
 
-  pub none_turns : (sum : ℕ) (r : Look) (b : Bool) → FirstOn f row v sum r → b ≡ mark_holds f row.mark v r.sum → b ≡ false → NoneTo sum
+  pub none_turns : (sum : ℕ) (r : Look) (b : Bool) → FoundOn f row v sum r → b ≡ mark_holds f row.mark v r.sum → b ≡ false → NoneTo sum
       → NoneTo (r.sum + 1)
   none_turns sum r b o eb y n =
       let k = none_on sum r o n in
@@ -97,15 +84,12 @@ module _ (f : List ℕ) (row : Row) (v : List ℕ) (from : ℕ) where
       go k e a l (yes u) = k.none_before e a u
       go k e a l (no u) = let q : e ≡ r.sum = omega arith in rw (q, ← eb, y) (and-false (eval_f (left f row).tree v r.sum))
 
-  pub none_ends : (sum : ℕ) → row.looks ≤ sum → NoneTo sum → FirstMarked f row v from (record { sum = sum; at = 0 })
-  none_ends sum past n =
-      record {
-        after = n.after;
-        none_before = n.none_before;
-        holds = λ _ l. absurd (omega arith);
-        marked = λ _ l. absurd (omega arith);
-        at = λ _ l. absurd (omega arith);
-      }
+  pub none_ends : (sum : ℕ) → NoneOn f row v sum → NoneTo sum → NoneMarked f row v from
+  none_ends sum o n = record { none = λ _ e a u l. go e a u (dec_lt e sum) }
+    where
+      go : (e : ℕ) → from ≤ e → e < row.looks → Dec (e < sum) → test e ≡ false
+      go e a u (yes l) = n.none_before e a l
+      go e a u (no l) = rw (o.none e (omega arith) u)
 
 -- ---- the rows
 
@@ -144,14 +128,8 @@ module _ (f s : List ℕ) (h : Shape) (v : List ℕ) where
   pub passed_starts : (from : ℕ) → Passed from (from / 256) (from % 256)
   passed_starts from = record { after = omega arith; none_before = λ j a b. absurd (omega arith); small = omega arith }
 
-  pub passed_ends : (from i sum : ℕ) → from ≤ 8192 → rows ≤ i → Passed from i sum → FirstFrom leads from 8192 0
-  passed_ends from i sum few past p =
-      record {
-        from = few;
-        most = omega arith;
-        none_before = λ j a b. go j a (dec_lt j (256 * i + sum));
-        there = λ l. absurd (omega arith);
-      }
+  pub passed_ends : (from i sum : ℕ) → rows ≤ i → Passed from i sum → NoneFrom leads from
+  passed_ends from i sum past p = record { none = λ j a b. go j a (dec_lt j (256 * i + sum)) }
     where
       go : (j : ℕ) → from ≤ j → Dec (j < 256 * i + sum) → leads j ≡ nowhere
       go j a (yes l) = p.none_before j a l
@@ -195,81 +173,61 @@ module _ (f s : List ℕ) (h : Shape) (v : List ℕ) where
     visible_turns : row.internal ≡ false → Passed from (i + 1) 0
     visible_turns z = passes_row from i sum (λ e a b. edge_off i e b true (rw (← here.internal, z))) p
 
-    module _ (r : Look) (z : row.internal ≡ true) (m : FirstMarked f row v sum r) where
+    module _ (z : row.internal ≡ true) where
       int : internal_b (row_of f s h i) ≡ true
       int = sym here.internal ∙ z
 
-      -- a sum value before the one found
-      not_yet : (e : ℕ) → sum ≤ e → e < 256 → e < r.sum → leads (256 * i + e) ≡ nowhere
-      not_yet e a b l = go (dec_lt e row.looks) (dec_lt e (impl_plan f s h i).looks)
+      -- a sum value that needs none, or for which there is no marked step
+      not_there : (e : ℕ) → e < 256 → (e < row.looks → eval_f (left f row).tree v e && mark_holds f row.mark v e ≡ false) → leads (256 * i + e) ≡ nowhere
+      not_there e b off = go (dec_lt e row.looks) (dec_lt e (impl_plan f s h i).looks)
         where
           go : Dec (e < row.looks) → Dec (e < (impl_plan f s h i).looks) → leads (256 * i + e) ≡ nowhere
-          go (yes u) k = edge_off i e b true (rw int (rw (← here.on e u, ← here.marked e int) (m.none_before e a l)))
+          go (yes u) k = edge_off i e b true (rw int (rw (← here.on e u, ← here.marked e int) (off u)))
           go (no u) (yes k) = edge_off i e b true (rw (int, here.off e (omega arith) k))
           go (no u) (no k) = edge_past i e b (omega arith)
 
-      -- one that needs no look
-      needs_none : (e : ℕ) → e < 256 → row.looks ≤ e → leads (256 * i + e) ≡ nowhere
-      needs_none e b u = go (dec_lt e (impl_plan f s h i).looks)
-        where
-          go : Dec (e < (impl_plan f s h i).looks) → leads (256 * i + e) ≡ nowhere
-          go (yes k) = edge_off i e b true (rw (int, here.off e u k))
-          go (no k) = edge_past i e b (omega arith)
+    pub row_none : NoneMarked f row v sum → Passed from (i + 1) 0
+    row_none m = go row.internal refl
+      where
+        go : (c : Bool) → row.internal ≡ c → Passed from (i + 1) 0
+        go true z = passes_row from i sum (λ e a b. not_there z e b (λ u. m.none z e a u b)) p
+        go false z = visible_turns z
 
-      internal_turns : ltb r.sum row.looks && ltb r.sum 256 ≡ false → Passed from (i + 1) 0
-      internal_turns q = passes_row from i sum none p
-        where
-          none : (e : ℕ) → sum ≤ e → e < 256 → leads (256 * i + e) ≡ nowhere
-          none e a b = go (dec_lt e r.sum) (dec_lt r.sum row.looks)
-            where
-              go : Dec (e < r.sum) → Dec (r.sum < row.looks) → leads (256 * i + e) ≡ nowhere
-              go (yes l) k = not_yet e a b l
-              go (no l) (yes k) = let w : ltb r.sum 256 ≡ false = rw (lt-ltb r.sum row.looks k) at q in absurd (let y = ltb-false r.sum 256 w in omega arith)
-              go (no l) (no k) = needs_none e b (omega arith)
+    module _ (r : Look) (m : FoundMarked f row v sum r) where
+      -- a sum value before the one found
+      not_yet : (e : ℕ) → sum ≤ e → e < 256 → e < r.sum → leads (256 * i + e) ≡ nowhere
+      not_yet e a b l = not_there m.internal e b (λ _. m.none_before e a l)
 
-      pub edge_found : (x : List ℕ) (to : ℕ) → i < 32 → r.sum < row.looks → r.sum < 256 → x ≡ next_from f h r.at v r.sum
+      pub row_found : (x : List ℕ) (to : ℕ) → Fits h → i < rows → x ≡ next_from f h r.at v r.sum
           → to ≡ number_in f s h.implementation x → FirstFrom leads from (i * 256 + r.sum) to
-      edge_found x to few l u ex et =
+      row_found x to fits under ex et =
+          let few = fits.implementation.rows in
           let a = p.after in
           let b = m.after in
+          let u = m.small in
+          let l = m.below in
           record {
             from = omega arith;
-            most = omega arith;
+            one = omega arith;
             none_before = λ j c g. before j c g (dec_lt j (256 * i + sum));
-            there = λ _. et ∙ ap (number_in f s h.implementation) (ex ∙ ap (λ k. next_from f h k v r.sum) (m.at z l) ∙ here.next r.sum (omega arith)) ∙ sym arrives;
+            there = et ∙ ap (number_in f s h.implementation) (ex ∙ ap (λ k. next_from f h k v r.sum) m.at ∙ here.next r.sum (omega arith)) ∙ sym arrives;
           }
         where
           before : (j : ℕ) → from ≤ j → j < i * 256 + r.sum → Dec (j < 256 * i + sum) → leads j ≡ nowhere
           before j c g (yes k) = p.none_before j c k
           before j c g (no k) =
               let is : j ≡ 256 * i + (j - 256 * i) = omega arith in
+              let u = m.small in
               rw is (not_yet (j - 256 * i) (omega arith) (omega arith) (omega arith))
 
           is_edge : edge_in f s h v (256 * i + r.sum) ≡ true
           is_edge =
               let k = here.most in
-              edge_is i r.sum u
-              ∙ rw (lt-ltb r.sum (impl_plan f s h i).looks (omega arith), int, ← here.on r.sum l, m.holds z l, ← here.marked r.sum int, m.marked z l)
+              let l = m.below in
+              edge_is i r.sum m.small
+              ∙ rw (lt-ltb r.sum (impl_plan f s h i).looks (omega arith), int m.internal, ← here.on r.sum l, m.holds, ← here.marked r.sum (int m.internal), m.marked)
 
           arrives : leads (i * 256 + r.sum) ≡ number_in f s h.implementation (padded (next_state (row_of f s h i) v r.sum))
           arrives =
               let e : i * 256 + r.sum ≡ 256 * i + r.sum = omega arith in
-              ap leads e ∙ leads_there (256 * i + r.sum) is_edge ∙ rw (row_of_lem i r.sum u, sum_of i r.sum u)
-
-    pub row_turns : (r : Look) (b : Bool) → b ≡ row.internal && (ltb r.sum row.looks && ltb r.sum 256) → b ≡ false → FirstMarked f row v sum r
-        → Passed from (i + 1) 0
-    row_turns r b eb y m = go row.internal refl (sym eb ∙ y)
-      where
-        go : (c : Bool) → row.internal ≡ c → c && (ltb r.sum row.looks && ltb r.sum 256) ≡ false → Passed from (i + 1) 0
-        go true z q = internal_turns r z m q
-        go false z q = visible_turns z
-
-    pub row_found : (r : Look) (b : Bool) (x : List ℕ) (to : ℕ) → Fits h → i < rows → b ≡ row.internal && (ltb r.sum row.looks && ltb r.sum 256)
-        → b ≡ true → FirstMarked f row v sum r → x ≡ next_from f h r.at v r.sum → to ≡ number_in f s h.implementation x
-        → FirstFrom leads from (i * 256 + r.sum) to
-    row_found r b x to fits below eb y m =
-        let q : row.internal && (ltb r.sum row.looks && ltb r.sum 256) ≡ true = sym eb ∙ y in
-        let w = and_right row.internal (ltb r.sum row.looks && ltb r.sum 256) q in
-        let k = fits.implementation.rows in
-        edge_found r (and_left row.internal _ q) m x to (omega arith) (ltb-true r.sum row.looks (and_left (ltb r.sum row.looks) _ w))
-        (ltb-true r.sum 256 (and_right (ltb r.sum row.looks) (ltb r.sum 256) w))
+              ap leads e ∙ leads_there (256 * i + r.sum) is_edge ∙ rw (row_of_lem i r.sum m.small, sum_of i r.sum m.small)

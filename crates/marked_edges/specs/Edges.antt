@@ -1,7 +1,7 @@
 -- Marked steps by a number, as the search for longest runs goes over them: f the fields, s the starts of lines, h the shape, v an array that
 -- holds a state of the implementation. Number 256 * i + e is that of row i + 1 and the sum value e. That these are the marked steps of the
 -- design in the arrays is in proofs/Steps.
-use Rattle.std.specs.Prelude.{◌≡◌, Bool, true, false, ◌&&◌, cond, List, ℕ, ◌+◌, ◌/◌, ◌%◌, ◌≤◌, ◌<◌, ltb}
+use Rattle.std.specs.Prelude.{◌≡◌, Bool, true, false, ◌&&◌, cond, List, ℕ, ◌+◌, ◌/◌, ◌%◌, ◌≤◌, ◌<◌, ltb, Option, MatchOption}
 use Rattle.limits.specs.Limits.{max_span, max_states}
 use Rattle.foundation.specs.Nth.{EachIs}
 use Rattle.terms.specs.Tree.{eval_f}
@@ -17,6 +17,7 @@ use Rattle.plan.specs.Plan.{impl_plan}
 use Rattle.row_looks.specs.Looks.{left}
 use Rattle.row_looks.specs.declared.Row.{Row}
 use Rattle.row_looks.specs.declared.Look.{Look}
+use Rattle.marked_edges.specs.declared.Edge.{Edge}
 
 -- how many there are, 32 rows of 256 sum values; and the number that no state has
 abbrev pub edges : ℕ
@@ -39,20 +40,39 @@ unfoldable pub leads_in : List ℕ → List ℕ → Shape → List ℕ → ℕ �
 leads_in f s h v k =
     cond (edge_in f s h v k) (number_in f s h.implementation (padded (next_state (edge_row f s h k) v (k % 256)))) nowhere
 
--- an internal row has a marked step for r's sum value, if that needs a look, and for none from `from` up to it
-pub record FirstMarked (f : List ℕ) (row : Row) (v : List ℕ) (from : ℕ) (r : Look) : Type 0 where
+-- an internal row has a marked step for r's sum value, which needs a look and has a number, and for none from `from` up to it
+pub record FoundMarked (f : List ℕ) (row : Row) (v : List ℕ) (from : ℕ) (r : Look) : Type 0 where
+  pub internal : row.internal ≡ true
   pub after : from ≤ r.sum
+  pub below : r.sum < row.looks
+  pub small : r.sum < max_span
   pub none_before : (e : ℕ) → from ≤ e → e < r.sum → eval_f (left f row).tree v e && mark_holds f row.mark v e ≡ false
-  pub holds : row.internal ≡ true → r.sum < row.looks → eval_f (left f row).tree v r.sum ≡ true
-  pub marked : row.internal ≡ true → r.sum < row.looks → mark_holds f row.mark v r.sum ≡ true
-  pub at : row.internal ≡ true → r.sum < row.looks → r.at ≡ row.at + (left f row).used
+  pub holds : eval_f (left f row).tree v r.sum ≡ true
+  pub marked : mark_holds f row.mark v r.sum ≡ true
+  pub at : r.at ≡ row.at + (left f row).used
+
+-- it has none for a sum value from `from` on that needs a look and has a number
+pub record NoneMarked (f : List ℕ) (row : Row) (v : List ℕ) (from : ℕ) : Type 0 where
+  pub none : row.internal ≡ true → (e : ℕ) → from ≤ e → e < row.looks → e < max_span → eval_f (left f row).tree v e && mark_holds f row.mark v e ≡ false
+
+-- the first such sum value, if there is one
+abbrev pub FirstMarked : List ℕ → Row → List ℕ → ℕ → Option Look → Type 0
+FirstMarked f row v from r = MatchOption r (NoneMarked f row v from) (λ x. FoundMarked f row v from x)
 
 -- `edge` is the first step from number k on that there is, and leads to `to`
 pub record FirstFrom (leads : ℕ → ℕ) (k edge to : ℕ) : Type 0 where
   pub from : k ≤ edge
-  pub most : edge ≤ edges
+  pub one : edge < edges
   pub none_before : (j : ℕ) → k ≤ j → j < edge → leads j ≡ nowhere
-  pub there : edge < edges → to ≡ leads edge
+  pub there : to ≡ leads edge
+
+-- from number k on there is none
+pub record NoneFrom (leads : ℕ → ℕ) (k : ℕ) : Type 0 where
+  pub none : (j : ℕ) → k ≤ j → j < edges → leads j ≡ nowhere
+
+-- the first from number k on, if there is one
+abbrev pub FirstIn : (ℕ → ℕ) → ℕ → Option Edge → Type 0
+FirstIn leads k r = MatchOption r (NoneFrom leads k) (λ x. FirstFrom leads k x.edge x.to)
 
 -- the state that step number j leads to from state number k, where the invariant holds
 unfoldable pub next_in : List ℕ → List ℕ → Shape → ℕ → ℕ → ℕ

@@ -2,12 +2,13 @@
 // finds the first from a number on. What a number stands for is in specs/Edges.
 #![tactic(auto)]
 
-ghost use Rattle.std.specs.Prelude.{◌≡◌, ◌&&◌, ltb, ◌≤◌};
+ghost use Rattle.std.specs.Prelude.{◌≡◌, ◌≤◌};
 ghost use Rattle.layout.specs.Sizes.{Fits};
 ghost use Rattle.plan.specs.Plan.{plan_in};
-ghost use Rattle.marked_edges.specs.Edges.{leads_in, FirstMarked, FirstFrom};
+ghost use Rattle.marked_edges.specs.Edges.{leads_in, FirstMarked, FirstIn};
 
 use design::Shape;
+use layout::Lines;
 use row_looks::{Look, Row};
 
 // As many numbers as rows and sum values have: row i, counted from 0, has those from SUMS * i on.
@@ -15,70 +16,58 @@ pub const SUMS: usize = limits::MAX_SPAN as usize;
 
 pub const EDGES: usize = limits::MAX_ROWS * SUMS;
 
-// A step: its number, EDGES where there is none, and the number of the state that it leads to.
+// A step: its number, and that of the state that it leads to.
 #[derive(Clone, Copy)]
 pub struct Edge {
     pub edge: usize,
     pub to: usize,
 }
 
-// The first sum value from `from` on for which an internal row has a marked step.
-fn marked_from(fields: &limits::Fields, row: Row, v: &limits::Values, from: u16) -> Look
+// The first sum value from `from` on that needs a look and for which an internal row has a marked step with a number.
+fn marked_from(fields: &limits::Fields, row: Row, v: &limits::Values, from: u16) -> Option<Look>
     ensures { FirstMarked fields.now row v.now from result }
 {
     if !row.internal {
-        return Look { sum: from, at: 0 };
+        return None;
     }
     let mut sum = from;
-    while sum < row.looks {
-        let look = row_looks::enabled_from(fields, row, v, sum);
-        if row.looks <= look.sum {
-            return look;
+    while let Some(look) = row_looks::enabled_from(fields, row, v, sum) {
+        if limits::MAX_SPAN <= look.sum {
+            return None;
         }
         if marks::holds(fields, row.mark, v, look.sum) {
-            return look;
+            return Some(look);
         }
         sum = look.sum + 1;
     }
-    Look { sum, at: 0 }
-}
-
-// Whether a step was found: the row is internal, and the sum value needs a look and has a number.
-fn has_step(row: Row, sum: u16) -> bool
-    ensures { result ≡ row.internal && (ltb sum row.looks && ltb sum 256) }
-{
-    row.internal & ((sum < row.looks) & (sum < limits::MAX_SPAN))
+    None
 }
 
 // The first marked step from a number on.
-pub fn next<'a>(
-    fields: &'a limits::Fields,
-    starts: &'a limits::Starts,
+pub fn next(
+    lines: &Lines,
     shape: Shape,
     plan: &[u16; row_plan::LENGTH],
     v: &limits::Values,
     from: usize,
-) -> Edge
+) -> Option<Edge>
     requires fits { Fits shape }
-    requires plan_value { plan.now ≡ plan_in fields.now starts.now shape }
+    requires plan_value { plan.now ≡ plan_in lines.now.fields lines.now.starts shape }
     requires from_bound { from ≤ 8192 }
-    ensures { FirstFrom (leads_in fields.now starts.now shape v.now) from result.edge result.to }
+    ensures { FirstIn (leads_in lines.now.fields lines.now.starts shape v.now) from result }
 {
-    let rows = shape.implementation.rows.count;
-    let mut i = (from / SUMS) as u8;
+    let first = (from / SUMS) as u8;
     let mut sum = (from % SUMS) as u16;
-    while i < rows {
-        let row = row_looks::row_at(fields, starts, shape, plan, i, v);
-        let found = marked_from(fields, row, v, sum);
-        if has_step(row, found.sum) {
-            let x = row_looks::next(fields, shape, found.at, v, found.sum);
-            return Edge {
+    for i in first..shape.implementation.rows.count {
+        let row = row_looks::row_at(lines, shape, plan, i, v);
+        if let Some(found) = marked_from(&lines.fields, row, v, sum) {
+            let x = row_looks::next(&lines.fields, shape, found.at, v, found.sum);
+            return Some(Edge {
                 edge: i as usize * SUMS + found.sum as usize,
-                to: steps::number(fields, starts, shape.implementation, &x),
-            };
+                to: steps::number(lines, shape.implementation, &x),
+            });
         }
-        i += 1;
         sum = 0;
     }
-    Edge { edge: EDGES, to: 0 }
+    None
 }

@@ -1,13 +1,14 @@
--- What the functions return, as specs/Marks says it, and the turns of the loops over rows and formulas.
+-- What the functions return, as specs/Marks says it, the count of internal rows, and the turns of the loop over formulas.
 use mathlib.Core.Path.{◌≡◌, refl, ◌∙◌}
 use mathlib.Core.Bool.{Bool, true, false, cond}
-use mathlib.Core.List.{List}
-use Prim.Native.Nat.{ℕ, suc, ◌+◌, ◌-◌, ◌≤◌, ◌<◌}
-use native.Mathlib.Nat.{zero-add}
+use mathlib.Core.List.{List, ◌∷◌}
+use Prim.Native.Nat.{ℕ, zero, suc, ◌+◌, ◌-◌, ◌≤◌, ◌<◌}
+use native.Mathlib.Numerals.{add-one}
 use native.Mathlib.Omega.{arith}
 use borrow.Author.Tests.{eq-eqb, ne_eqb}
 use lib.Dec.{eqb}
-use lib.ListN.{get_or, drop}
+use lib.ListN.{length, get_or, drop}
+use Rattle.std.specs.List.{filter, range_with_len}
 use Rattle.terms.specs.Read.{read_f}
 use Rattle.terms.proofs.Read.{place}
 use Rattle.eval.specs.Answer.{answer_f}
@@ -19,60 +20,28 @@ use Rattle.design.specs.Line.{row_of, formulas_used}
 use Rattle.design.specs.Loaded.{line_from, each_line_of}
 use Rattle.design.specs.declared.Process.{Process}
 use Rattle.design.specs.declared.Shape.{Shape}
-use Rattle.layout.proofs.Sizes.{each_on, each_none}
-use Rattle.marks.specs.Marks.{internal_in, counted_if, after_formulas, mark_place, marked_in, place_from, mark_holds}
+use Rattle.marks.specs.Marks.{internal_in, after_formulas, mark_place, marked_in, place_from, mark_holds}
 
 -- ---- internal rows
 
-module _ (f s : List ℕ) (p : Process) (n i : ℕ) where
-  -- how many are still to be counted, from row i on
-  unfoldable pub internal_left : ℕ
-  internal_left = internal_rows (each_line_of (row_of p.parameters.count) (line_from f s) (n - i) (p.rows.first + i))
+one_more : (b : Bool) (x : ℕ) (xs : List ℕ) → length (cond b (x ∷ xs) xs) ≡ cond b (suc (length xs)) (length xs)
+one_more true x xs = refl
+one_more false x xs = refl
 
-pub internal_starts : (f s : List ℕ) (p : Process) (n : ℕ) → 0 + internal_left f s p n 0 ≡ internal_in f s p n
-unfolding internal_left internal_in
-internal_starts f s p n = let e : n - 0 ≡ n = omega arith in let z : p.rows.first + 0 ≡ p.rows.first = omega arith in rw (e, z) (zero-add _)
+module _ (f s : List ℕ) (p : Process) where
+  abbrev pub internal_at : ℕ → Bool
+  internal_at i = eqb (get_or (line_from f s (p.rows.first + i)) 1 0) 0
 
-pub counted_yes : (count action : ℕ) → action ≡ 0 → count + 1 ≡ counted_if count action
-counted_yes count action e = rw (eq-eqb action 0 e)
+  counted : (n i : ℕ) → length (filter internal_at (range_with_len i n)) ≡ internal_rows (each_line_of (row_of p.parameters.count) (line_from f s) n (p.rows.first + i))
+  unfolding internal_rows each_line_of
+  counted zero i = refl
+  counted (suc n) i =
+      let k : suc (p.rows.first + i) ≡ p.rows.first + suc i = omega arith in
+      one_more (internal_at i) i (filter internal_at (range_with_len (i + 1) n)) ∙ rw (add-one i, counted n (suc i), k)
 
-pub counted_no : (count action : ℕ) → (action ≡ 0 → ⊥) → count ≡ counted_if count action
-counted_no count action e = rw (ne_eqb action 0 e)
-
-pub counted_few : (i count action more : ℕ) → more ≡ counted_if count action → count ≤ i → more ≤ i + 1
-counted_few i count action more em few = go (eqb action 0) em
-  where
-    go : (b : Bool) → more ≡ cond b (count + 1) count → more ≤ i + 1
-    go true e = omega arith
-    go false e = omega arith
-
-pub internal_turns : (f s : List ℕ) (p : Process) (n i count line action more : ℕ) → i < n → line ≡ get_or s (p.rows.first + i) 0 → action ≡ get_or (drop line f) 1 0
-    → more ≡ counted_if count action → count + internal_left f s p n i ≡ internal_in f s p n → more + internal_left f s p n (i + 1) ≡ internal_in f s p n
-unfolding internal_left internal_rows
-internal_turns f s p n i count line action more l el ea em inv = go (eqb action 0) refl ∙ inv
-  where
-    rest : ℕ
-    rest = internal_rows (each_line_of (row_of p.parameters.count) (line_from f s) (n - (i + 1)) (p.rows.first + (i + 1)))
-
-    one : internal_left f s p n i ≡ cond (eqb action 0) (suc rest) rest
-    one = rw (each_on (row_of p.parameters.count) (line_from f s) p.rows.first n i l, ea, el)
-
-    go : (b : Bool) → eqb action 0 ≡ b → more + rest ≡ count + internal_left f s p n i
-    go true e =
-        let m : more ≡ count + 1 = em ∙ rw e in
-        let o : internal_left f s p n i ≡ suc rest = one ∙ rw e in
-        omega arith
-    go false e =
-        let m : more ≡ count = em ∙ rw e in
-        let o : internal_left f s p n i ≡ rest = one ∙ rw e in
-        omega arith
-
-pub internal_ends : (f s : List ℕ) (p : Process) (n i count : ℕ) → n ≤ i → count + internal_left f s p n i ≡ internal_in f s p n → count ≡ internal_in f s p n
-unfolding internal_left internal_rows
-internal_ends f s p n i count l inv = end ∙ inv
-  where
-    end : count ≡ count + internal_left f s p n i
-    end = rw (each_none (row_of p.parameters.count) (line_from f s) (p.rows.first + i) n i l) (omega arith)
+  pub internal_is : (n : ℕ) → length (filter internal_at (range_with_len 0 n)) ≡ internal_in f s p n
+  unfolding internal_in
+  internal_is n = let z : p.rows.first + 0 ≡ p.rows.first = omega arith in rw z at (counted n 0)
 
 -- ---- marks
 

@@ -12,10 +12,6 @@ use Rattle.design.specs.declared.Shape.{Shape}
 unfoldable pub internal_in : List ℕ → List ℕ → Process → ℕ → ℕ
 internal_in fields starts p n = internal_rows (each_line_of (row_of p.parameters.count) (line_from fields starts) n p.rows.first)
 
--- one more for a row of action 0
-abbrev pub counted_if : ℕ → ℕ → ℕ
-counted_if count action = cond (eqb action 0) (count + 1) count
-
 -- the place after n formulas from a place on
 unfoldable pub after_formulas : List ℕ → ℕ → ℕ → ℕ
 after_formulas f at n = at + formulas_used n (drop at f)

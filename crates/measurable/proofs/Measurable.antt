@@ -29,7 +29,7 @@ use Rattle.plan.specs.Plan.{plan_in, impl_plan}
 use Rattle.tenth.specs.Tenth.{apart_as_read}
 use Rattle.tenth.proofs.Decided.{apart_held}
 use Rattle.plan.proofs.Held.{row_is, Likewise, looks_within, looks_enough}
-use Rattle.row_looks.specs.Looks.{next_from, row_of, IsAt, FirstOn}
+use Rattle.row_looks.specs.Looks.{next_from, row_of, IsAt, FoundOn, NoneOn}
 use Rattle.row_looks.specs.declared.Row as looks
 use Rattle.row_looks.specs.declared.Look.{Look}
 use Rattle.measurable.specs.Measurable.{LeadsInside, RowStays, stays, leaves, RowsStay, stay, one_leaves, StateStays, lacks, outside, inside, CanMeasure, can, cannot}
@@ -71,7 +71,7 @@ module _ (f s v : List ℕ) (h : Shape) (i : ℕ) (fits : Fits h) (below : i < h
           looked (no u) = absurd (true≢false (sym (k.on ∙ y) ∙ here.off k.sum (omega arith) k.below))
 
   -- what is found next
-  module _ (sum : ℕ) (look : Look) (o : FirstOn f row v sum look) (g : UpTo sum) where
+  module _ (sum : ℕ) (look : Look) (o : FoundOn f row v sum look) (g : UpTo sum) where
     up_to : UpTo look.sum
     up_to = record { all = λ e l u. go e l u (dec_lt e sum) }
       where
@@ -79,20 +79,19 @@ module _ (f s v : List ℕ) (h : Shape) (i : ℕ) (fits : Fits h) (below : i < h
         go e l u (yes k) = g.all e k u
         go e l u (no k) = λ y. absurd (true≢false (sym (here.on e u ∙ y) ∙ o.none_before e (omega arith) l))
 
-    pub stays_ended : row.looks ≤ look.sum → RowStays d v r true
-    stays_ended past = all_stay look.sum past up_to
-
-    module _ (x : List ℕ) (b : Bool) (l : look.sum < row.looks) (ex : x ≡ next_from f h look.at v look.sum) (eb : b ≡ inside_in f s h x) where
+    module _ (x : List ℕ) (b : Bool) (ex : x ≡ next_from f h look.at v look.sum) (eb : b ≡ inside_in f s h x) where
       inside_is : b ≡ inside_b d (next_state r v look.sum)
       inside_is =
-          eb ∙ ap (inside_in f s h) (ex ∙ ap (λ k. next_from f h k v look.sum) (o.at l) ∙ here.next look.sum (omega arith))
+          let l = o.below in
+          eb ∙ ap (inside_in f s h) (ex ∙ ap (λ k. next_from f h k v look.sum) o.at ∙ here.next look.sum (omega arith))
           ∙ held.inside_held f s h fits (next_state r v look.sum) (next_length look.sum)
 
       pub stays_fails : not b ≡ true → RowStays d v r false
       stays_fails y =
+          let l = o.below in
           let m = here.most in
           let w = looks_within f s h v i below in
-          leaves look.sum (record { in_span = omega arith; on = sym (here.on look.sum l) ∙ o.holds l; out = sym inside_is ∙ not-true b y })
+          leaves look.sum (record { in_span = omega arith; on = sym (here.on look.sum l) ∙ o.holds; out = sym inside_is ∙ not-true b y })
 
       pub stays_turns : not b ≡ false → UpTo (look.sum + 1)
       stays_turns y = record { all = λ e k u. go e k u (dec_lt e look.sum) }
@@ -101,8 +100,12 @@ module _ (f s v : List ℕ) (h : Shape) (i : ℕ) (fits : Fits h) (below : i < h
           go e k u (yes z) = up_to.all e z u
           go e k u (no z) = λ _. let q : e ≡ look.sum = omega arith in rw q (sym inside_is ∙ not-false b y)
 
-  pub stays_ends : (sum : ℕ) → row.looks ≤ sum → UpTo sum → RowStays d v r true
-  stays_ends = all_stay
+  pub stays_ends : (sum : ℕ) → NoneOn f row v sum → UpTo sum → RowStays d v r true
+  stays_ends sum o g = all_stay row.looks (omega arith) (record { all = λ e l u. go e u (dec_lt e sum) })
+    where
+      go : (e : ℕ) → e < row.looks → Dec (e < sum) → Inside f s v h i e
+      go e u (yes k) = g.all e k u
+      go e u (no k) = λ y. absurd (true≢false (sym (here.on e u ∙ y) ∙ o.none e (omega arith) u))
 
 -- ---- the rows
 

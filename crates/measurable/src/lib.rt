@@ -13,80 +13,63 @@ ghost use Rattle.steps.specs.Arrays.{state_in};
 ghost use Rattle.measurable.specs.Measurable.{RowStays, RowsStay, StateStays, CanMeasure};
 
 use design::Shape;
+use layout::Lines;
 
 // In all n states.
-pub fn holds<'a>(
-    fields: &'a limits::Fields,
-    starts: &'a limits::Starts,
-    shape: Shape,
-    plan: &[u16; row_plan::LENGTH],
-    n: usize,
-) -> bool
+pub fn holds(lines: &Lines, shape: Shape, plan: &[u16; row_plan::LENGTH], n: usize) -> bool
     requires fits { Fits shape }
-    requires plan_value { plan.now ≡ plan_in fields.now starts.now shape }
-    requires n_value { n ≡ states (design_at fields.now starts.now shape) }
+    requires plan_value { plan.now ≡ plan_in lines.now.fields lines.now.starts shape }
+    requires n_value { n ≡ states (design_at lines.now.fields lines.now.starts shape) }
     requires n_bound { n ≤ 65536 }
-    ensures { CanMeasure (design_at fields.now starts.now shape) result }
+    ensures { CanMeasure (design_at lines.now.fields lines.now.starts shape) result }
 {
-    let mut k = 0;
-    while k < n {
-        if !state_stays(fields, starts, shape, plan, k as u16) {
+    for k in 0..n {
+        if !state_stays(lines, shape, plan, k as u16) {
             return false;
         }
-        k += 1;
     }
     true
 }
 
 // In the state with a number.
-fn state_stays<'a>(
-    fields: &'a limits::Fields,
-    starts: &'a limits::Starts,
-    shape: Shape,
-    plan: &[u16; row_plan::LENGTH],
-    number: u16,
-) -> bool
+fn state_stays(lines: &Lines, shape: Shape, plan: &[u16; row_plan::LENGTH], number: u16) -> bool
     requires fits { Fits shape }
-    requires plan_value { plan.now ≡ plan_in fields.now starts.now shape }
-    ensures { StateStays fields.now starts.now shape (state_in fields.now starts.now shape.implementation number) result }
+    requires plan_value { plan.now ≡ plan_in lines.now.fields lines.now.starts shape }
+    ensures { StateStays lines.now.fields lines.now.starts shape (state_in lines.now.fields lines.now.starts shape.implementation number) result }
 {
-    let v = steps::state(fields, starts, shape.implementation, number);
-    if !tenth::apart(fields, starts, shape, plan, &v) {
+    let v = steps::state(lines, shape.implementation, number);
+    if !tenth::apart(lines, shape, plan, &v) {
         return false;
     }
-    if !steps::invariant(fields, starts, shape, &v) {
+    if !steps::invariant(lines, shape, &v) {
         return true;
     }
-    rows_stay(fields, starts, shape, plan, &v)
+    rows_stay(lines, shape, plan, &v)
 }
 
 // Of all rows.
-fn rows_stay<'a>(
-    fields: &'a limits::Fields,
-    starts: &'a limits::Starts,
+fn rows_stay(
+    lines: &Lines,
     shape: Shape,
     plan: &[u16; row_plan::LENGTH],
     v: &limits::Values,
 ) -> bool
     requires fits { Fits shape }
-    requires plan_value { plan.now ≡ plan_in fields.now starts.now shape }
-    ensures { RowsStay fields.now starts.now shape v.now result }
+    requires plan_value { plan.now ≡ plan_in lines.now.fields lines.now.starts shape }
+    ensures { RowsStay lines.now.fields lines.now.starts shape v.now result }
 {
     let rows = shape.implementation.rows.count;
-    let mut i = 0;
-    while i < rows {
-        if !row_stays(fields, starts, shape, plan, i, v) {
+    for i in 0..rows {
+        if !row_stays(lines, shape, plan, i, v) {
             return false;
         }
-        i += 1;
     }
     true
 }
 
 // Of the row after i others, for all sum values.
-fn row_stays<'a>(
-    fields: &'a limits::Fields,
-    starts: &'a limits::Starts,
+fn row_stays(
+    lines: &Lines,
     shape: Shape,
     plan: &[u16; row_plan::LENGTH],
     i: u8,
@@ -94,18 +77,14 @@ fn row_stays<'a>(
 ) -> bool
     requires fits { Fits shape }
     requires i_lt_count { i < shape.implementation.rows.count }
-    requires plan_value { plan.now ≡ plan_in fields.now starts.now shape }
-    ensures { RowStays (design_at fields.now starts.now shape) v.now (row_of fields.now starts.now shape i) result }
+    requires plan_value { plan.now ≡ plan_in lines.now.fields lines.now.starts shape }
+    ensures { RowStays (design_at lines.now.fields lines.now.starts shape) v.now (row_of lines.now.fields lines.now.starts shape i) result }
 {
-    let row = row_looks::row_at(fields, starts, shape, plan, i, v);
+    let row = row_looks::row_at(lines, shape, plan, i, v);
     let mut sum = 0;
-    while sum < row.looks {
-        let look = row_looks::enabled_from(fields, row, v, sum);
-        if row.looks <= look.sum {
-            return true;
-        }
-        let x = row_looks::next(fields, shape, look.at, v, look.sum);
-        if !steps::inside(fields, starts, shape, &x) {
+    while let Some(look) = row_looks::enabled_from(&lines.fields, row, v, sum) {
+        let x = row_looks::next(&lines.fields, shape, look.at, v, look.sum);
+        if !steps::inside(lines, shape, &x) {
             return false;
         }
         sum = look.sum + 1;

@@ -23,8 +23,7 @@ use Rattle.steps.specs.Arrays.{row_span}
 use Rattle.steps.proofs.States.{rows_count}
 use Rattle.marked_edges.specs.Edges.{next_in, SumsNumbered}
 use Rattle.longest_runs.specs.Runs.{Written}
-use Rattle.longest_runs.specs.declared.Lengths.{Lengths}
-use Rattle.longest_runs.specs.declared.Lengths.TheVariants as lengths
+use Rattle.std.specs.Prelude.{Result}
 use Rattle.measurable.specs.Measurable.{CanMeasure, can, cannot}
 use Rattle.answers.specs.declared.Measured.{Measured}
 use Rattle.answers.specs.declared.Measured.TheVariants as measured
@@ -92,11 +91,6 @@ module _ (f s : List ℕ) (c : Counts) (n : ℕ) (b : Bool) (eb : b ≡ counts_f
         go true false e g = let v = leb-false m 65536 g in let k = em ∙ count in not_so (λ r. let t = r.numbers in omega arith)
         go false z e g = let u = leb-false m n e in let k = em ∙ count in not_so (λ r. let t = r.numbers in let p = r.places in omega arith)
 
--- ---- the answer
-
-pub named_loop : (r : Lengths) (k : ℕ) → r ≡ lengths.Loop k → measured.Loop k ≡ answer_of r
-named_loop r k e = rw e
-
 -- ---- what the operation comes to
 
 pub measure_short : (f s slice : List ℕ) (c : Counts) (b : Bool) → Reflects (HasRoom f s c (length slice)) b → not b ≡ true
@@ -154,7 +148,7 @@ module _ (f s before after : List ℕ) (c : Counts) (h : Shape) (m : ℕ) (b : B
   measure_leaves z (can a) w e = absurd (true≢false (sym w))
   measure_leaves z (cannot a) w e = has_room has (leaves (subst (λ (g : Shape). Unmeasurable (design_at f s g)) same_shape a) e)
 
-  pub measure_made : (z : Bool) (q : Lengths) (a : Measured) → CanMeasure (design_at f s h) z → not z ≡ false → Written (next_in f s h) m before after q → a ≡ answer_of q
+  pub measure_made : (z : Bool) (q : Result (Unit {0}) ℕ) (a : Measured) → CanMeasure (design_at f s h) z → not z ≡ false → Written (next_in f s h) m before after q → a ≡ answer_of q
       → MeasureIn f s c before after a
   measure_made z q a (cannot t) w g ea = absurd (true≢false w)
   measure_made z q a (can t) w g ea =

@@ -23,7 +23,7 @@ use Rattle.marked_edges.specs.Edges.{leads_in, next_in, nowhere, SumsNumbered}
 use Rattle.marked_edges.proofs.Steps.{edge_step, step_edge}
 use Rattle.longest_runs.specs.Runs as numbers
 use Rattle.longest_runs.specs.Runs.{Step, Run, stay, more, LongestIs, Written}
-use Rattle.longest_runs.specs.declared.Lengths.{Lengths}
+use Rattle.std.specs.Prelude.{Result}
 use Rattle.answers.specs.declared.Measured.TheVariants.{Loop}
 use Rattle.measure.specs.Answer.{number_at, Made, filled, loop, answer_of}
 
@@ -125,7 +125,7 @@ module _ (f s : List ℕ) (h : Shape) (fits : Fits h) (few : states (design_at f
 
   -- ---- what was written
 
-  pub made_is : (before after : List ℕ) (r : Lengths) → Written next n before after r → Made d before after (answer_of r)
+  pub made_is : (before after : List ℕ) (r : Result (Unit {0}) ℕ) → Written next n before after r → Made d before after (answer_of r)
   made_is before after r (numbers.longest k a) =
       filled measurable k
       (record {

@@ -1,6 +1,6 @@
 -- What a measure answers and writes (02, orders 4 and 5), in the words of criteria/specs/Measure: d is the design, `before` and `after`
 -- what the slice holds before the call and after it.
-use Rattle.std.specs.Prelude.{◌≡◌, true, List, ℕ, ◌<◌, ◌≤◌, length, get_or}
+use Rattle.std.specs.Prelude.{◌≡◌, true, List, ℕ, ◌<◌, ◌≤◌, length, get_or, Result, Ok, Err}
 use Rattle.limits.specs.Limits.{max_states}
 use Rattle.criteria.specs.Design.{Design, State, InSize, Invariant, InvariantState, states, state_number}
 use Rattle.criteria.specs.Measure.{LongestRun, OnLoop, Measurable, Unmeasurable}
@@ -11,8 +11,6 @@ use Rattle.marked_edges.specs.Edges.{SumsNumbered}
 use Rattle.answers.specs.declared.Measured.{Measured}
 use Rattle.answers.specs.declared.Measured.TheVariants.{Filled, Loop, TurnedDown}
 use Rattle.longest_runs.specs.Runs.{KeptPast}
-use Rattle.longest_runs.specs.declared.Lengths.{Lengths}
-use Rattle.longest_runs.specs.declared.Lengths.TheVariants as lengths
 
 -- ---- the slice
 
@@ -60,6 +58,6 @@ pub data MeasureIn (f s : List ℕ) (c : Counts) (before after : List ℕ) : Mea
   has_room : {r : Measured} → HasRoom f s c (length before) → Made (design_in f s c) before after r → MeasureIn f s c before after r
 
 -- what the search found, as an answer
-abbrev pub answer_of : Lengths → Measured
-answer_of lengths.Longest = Filled
-answer_of (lengths.Loop s) = Loop s
+abbrev pub answer_of : Result (Unit {0}) ℕ → Measured
+answer_of (Ok u) = Filled
+answer_of (Err s) = Loop s

@@ -11,69 +11,56 @@ ghost use Rattle.measure.specs.Answer.{HasRoom, answer_of, MeasureIn};
 
 use answers::Measured;
 use design::{Counts, Process};
-use longest_runs::Lengths;
+use layout::Lines;
 
 // Writes the measure in the slice, or zeros for a loop; turned down, nothing.
-pub fn measure<'a>(
-    fields: &'a limits::Fields,
-    starts: &'a limits::Starts,
-    counts: Counts,
-    slice: &mut [u16],
-) -> Measured
-    ensures { MeasureIn fields.now starts.now counts slice.old slice.new result }
+pub fn measure(lines: &Lines, counts: Counts, slice: &mut [u16]) -> Measured
+    ensures { MeasureIn lines.now.fields lines.now.starts counts slice.old slice.new result }
 {
-    if !has_room(fields, starts, counts, slice.len()) {
+    if !has_room(lines, counts, slice.len()) {
         return Measured::TurnedDown(17);
     }
     let shape = layout::shape_of(counts);
-    let n = layout::state_count(fields, starts, counts);
-    let plan = plan::plan(fields, starts, shape);
-    if !measurable::holds(fields, starts, shape, &plan, n) {
+    let n = lines.state_count(counts);
+    let plan = plan::plan(lines, shape);
+    if !measurable::holds(lines, shape, &plan, n) {
         return Measured::TurnedDown(18);
     }
-    answer_of(longest_runs::fill(fields, starts, shape, &plan, n, slice))
+    answer_of(longest_runs::fill(lines, shape, &plan, n, slice))
 }
 
 // Whether there is a place for each state among n, and each step has a number.
-fn has_room<'a>(
-    fields: &'a limits::Fields,
-    starts: &'a limits::Starts,
-    counts: Counts,
-    n: usize,
-) -> bool
-    ensures { Reflects (HasRoom fields.now starts.now counts n) result }
+fn has_room(lines: &Lines, counts: Counts, n: usize) -> bool
+    ensures { Reflects (HasRoom lines.now.fields lines.now.starts counts n) result }
 {
     if !layout::counts_fit(counts) {
         return false;
     }
     let shape = layout::shape_of(counts);
-    if !spans_fit(fields, starts, shape.implementation) {
+    if !spans_fit(lines, shape.implementation) {
         return false;
     }
-    let states = layout::state_count(fields, starts, counts);
+    let states = lines.state_count(counts);
     (states <= n) & (states <= limits::MAX_STATES)
 }
 
 // Whether no row has more sum values than a text may give it.
-fn spans_fit<'a>(fields: &'a limits::Fields, starts: &'a limits::Starts, process: Process) -> bool
-    ensures { Reflects (SumsNumbered fields.now starts.now process) result }
+fn spans_fit(lines: &Lines, process: Process) -> bool
+    ensures { Reflects (SumsNumbered lines.now.fields lines.now.starts process) result }
 {
-    let rows = process.rows.count as u16;
-    let mut k = 1;
-    while k <= rows {
-        if limits::MAX_SPAN < steps::row_span(fields, starts, process, k) {
+    for i in 0..process.rows.count {
+        if limits::MAX_SPAN < steps::row_span(lines, process, i as u16 + 1) {
             return false;
         }
-        k += 1;
     }
     true
 }
 
-fn answer_of(lengths: Lengths) -> Measured
-    ensures { result ≡ answer_of lengths }
+fn answer_of(filled: Result<(), u16>) -> Measured
+    ensures { result ≡ answer_of filled }
 {
-    match lengths {
-        Lengths::Longest => Measured::Filled,
-        Lengths::Loop(state) => Measured::Loop(state),
+    match filled {
+        Ok(()) => Measured::Filled,
+        Err(state) => Measured::Loop(state),
     }
 }

@@ -1,6 +1,9 @@
 -- What a measure for a text comes to, and what C is told of it: `before` and `after` are what the slice holds before the call and after it.
 use Rattle.std.specs.Prelude.{ℕ, ◌≡◌, ◌≢◌, List}
-use Rattle.loader.specs.Load.{fault_of, loaded_of}
+use Rattle.reader.specs.Text.{fields_by_line}
+use Rattle.design.specs.Lines.{counts_of}
+use Rattle.design.specs.Loaded.{fields_held, starts_held}
+use Rattle.loader.specs.Load.{fault_of}
 use Rattle.answers.specs.declared.Measured.{Measured}
 use Rattle.answers.specs.declared.Measured.TheVariants.{Filled, Loop, TurnedDown}
 use Rattle.measure.specs.Answer.{MeasureIn}
@@ -8,7 +11,8 @@ use Rattle.measure.specs.Answer.{MeasureIn}
 -- 1 to 7 come first: the text's lowest fault
 pub data MeasureText (text before after : List ℕ) : Measured → Type 0 where
   faulty : fault_of text ≢ 0 → after ≡ before → MeasureText text before after (TurnedDown (fault_of text))
-  design_text_lem : {r : Measured} → fault_of text ≡ 0 → MeasureIn (loaded_of text).fields (loaded_of text).starts (loaded_of text).counts before after r
+  design_text_lem : {r : Measured} → fault_of text ≡ 0
+      → MeasureIn (fields_held (fields_by_line text)) (starts_held (fields_by_line text)) (counts_of (fields_by_line text)) before after r
       → MeasureText text before after r
 
 -- what is returned, and the number that is told

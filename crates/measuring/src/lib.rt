@@ -27,12 +27,10 @@ pub fn measure_design(text: &[u8], slice: &mut [u16], number: &mut u32) -> u32
 fn measure_text(text: &[u8], slice: &mut [u16]) -> Measured
     ensures { MeasureText text.now slice.old slice.new result }
 {
-    let loaded = loader::load(text);
-    let fault = loaded.fault;
-    if fault != 0 {
-        return Measured::TurnedDown(fault);
+    match loader::load(text) {
+        Ok(loaded) => measure::measure(&loaded.lines, loaded.counts, slice),
+        Err(fault) => Measured::TurnedDown(fault.number()),
     }
-    measure::measure(&loaded.fields, &loaded.starts, loaded.counts, slice)
 }
 
 fn number_told(measured: Measured) -> u32

@@ -8,23 +8,18 @@ ghost use Rattle.phases.specs.Phases.{phase_after};
 
 use answers::Phase;
 use design::Counts;
+use layout::Lines;
 use verdicts::Outcome;
 
 // The phase after a walk with this outcome; `ended` if no state is left. Only a check that ends well looks at the initial state.
-pub fn after<'a>(
-    fields: &'a limits::Fields,
-    starts: &'a limits::Starts,
-    counts: Counts,
-    outcome: Outcome,
-    ended: bool,
-) -> Phase
-    ensures { result ≡ phase_after outcome ended (acceptance_in fields.now starts.now counts) }
+pub fn after(lines: &Lines, counts: Counts, outcome: Outcome, ended: bool) -> Phase
+    ensures { result ≡ phase_after outcome ended (acceptance_in lines.now.fields lines.now.starts counts) }
 {
     match outcome {
         Outcome::Fail(failure) => Phase::Failed(failure),
         Outcome::Pass => {
             if ended {
-                let how = start::acceptance(fields, starts, counts);
+                let how = start::acceptance(lines, counts);
                 Phase::Accepted(how)
             } else {
                 Phase::Open

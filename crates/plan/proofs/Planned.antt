@@ -13,6 +13,7 @@ use lib.Dec.{eqb, ltb, leb}
 use lib.ListN.{length, get_or, drop, set, replicate, length-drop}
 use mir.Syntax.{w16}
 use mir.Val.{Fits}
+use Rattle.std.specs.Int.{from_bool}
 use Rattle.foundation.specs.First.{all_in_range}
 use Rattle.foundation.specs.Nth.{each_b}
 use Rattle.terms.specs.Tree.{Value}
@@ -117,21 +118,6 @@ module _ (f s : List ℕ) (p : Process) (k : ℕ) (whole : Bool) where
       → x.all ≡ partner_free f s p k whole
   unfolding partner_free partner_by row_by
   partner_free_is line x some el ex = ap (λ (y : Free). y.all) ex ∙ rw (ne_eqb k 0 some, el)
-
--- ---- looks
-
-module _ (free : Bool) (span : ℕ) where
-  pub looks_all : not free ≡ true → span ≡ looks_of free span
-  unfolding looks_of
-  looks_all h = rw (not-true free h)
-
-  pub looks_none : not free ≡ false → span ≡ 0 → 0 ≡ looks_of free span
-  unfolding looks_of
-  looks_none h z = rw (not-false free h) (omega arith)
-
-  pub looks_one : not free ≡ false → (span ≡ 0 → ⊥) → 1 ≡ looks_of free span
-  unfolding looks_of
-  looks_one h p = rw (not-false free h) (omega arith)
 
 -- ---- marks
 
@@ -289,7 +275,7 @@ module _ (f s : List ℕ) (h : Shape) where
       one : sure_left i ≡ eqb y 0 && sure_left (i + 1)
       one = let n : 64 - i ≡ suc (64 - (i + 1)) = omega arith in rw (n, ey, add-one i)
 
-  pub plan_end : (w : List ℕ) (i y z : ℕ) (b : Bool) (x : List ℕ) → 64 ≤ i → i ≤ 64 → y ≡ kinds_risk f s h → z ≡ unsure (b && eqb y 0) → b && sure_left i ≡ sure_left 0
+  pub plan_end : (w : List ℕ) (i y z : ℕ) (b : Bool) (x : List ℕ) → 64 ≤ i → i ≤ 64 → y ≡ kinds_risk f s h → z ≡ from_bool (not (b && eqb y 0)) → b && sure_left i ≡ sure_left 0
       → plan_left w i ≡ plan_in f s h → x ≡ risk_stored w 64 y → set x 386 z ≡ plan_in f s h
   unfolding plan_left sure_left sure_in all_in_range
   plan_end w i y z b x l u ey ez sure inv ex = rw (ex, ey, flag_is) (numbers_end (row_plan_for f s h) risk (kinds_risk f s h) (unsure (sure_in f s h)) w i l u) ∙ inv
@@ -297,8 +283,12 @@ module _ (f s : List ℕ) (h : Shape) where
       none_left : b && sure_left i ≡ b
       none_left = let e : 64 - i ≡ 0 = omega arith in rw e (and-true b)
 
+      go : (c : Bool) → from_bool (not c) ≡ unsure c
+      go true = refl
+      go false = refl
+
       flag_is : z ≡ unsure (sure_in f s h)
-      flag_is = ez ∙ ap (λ c. unsure (c && eqb y 0)) (sym none_left ∙ sure) ∙ ap (λ k. unsure (sure_left 0 && eqb k 0)) ey
+      flag_is = ez ∙ go (b && eqb y 0) ∙ ap (λ c. unsure (c && eqb y 0)) (sym none_left ∙ sure) ∙ ap (λ k. unsure (sure_left 0 && eqb k 0)) ey
 
 -- there are fewer rows than that
 partner_below : (f s : List ℕ) (p : Process) (a : ℕ) → row_with f s p a ≤ p.rows.count

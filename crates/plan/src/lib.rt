@@ -6,13 +6,14 @@
 // function answers any arrays.
 #![tactic(auto)]
 
-ghost use Rattle.std.specs.Prelude.{◌≡◌, ◌<◌, length, drop};
+ghost use Rattle.std.specs.Prelude.{◌≡◌, ◌<◌, drop};
 ghost use Rattle.design.specs.Line.{row_of};
 ghost use Rattle.row_plan.specs.RowPlan.{no_mark, risk_stored, stored, Blank};
 ghost use Rattle.marks.specs.Marks.{place_from};
-ghost use Rattle.plan.specs.Plan.{values_free, frees_of, partner_free, looks_of, mark_in, mark_there, row_plan_of, row_plan_in, there_in, row_plan_for, values_risk, risk_of, mark_risk, risk_in, risk_for, kinds_risk, unsure, plan_in};
+ghost use Rattle.plan.specs.Plan.{values_free, frees_of, partner_free, looks_of, mark_in, mark_there, row_plan_of, row_plan_in, there_in, row_plan_for, values_risk, risk_of, mark_risk, risk_in, risk_for, kinds_risk, plan_in};
 
 use design::{Process, Shape};
+use layout::Lines;
 use row_plan::{Mark, RowPlan};
 
 // As many rows as a process may have, and as many numbers as a plan.
@@ -27,14 +28,12 @@ fn values_free(fields: &limits::Fields, at: usize, n: u8) -> bool
     ensures { result ≡ values_free fields.now at n }
 {
     let mut place = at;
-    let mut i = 0;
-    while i < n {
+    for i in 0..n {
         let x = sum_free::value_sum_free(fields, place, limits::MAX_DEPTH);
         if !x.free {
             return false;
         }
         place = x.next;
-        i += 1;
     }
     true
 }
@@ -66,20 +65,14 @@ fn row_free(fields: &limits::Fields, line: u16, n: u8, whole: bool) -> Free
 }
 
 // What is asked for of row k of a process; no row reads nothing.
-fn partner_free<'a>(
-    fields: &'a limits::Fields,
-    starts: &'a limits::Starts,
-    process: Process,
-    k: u16,
-    whole: bool,
-) -> bool
-    ensures { result ≡ partner_free fields.now starts.now process k whole }
+fn partner_free(lines: &Lines, process: Process, k: u16, whole: bool) -> bool
+    ensures { result ≡ partner_free lines.now.fields lines.now.starts process k whole }
 {
     if k == 0 {
         return true;
     }
-    let line = steps::line_of(starts, process, k);
-    let free = row_free(fields, line, process.parameters.count, whole);
+    let line = steps::line_of(lines, process, k);
+    let free = row_free(&lines.fields, line, process.parameters.count, whole);
     free.all
 }
 
@@ -87,13 +80,7 @@ fn partner_free<'a>(
 fn looks(free: bool, span: u16) -> u16
     ensures { result ≡ looks_of free span }
 {
-    if !free {
-        return span;
-    }
-    if span == 0 {
-        return 0;
-    }
-    1
+    if free { span.min(1) } else { span }
 }
 
 // ---- marks
@@ -105,33 +92,28 @@ fn no_mark() -> Mark
 }
 
 // The mark of row k of the implementation, where there are marks and the row is internal.
-fn mark_of<'a>(fields: &'a limits::Fields, starts: &'a limits::Starts, shape: Shape, k: u16) -> Mark
-    ensures { result ≡ mark_in fields.now starts.now shape k }
+fn mark_of(lines: &Lines, shape: Shape, k: u16) -> Mark
+    ensures { result ≡ mark_in lines.now.fields lines.now.starts shape k }
 {
     if shape.marks.count == 0 {
         return no_mark();
     }
-    let line = steps::line_of(starts, shape.implementation, k);
-    let action = layout::field_of(fields, line, 1);
+    let line = steps::line_of(lines, shape.implementation, k);
+    let action = layout::field_of(&lines.fields, line, 1);
     if action != 0 {
         return no_mark();
     }
-    mark_there(fields, starts, shape, k)
+    mark_there(lines, shape, k)
 }
 
 // The same of an internal row, where there are marks.
-fn mark_there<'a>(
-    fields: &'a limits::Fields,
-    starts: &'a limits::Starts,
-    shape: Shape,
-    k: u16,
-) -> Mark
-    ensures { result ≡ mark_there fields.now starts.now shape k }
+fn mark_there(lines: &Lines, shape: Shape, k: u16) -> Mark
+    ensures { result ≡ mark_there lines.now.fields lines.now.starts shape k }
 {
-    let line = layout::line(starts, shape.marks.first as usize);
-    let place = marks::place(fields, starts, shape, k);
-    let mark = sum_free::formula_sum_free(fields, place, limits::MAX_DEPTH);
-    let _all: &[u16] = fields; // for the proof: as a slice it has its length, which bounds the place
+    let line = lines.line(shape.marks.first as usize);
+    let place = marks::place(lines, shape, k);
+    let mark = sum_free::formula_sum_free(&lines.fields, place, limits::MAX_DEPTH);
+    let _all: &[u16] = &lines.fields; // for the proof: as a slice it has its length, which bounds the place
     Mark {
         at: (place - line as usize) as u16,
         free: mark.free,
@@ -141,47 +123,45 @@ fn mark_there<'a>(
 // ---- the plan of a row
 
 // The plan of row k of a process, whose mark is given; whole rows are looked at with their partners, or only the conditions.
-fn row_plan_of<'a>(
-    fields: &'a limits::Fields,
-    starts: &'a limits::Starts,
+fn row_plan_of(
+    lines: &Lines,
     process: Process,
     other: Process,
     whole: bool,
     mark: Mark,
     k: u16,
 ) -> RowPlan
-    ensures { result ≡ row_plan_of fields.now starts.now process other whole mark k }
+    ensures { result ≡ row_plan_of lines.now.fields lines.now.starts process other whole mark k }
 {
-    let line = steps::line_of(starts, process, k);
-    let action = layout::field_of(fields, line, 1);
-    let span = layout::field_of(fields, line, 2);
-    let partner = steps::row_with(fields, starts, other, action);
-    let free = row_free(fields, line, process.parameters.count, whole);
-    let all = free.all & partner_free(fields, starts, other, partner, whole);
+    let line = steps::line_of(lines, process, k);
+    let action = layout::field_of(&lines.fields, line, 1);
+    let span = layout::field_of(&lines.fields, line, 2);
+    let partner = steps::row_with(lines, other, action);
+    let free = row_free(&lines.fields, line, process.parameters.count, whole);
+    let all = free.all & partner_free(lines, other, partner, whole);
     RowPlan {
         partner: partner,
         looks: looks(all & mark.free, span),
         internal: action == 0,
         free: free.condition,
-        front: conjuncts::front(fields, line as usize + 3),
+        front: conjuncts::front(&lines.fields, line as usize + 3),
         mark: mark,
     }
 }
 
 // The same where there is a row k.
-fn row_plan_in<'a>(
-    fields: &'a limits::Fields,
-    starts: &'a limits::Starts,
+fn row_plan_in(
+    lines: &Lines,
     process: Process,
     other: Process,
     whole: bool,
     mark: Mark,
     k: u16,
 ) -> RowPlan
-    ensures { result ≡ row_plan_in fields.now starts.now process other whole mark k }
+    ensures { result ≡ row_plan_in lines.now.fields lines.now.starts process other whole mark k }
 {
     if k <= process.rows.count as u16 {
-        return row_plan_of(fields, starts, process, other, whole, mark, k);
+        return row_plan_of(lines, process, other, whole, mark, k);
     }
     RowPlan {
         partner: 0,
@@ -195,31 +175,24 @@ fn row_plan_in<'a>(
 
 // The plan of row number i of both processes, the implementation's first: there whole rows count, of the specification's rows only the
 // conditions (criterion 7).
-fn row_plan_for<'a>(
-    fields: &'a limits::Fields,
-    starts: &'a limits::Starts,
-    shape: Shape,
-    i: usize,
-) -> RowPlan
+fn row_plan_for(lines: &Lines, shape: Shape, i: usize) -> RowPlan
     requires { i < 64 }
-    ensures { result ≡ row_plan_for fields.now starts.now shape i }
+    ensures { result ≡ row_plan_for lines.now.fields lines.now.starts shape i }
 {
     let implementation = shape.implementation;
     let specification = shape.specification;
     if i < ROWS {
         row_plan_in(
-            fields,
-            starts,
+            lines,
             implementation,
             specification,
             true,
-            mark_of(fields, starts, shape, i as u16 + 1),
+            mark_of(lines, shape, i as u16 + 1),
             i as u16 + 1,
         )
     } else {
         row_plan_in(
-            fields,
-            starts,
+            lines,
             specification,
             implementation,
             false,
@@ -237,12 +210,10 @@ fn values_risk(fields: &limits::Fields, at: usize, n: u8) -> u32
 {
     let mut risk = 0;
     let mut place = at;
-    let mut i = 0;
-    while i < n {
+    for i in 0..n {
         let x = divisors::value_divides(fields, place, limits::MAX_DEPTH);
         risk = divisors::both(risk, x.divides);
         place = x.next;
-        i += 1;
     }
     risk
 }
@@ -273,73 +244,48 @@ fn mark_risk(fields: &limits::Fields, place: usize) -> u32
 }
 
 // Of row k of a process, where there is one, or of the mark that stands at a place.
-fn risk_in<'a>(
-    fields: &'a limits::Fields,
-    starts: &'a limits::Starts,
-    process: Process,
-    k: u16,
-    place: usize,
-) -> u32
-    ensures { result ≡ risk_in fields.now starts.now process k place }
+fn risk_in(lines: &Lines, process: Process, k: u16, place: usize) -> u32
+    ensures { result ≡ risk_in lines.now.fields lines.now.starts process k place }
 {
     if k <= process.rows.count as u16 {
-        let line = steps::line_of(starts, process, k);
-        let row = row_risk(fields, line, process.parameters.count);
-        return divisors::both(row, mark_risk(fields, place));
+        let line = steps::line_of(lines, process, k);
+        let row = row_risk(&lines.fields, line, process.parameters.count);
+        return divisors::both(row, mark_risk(&lines.fields, place));
     }
     0
 }
 
 // Of row number i of both processes, the implementation's first, and of its mark, which stands where its plan says.
-fn risk_for<'a>(
-    fields: &'a limits::Fields,
-    starts: &'a limits::Starts,
-    shape: Shape,
-    i: usize,
-    place: usize,
-) -> u32
+fn risk_for(lines: &Lines, shape: Shape, i: usize, place: usize) -> u32
     requires i_bound { i < 64 }
-    requires place_value { place ≡ place_from starts.now shape (row_plan_for fields.now starts.now shape i).mark.at }
-    ensures { result ≡ risk_for fields.now starts.now shape i }
+    requires place_value { place ≡ place_from lines.now.starts shape (row_plan_for lines.now.fields lines.now.starts shape i).mark.at }
+    ensures { result ≡ risk_for lines.now.fields lines.now.starts shape i }
 {
     if i < ROWS {
-        risk_in(fields, starts, shape.implementation, i as u16 + 1, place)
+        risk_in(lines, shape.implementation, i as u16 + 1, place)
     } else {
-        risk_in(
-            fields,
-            starts,
-            shape.specification,
-            (i - ROWS) as u16 + 1,
-            place,
-        )
+        risk_in(lines, shape.specification, (i - ROWS) as u16 + 1, place)
     }
 }
 
 // Of the invariant, the mapping or the measure.
-fn kinds_risk<'a>(fields: &'a limits::Fields, starts: &'a limits::Starts, shape: Shape) -> u32
-    ensures { result ≡ kinds_risk fields.now starts.now shape }
+fn kinds_risk(lines: &Lines, shape: Shape) -> u32
+    ensures { result ≡ kinds_risk lines.now.fields lines.now.starts shape }
 {
-    let first = layout::line(starts, shape.invariant as usize);
-    let second = layout::line(starts, shape.mapping as usize);
-    let third = layout::line(starts, shape.measure as usize);
-    let invariant = divisors::formula_divides(fields, first as usize + 1, limits::MAX_DEPTH);
+    let first = lines.line(shape.invariant as usize);
+    let second = lines.line(shape.mapping as usize);
+    let third = lines.line(shape.measure as usize);
+    let invariant = divisors::formula_divides(&lines.fields, first as usize + 1, limits::MAX_DEPTH);
     let mapping = values_risk(
-        fields,
+        &lines.fields,
         second as usize + 1,
         shape.specification.parameters.count,
     );
-    let measure = divisors::value_divides(fields, third as usize + 1, limits::MAX_DEPTH);
+    let measure = divisors::value_divides(&lines.fields, third as usize + 1, limits::MAX_DEPTH);
     divisors::both(invariant.divides, divisors::both(mapping, measure.divides))
 }
 
 // ---- all of them
-
-// The flag that says whether there is a risk.
-fn flag(sure: bool) -> u16
-    ensures { result ≡ unsure sure }
-{
-    if sure { 0 } else { 1 }
-}
 
 // Whether there is a row number i.
 fn is_there(shape: Shape, i: usize) -> bool
@@ -365,26 +311,18 @@ fn put_risk(i: usize, risk: u32, out: &mut [u16; LENGTH])
 }
 
 // Stores the plan of row number i and its risk, which it gives back. Where there is no such row, all of that is 0 and stands there already.
-fn put_row<'a>(
-    fields: &'a limits::Fields,
-    starts: &'a limits::Starts,
-    shape: Shape,
-    i: usize,
-    out: &mut [u16; LENGTH],
-) -> u32
+fn put_row(lines: &Lines, shape: Shape, i: usize, out: &mut [u16; LENGTH]) -> u32
     requires i_bound { i < 64 }
-    requires out_len { length out.old ≡ 387 }
     requires blank { Blank out.old i }
-    ensures value { result ≡ risk_for fields.now starts.now shape i }
-    ensures out_after { out.new ≡ stored out.old i (row_plan_for fields.now starts.now shape i) (risk_for fields.now starts.now shape i) }
+    ensures value { result ≡ risk_for lines.now.fields lines.now.starts shape i }
+    ensures out_after { out.new ≡ stored out.old i (row_plan_for lines.now.fields lines.now.starts shape i) (risk_for lines.now.fields lines.now.starts shape i) }
 {
-    let so = is_there(shape, i);
-    if !so {
+    if !is_there(shape, i) {
         return 0;
     }
-    let row = row_plan_for(fields, starts, shape, i);
-    let place = marks::place_from(starts, shape, row.mark.at);
-    let risk = risk_for(fields, starts, shape, i, place);
+    let row = row_plan_for(lines, shape, i);
+    let place = marks::place_from(lines, shape, row.mark.at);
+    let risk = risk_for(lines, shape, i, place);
     let at = row_plan::NUMBERS * i;
     out[at] = row_plan::packed(row);
     out[at + 1] = row.looks;
@@ -395,23 +333,17 @@ fn put_row<'a>(
 }
 
 // The plans and risks of all rows, the risk of invariant, mapping and measure, and the flag.
-pub fn plan<'a>(
-    fields: &'a limits::Fields,
-    starts: &'a limits::Starts,
-    shape: Shape,
-) -> [u16; LENGTH]
-    ensures { result ≡ plan_in fields.now starts.now shape }
+pub fn plan(lines: &Lines, shape: Shape) -> [u16; LENGTH]
+    ensures { result ≡ plan_in lines.now.fields lines.now.starts shape }
 {
     let mut out = [0u16; LENGTH];
     let mut sure = true;
-    let mut i = 0;
-    while i < 2 * ROWS {
-        let risk = put_row(fields, starts, shape, i, &mut out);
+    for i in 0..2 * ROWS {
+        let risk = put_row(lines, shape, i, &mut out);
         sure = sure & (risk == 0);
-        i += 1;
     }
-    let risk = kinds_risk(fields, starts, shape);
+    let risk = kinds_risk(lines, shape);
     put_risk(row_plan::KINDS_RISK, risk, &mut out);
-    out[row_plan::UNSURE] = flag(sure & (risk == 0));
+    out[row_plan::UNSURE] = u16::from(!(sure & (risk == 0)));
     out
 }

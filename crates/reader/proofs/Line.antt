@@ -1,17 +1,14 @@
--- Laws of a line's fields (specs/Line). The first field, and those after it (`first_field`, `no_field`); a reader goes on over a field
--- and over nothing else (`went`, `stood`); a part that starts after the k-th field has the later fields (`rest_fields`); bytes that are
--- written fields have just these (`fields_written`).
+-- Laws of a line's fields (specs/Line). The first field, and those after it (`first_field`, `no_field`); a part that starts after the k-th
+-- field has the later fields (`rest_fields`); bytes that are written fields have just these (`fields_written`).
 use Prim.Native.Nat.{ℕ, zero, suc, ◌+◌, ◌-◌, ◌*◌, ◌/◌, ◌^◌, ◌<◌, ◌≤◌}
 use mathlib.Core.Path.{◌≡◌, refl, sym, ap, ◌∙◌}
-use mathlib.Core.Logic.{◌≢◌}
 use mathlib.Core.List.{List, [], ◌∷◌, ◌++◌, append_assoc}
 use native.Mathlib.Omega.{arith}
 use lib.ListN.{length, take, drop, length-take, length-drop, drop_of_length-le}
 use lib.Seq.{take_all, drop-drop, take_at, drop_at, take-add}
 use Rattle.columns.specs.Columns.{columns_of, field_of}
-use Rattle.reader.specs.Line.{written, Each16, none, more, field_there, and_then, fields_from, fields_of, after, next_at, step_at}
-use Rattle.columns.specs.declared.Field.{Field}
-use Rattle.columns.specs.declared.Field.TheVariants.{Number, Malformed}
+use Rattle.reader.specs.Line.{written, Each16, none, more, field_there, and_then, fields_from, fields_of, after, next_at}
+use Rattle.std.specs.Prelude.{Option, Some, None, is_some, true}
 use Rattle.columns.proofs.Columns.{is_field, six, read_back, length_columns}
 
 -- a part of a slice up to its end
@@ -25,65 +22,43 @@ part_none bytes k h =
 
 -- ---- the first field, and those after it
 
-field_here : (bytes : List ℕ) (n : ℕ) → field_there bytes 0 ≡ Number n → 6 ≤ length bytes
+field_here : (bytes : List ℕ) (n : ℕ) → field_there bytes 0 ≡ Some n → 6 ≤ length bytes
 field_here bytes n e = let l = six (is_field (take 6 bytes) n e) in let m = rw (length-take 6 bytes) at l in omega arith
 
-pub first_field : (bytes : List ℕ) (n : ℕ) → field_there bytes 0 ≡ Number n → fields_of bytes ≡ n ∷ fields_of (drop 6 bytes)
+pub first_field : (bytes : List ℕ) (n : ℕ) → field_there bytes 0 ≡ Some n → fields_of bytes ≡ n ∷ fields_of (drop 6 bytes)
 unfolding fields_of fields_from
 first_field bytes n e =
     let h = field_here bytes n e in
     let m : length bytes / 6 ≡ suc ((length bytes - 6) / 6) = omega arith in
     rw (length-drop 6 bytes, m, e)
 
-none_from : (k : ℕ) (bytes : List ℕ) → field_there bytes 0 ≡ Malformed → fields_from k bytes ≡ []
+none_from : (k : ℕ) (bytes : List ℕ) → field_there bytes 0 ≡ None → fields_from k bytes ≡ []
 unfolding fields_from
 none_from zero bytes e = refl
 none_from (suc k) bytes e = rw e
 
-pub no_field : (bytes : List ℕ) → field_there bytes 0 ≡ Malformed → fields_of bytes ≡ []
+pub no_field : (bytes : List ℕ) → field_there bytes 0 ≡ None → fields_of bytes ≡ []
 unfolding fields_of
 no_field bytes e = none_from (length bytes / 6) bytes e
 
 -- ---- a step of the reader
 
-pub field_inside : (bytes : List ℕ) (k n : ℕ) → field_there bytes k ≡ Number n → 6 * (k + 1) ≤ length bytes
+pub field_inside : (bytes : List ℕ) (k n : ℕ) → field_there bytes k ≡ Some n → 6 * (k + 1) ≤ length bytes
 field_inside bytes k n e = omega (arith, field_here (drop (6 * k) bytes) n e, length-drop (6 * k) bytes)
 
-module _ (bytes : List ℕ) (k : ℕ) (f : Field) (ef : f ≡ field_there bytes k) where
-  step_by : record { field = f; at = after f k } ≡ step_at bytes k
-  step_by = ap (λ (g : Field). record { field = g; at = after g k }) ef
+-- the number of the field after one fits
+pub next_fits : (bytes : List ℕ) (k : ℕ) (f : Option ℕ) → f ≡ field_there bytes k → is_some f ≡ true → length bytes < 2 ^ 64 → k + 1 < 2 ^ 64
+next_fits bytes k (Some n) e some h = omega (arith, field_inside bytes k n (sym e))
+next_fits bytes k None e some h = cc
 
-  pub step_stays : f ≡ Malformed → record { field = f; at = k } ≡ step_at bytes k
-  step_stays e = rw (← step_by, e)
-
-  pub step_goes : (n : ℕ) → f ≡ Number n → record { field = f; at = k + 1 } ≡ step_at bytes k
-  step_goes n e = rw (← step_by, e)
-
-  pub step_fits : (n : ℕ) → f ≡ Number n → length bytes < 2 ^ 64 → k + 1 < 2 ^ 64
-  step_fits n e h = omega (arith, field_inside bytes k n (sym ef ∙ e))
-
--- a field is passed, and where there is none the reader stands still
+-- a field is passed
 module _ (bytes : List ℕ) (k : ℕ) where
-  pub next_moved : (n : ℕ) → field_there bytes k ≡ Number n → next_at bytes k ≡ k + 1
-  next_moved n e = ap (λ (f : Field). after f k) e
+  pub next_moved : (n : ℕ) → field_there bytes k ≡ Some n → next_at bytes k ≡ k + 1
+  next_moved n e = ap (λ (f : Option ℕ). after f k) e
 
-  stood_by : (f : Field) → after f k ≡ k → f ≡ Malformed
-  stood_by Malformed h = refl
-  stood_by (Number n) h = let z : ⊥ = omega arith in absurd z
-
-  pub stood : next_at bytes k ≡ k → field_there bytes k ≡ Malformed
-  stood = stood_by (field_there bytes k)
-
-  went_by : (f : Field) → after f k ≢ k → (n : ℕ) × (f ≡ Number n)
-  went_by Malformed h = absurd (h refl)
-  went_by (Number n) h = (n, refl)
-
-  pub went : next_at bytes k ≢ k → (n : ℕ) × (field_there bytes k ≡ Number n)
-  went = went_by (field_there bytes k)
-
-  within_by : (f : Field) → f ≡ field_there bytes k → 6 * k ≤ length bytes → 6 * after f k ≤ length bytes
-  within_by Malformed e h = h
-  within_by (Number n) e h = field_inside bytes k n (sym e)
+  within_by : (f : Option ℕ) → f ≡ field_there bytes k → 6 * k ≤ length bytes → 6 * after f k ≤ length bytes
+  within_by None e h = h
+  within_by (Some n) e h = field_inside bytes k n (sym e)
 
   -- it stays within the bytes
   pub next_within : 6 * k ≤ length bytes → 6 * next_at bytes k ≤ length bytes
@@ -94,14 +69,14 @@ module _ (bytes : List ℕ) (k : ℕ) where
 six_more : (k : ℕ) (bytes : List ℕ) → drop (6 * k) (drop 6 bytes) ≡ drop (6 * suc k) bytes
 six_more k bytes = let e : 6 + 6 * k ≡ 6 * suc k = omega arith in drop-drop (6 * k) 6 bytes ∙ ap (λ (j : ℕ). drop j bytes) e
 
-rest_by : (k : ℕ) (bytes : List ℕ) (f : Field) → field_there bytes 0 ≡ f → suc k ≤ length (fields_of bytes)
+rest_by : (k : ℕ) (bytes : List ℕ) (f : Option ℕ) → field_there bytes 0 ≡ f → suc k ≤ length (fields_of bytes)
     → (k ≤ length (fields_of (drop 6 bytes)) → fields_of (drop (6 * k) (drop 6 bytes)) ≡ drop k (fields_of (drop 6 bytes)))
     → fields_of (drop (6 * suc k) bytes) ≡ drop (suc k) (fields_of bytes)
-rest_by k bytes (Number n) e h ih =
+rest_by k bytes (Some n) e h ih =
     let p = first_field bytes n e in
     let m = rw p at h in
     rw (p, ← six_more k bytes) (ih (omega arith))
-rest_by k bytes Malformed e h ih = let m = rw (no_field bytes e) at h in let z : ⊥ = omega arith in absurd z
+rest_by k bytes None e h ih = let m = rw (no_field bytes e) at h in let z : ⊥ = omega arith in absurd z
 
 -- "the rest of a line after a term is handed on as a part": its fields are those of the line after the k-th
 pub rest_fields : (k : ℕ) (bytes : List ℕ) → k ≤ length (fields_of bytes) → fields_of (drop (6 * k) bytes) ≡ drop k (fields_of bytes)
@@ -115,7 +90,7 @@ unfolding written
 fields_written [] bytes none = refl
 fields_written (n ∷ ns) bytes (more h each) =
     let l = length_columns n in
-    let first : field_of (take 6 ((columns_of n ++ written ns) ++ bytes)) ≡ Number n =
+    let first : field_of (take 6 ((columns_of n ++ written ns) ++ bytes)) ≡ Some n =
     rw (append_assoc (columns_of n) (written ns) bytes, take_at (columns_of n) (written ns ++ bytes) 6 l) (read_back n h)
     in
     let later : drop 6 ((columns_of n ++ written ns) ++ bytes) ≡ written ns ++ bytes =
@@ -128,11 +103,11 @@ pub record Begins (bytes ns : List ℕ) : Type 0 where
   pub each : Each16 ns
   pub prefix : take (6 * length ns) bytes ≡ written ns
 
-begins_by : (k : ℕ) (bytes : List ℕ) (f : Field) → field_of (take 6 bytes) ≡ f → Begins (drop 6 bytes) (fields_from k (drop 6 bytes))
+begins_by : (k : ℕ) (bytes : List ℕ) (f : Option ℕ) → field_of (take 6 bytes) ≡ f → Begins (drop 6 bytes) (fields_from k (drop 6 bytes))
     → Begins bytes (and_then f (fields_from k (drop 6 bytes)))
 unfolding written
-begins_by k bytes Malformed e ih = record { each = none; prefix = refl }
-begins_by k bytes (Number n) e ih =
+begins_by k bytes None e ih = record { each = none; prefix = refl }
+begins_by k bytes (Some n) e ih =
     let f = is_field (take 6 bytes) n e in
     let ns = fields_from k (drop 6 bytes) in
     let m : 6 * suc (length ns) ≡ 6 + 6 * length ns = omega arith in
@@ -154,9 +129,9 @@ unfolding fields_from
 from_most zero bytes = omega arith
 from_most (suc k) bytes = go (field_of (take 6 bytes)) (from_most k (drop 6 bytes))
   where
-    go : (f : Field) → length (fields_from k (drop 6 bytes)) ≤ k → length (and_then f (fields_from k (drop 6 bytes))) ≤ suc k
-    go (Number n) h = omega arith
-    go Malformed h = omega arith
+    go : (f : Option ℕ) → length (fields_from k (drop 6 bytes)) ≤ k → length (and_then f (fields_from k (drop 6 bytes))) ≤ suc k
+    go (Some n) h = omega arith
+    go None h = omega arith
 
 pub fields_within : (bytes : List ℕ) → 6 * length (fields_of bytes) ≤ length bytes
 unfolding fields_of

@@ -14,8 +14,7 @@ use lib.Seq.{drop-length, drop-cons, take-take}
 use Rattle.columns.specs.Columns.{column_of, columns_of, field_of}
 use Rattle.reader.specs.Line.{written, fields_from, fields_of}
 use Rattle.reader.specs.Text.{lines_of, last_of, is_line}
-use Rattle.columns.specs.declared.Field.{Field}
-use Rattle.columns.specs.declared.Field.TheVariants.{Number, Malformed}
+use Rattle.std.specs.Prelude.{Option, Some, None}
 use Rattle.columns.proofs.Columns.{is_field, six, length_columns, no_line_end}
 use Rattle.reader.proofs.Line.{first_field, no_field, rest_fields, fields_written, begins}
 
@@ -88,9 +87,9 @@ first_prefix (b ∷ text) = go (eqb b 10) (first_prefix text)
     go true ih = refl
     go false ih = rw ih
 
-none_by : (text : List ℕ) (f : Field) → field_of (take 6 (first_line text)) ≡ f → fields_of text ≡ [] → f ≡ Malformed
-none_by text Malformed e h = refl
-none_by text (Number n) e h =
+none_by : (text : List ℕ) (f : Option ℕ) → field_of (take 6 (first_line text)) ≡ f → fields_of text ≡ [] → f ≡ None
+none_by text None e h = refl
+none_by text (Some n) e h =
     let l = rw (length-take 6 (first_line text)) at (six (is_field (take 6 (first_line text)) n e)) in
     let same : take 6 (first_line text) ≡ take 6 text =
     rw (← first_prefix text) (take-take 6 (length (first_line text)) text (omega arith))

@@ -2,17 +2,19 @@
 use Prim.Native.Nat.{ℕ, ◌+◌, ◌-◌, ◌*◌, ◌<◌, ◌≤◌}
 use mathlib.Core.Path.{◌≡◌, refl, sym, ap, ◌∙◌}
 use mathlib.Core.Logic.{◌≢◌}
-use mathlib.Core.Bool.{Bool, true, false, cond, not, ◌||◌, or-true}
+use mathlib.Core.Bool.{Bool, true, false, cond, ◌||◌, or-true}
 use mathlib.Core.List.{List, [], ◌∷◌, append-nil}
 use native.Mathlib.Omega.{arith}
 use borrow.Author.Tests.{lt-ltb, le-ltb, ne_eqb}
-use lib.Dec.{T, ltb, eqb, eqb→eq, eqb_refl, T_not}
+use lib.Dec.{ltb}
 use lib.ListN.{length, get_or, take, drop, length-drop, drop_of_length-le}
 use lib.Seq.{drop-drop, get_or-drop}
-use Rattle.reader.specs.Line.{written, field_there, fields_of, next_at}
+use Rattle.reader.specs.Line.{written, field_there, fields_of, next_at, next_of}
+use Rattle.reader.specs.declared.LineReader.{LineReader}
+use Rattle.reader.specs.declared.Next.{Next}
 use Rattle.reader.specs.Text.{lines_of, last_of, fields_by_line, count_all, is_line, any_line, fault2, fault3, lines_fault}
-use Rattle.columns.specs.declared.Field.TheVariants.{Number, Malformed}
-use Rattle.reader.proofs.Line.{first_field, no_field, part_all, fields_within, field_inside, next_moved, stood, went}
+use Rattle.std.specs.Prelude.{Some, None}
+use Rattle.reader.proofs.Line.{first_field, no_field, part_all, fields_within, field_inside, next_moved}
 use Rattle.reader.proofs.Text.{first_line, lines_first, beyond, split, fields_first, no_fields, not_whole, whole_line, after_line, last_after, last_written}
 
 -- ==== the fields of a part
@@ -21,27 +23,43 @@ module _ (bytes : List ℕ) (k : ℕ) where
   later : drop 6 (drop (6 * k) bytes) ≡ drop (6 * (k + 1)) bytes
   later = let e : 6 * k + 6 ≡ 6 * (k + 1) = omega arith in drop-drop 6 (6 * k) bytes ∙ ap (λ (j : ℕ). drop j bytes) e
 
-  -- the reader stands still at no field, or goes on over one
-  pub stays : T (eqb (next_at bytes k) k) → field_there bytes k ≡ Malformed
-  stays h = stood bytes k (eqb→eq (next_at bytes k) k h)
-
-  pub goes : T (not (eqb (next_at bytes k) k)) → (n : ℕ) × (field_there bytes k ≡ Number n)
-  goes h = went bytes k (λ e. T_not (eqb (next_at bytes k) k) h (rw e (eqb_refl k)))
-
   -- k fields are passed, and those still ahead are the rest
   module _ (inv : k + length (fields_of (drop (6 * k) bytes)) ≡ length (fields_of bytes)) where
     pub passed_within : 6 * k ≤ length bytes
     passed_within = omega (arith, fields_within bytes)
 
-    pub count_stop : field_there bytes k ≡ Malformed → k ≡ length (fields_of bytes)
+    pub count_stop : field_there bytes k ≡ None → k ≡ length (fields_of bytes)
     count_stop e = let m = rw (no_field (drop (6 * k) bytes) e) at inv in omega arith
 
-    module _ (n : ℕ) (e : field_there bytes k ≡ Number n) where
+    module _ (n : ℕ) (e : field_there bytes k ≡ Some n) where
       pub count_turn : next_at bytes k + length (fields_of (drop (6 * next_at bytes k) bytes)) ≡ length (fields_of bytes)
       count_turn = let m = rw (first_field (drop (6 * k) bytes) n e, later) at inv in rw (next_moved bytes k n e) (omega arith)
 
       pub count_less : length bytes - next_at bytes k < length bytes - k
       count_less = omega (arith, next_moved bytes k n e, field_inside bytes k n e)
+
+-- a turn of a loop that holds the reader of a part
+module _ (bytes : List ℕ) (r : LineReader) (next : Next) (same : r.line.now ≡ bytes) (told : next ≡ next_of r) where
+  pub at_on : next.reader.at ≡ next_at bytes r.at
+  at_on = ap (λ (m : Next). m.reader.at) told ∙ ap (λ (b : List ℕ). next_at b r.at) same
+
+  pub field_on : next.field ≡ field_there bytes r.at
+  field_on = ap (λ (m : Next). m.field) told ∙ ap (λ (b : List ℕ). field_there b r.at) same
+
+  pub same_on : next.reader.line.now ≡ bytes
+  same_on = ap (λ (m : Next). m.reader.line.now) told ∙ same
+
+  -- the first of its fields are passed, and those still ahead are the rest
+  module _ (passed : r.at + length (fields_of (drop (6 * r.at) bytes)) ≡ length (fields_of bytes)) where
+    pub turn_stop : next.field ≡ None → r.at ≡ length (fields_of bytes)
+    turn_stop e = count_stop bytes r.at passed (sym field_on ∙ e)
+
+    module _ (n : ℕ) (e : next.field ≡ Some n) where
+      pub turn_less : length bytes - next.reader.at < length bytes - r.at
+      turn_less = rw at_on (count_less bytes r.at passed n (sym field_on ∙ e))
+
+      pub turn_passed : next.reader.at + length (fields_of (drop (6 * next.reader.at) bytes)) ≡ length (fields_of bytes)
+      turn_passed = rw at_on (count_turn bytes r.at passed n (sym field_on ∙ e))
 
 -- ==== the lines of a text
 

@@ -2,14 +2,11 @@
 -- Of bytes that are not whole fields `fields_of` gives those that they begin with. A part of a line that starts after its k-th field
 -- has just the later fields (proofs/Line): so the rest of a line after a term can be handed on as a part.
 -- Last, the reader of a line: at one of its fields, and moved on.
-use Rattle.std.specs.Prelude.{ℕ, zero, suc, ◌+◌, ◌*◌, ◌/◌, ◌<◌, ◌≡◌, ◌≢◌, List, [], ◌∷◌, ◌++◌, length, take, drop}
+use Rattle.std.specs.Prelude.{ℕ, zero, suc, ◌+◌, ◌*◌, ◌/◌, ◌<◌, ◌≡◌, ◌≢◌, List, [], ◌∷◌, ◌++◌, length, take, drop, Option, Some, None}
 use Rattle.columns.specs.Columns.{columns_of, field_of}
 use Rattle.std.specs.Borrow.{Bor}
 use Rattle.reader.specs.declared.LineReader.{LineReader}
 use Rattle.reader.specs.declared.Next.{Next}
-use Rattle.reader.specs.declared.Step.{Step}
-use Rattle.columns.specs.declared.Field.{Field}
-use Rattle.columns.specs.declared.Field.TheVariants.{Number, Malformed}
 
 -- fields one after the other
 unfoldable pub written : List ℕ → List ℕ
@@ -29,13 +26,13 @@ pub record IsLine (line : List ℕ) : Type 0 where
   pub whole : line ≡ written fields
 
 -- the field in the k-th six columns, from 0
-abbrev pub field_there : List ℕ → ℕ → Field
+abbrev pub field_there : List ℕ → ℕ → Option ℕ
 field_there bytes k = field_of (take 6 (drop (6 * k) bytes))
 
 -- a field and those after it; no more where it is malformed
-abbrev pub and_then : Field → List ℕ → List ℕ
-and_then (Number n) later = n ∷ later
-and_then Malformed later = []
+abbrev pub and_then : Option ℕ → List ℕ → List ℕ
+and_then (Some n) later = n ∷ later
+and_then None later = []
 
 -- the fields that bytes begin with, at most k of them
 unfoldable pub fields_from : ℕ → List ℕ → List ℕ
@@ -53,17 +50,13 @@ abbrev pub reader_at : Bor (List ℕ) → ℕ → LineReader
 reader_at line k = record { line = line; at = k }
 
 -- after the k-th field the next one is the one after it; where there is no field the reader stays
-abbrev pub after : Field → ℕ → ℕ
-after (Number n) k = k + 1
-after Malformed k = k
+abbrev pub after : Option ℕ → ℕ → ℕ
+after (Some n) k = k + 1
+after None k = k
 
 -- the place after the k-th
 abbrev pub next_at : List ℕ → ℕ → ℕ
 next_at bytes k = after (field_there bytes k) k
-
--- the k-th field, and the place after it
-abbrev pub step_at : List ℕ → ℕ → Step
-step_at bytes k = record { field = field_there bytes k; at = next_at bytes k }
 
 -- a reader's next field, and the reader moved on
 abbrev pub next_of : LineReader → Next

@@ -1,14 +1,11 @@
 // The fields of a line's bytes; what six columns are a field is in the crate columns. The lines of a text are in specs/Text, and whether
 // its columns are at fault is looked for in the crate text_check.
-// Every field is read through a `LineReader`, which goes over a line field by field. `field_at` and `rest` have plain parameters: a
-// function that has a reader in its hands is proved step by step, and a caller of theirs is not. Every public function answers any
-// bytes. The definitions are in specs/Line.
+// Every field is read through a `LineReader`, which goes over a line field by field; `field_at` and `rest` are it for one step. Every public
+// function answers any bytes. The definitions are in specs/Line.
 #![tactic(auto)]
 
 ghost use Rattle.std.specs.Prelude.{◌≡◌, ◌*◌, length, drop};
-ghost use Rattle.reader.specs.Line.{field_there, fields_of, reader_at, next_of, step_at};
-
-use columns::Field;
+ghost use Rattle.reader.specs.Line.{field_there, fields_of, reader_at, next_of};
 
 // A read-only look at one line of the lent text, or at a part of one: its bytes, and the number of the field that is next.
 #[derive(Clone, Copy)]
@@ -17,21 +14,13 @@ pub struct LineReader<'a> {
     pub at: usize,
 }
 
-// A field, and the reader moved on: to the field after it, and where it was if there is no field.
+// A field's number, and the reader moved on: to the field after it, and where it was if there is no field.
 #[derive(Clone, Copy)]
 pub struct Next<'a> {
-    pub field: Field,
+    pub field: Option<u16>,
     pub reader: LineReader<'a>,
 }
 
-// The same with the reader's place alone.
-#[derive(Clone, Copy)]
-struct Step {
-    field: Field,
-    at: usize,
-}
-
-// Thin functions: each takes the reader apart, and `step_in` and `part_from` do the work on the bytes and the number.
 impl<'a> LineReader<'a> {
     // The reader of a line, at its first field.
     pub fn new(line: &'a [u8]) -> LineReader<'a>
@@ -54,13 +43,15 @@ impl<'a> LineReader<'a> {
     pub fn next(self) -> Next<'a>
         ensures { result ≡ next_of self.entry }
     {
-        let step = step_in(self.line, self.at);
+        let field = columns::field_in(self.line, self.at);
+        let at = if field.is_some() {
+            self.at + 1
+        } else {
+            self.at
+        };
         Next {
-            field: step.field,
-            reader: LineReader {
-                line: self.line,
-                at: step.at,
-            },
+            field,
+            reader: self.moved(at),
         }
     }
 
@@ -68,12 +59,17 @@ impl<'a> LineReader<'a> {
     pub fn rest(self) -> &'a [u8]
         ensures { result.now ≡ drop (6 * self.entry.at) self.entry.line.now }
     {
-        part_from(self.line, self.at)
+        if self.at <= self.line.len() / columns::COLUMNS {
+            let at = columns::COLUMNS * self.at;
+            &self.line[at..]
+        } else {
+            &self.line[self.line.len()..]
+        }
     }
 }
 
-// The k-th field of a part of a line, counted from 0; malformed also where the part has no k-th six columns.
-pub fn field_at(part: &[u8], k: usize) -> Field
+// The k-th field of a part of a line, counted from 0; none also where the part has no k-th six columns.
+pub fn field_at(part: &[u8], k: usize) -> Option<u16>
     ensures { result ≡ field_there part.now k }
 {
     LineReader::new(part).moved(k).next().field
@@ -93,32 +89,9 @@ pub fn count(part: &[u8]) -> usize
     let mut reader = LineReader::new(part);
     loop {
         let next = reader.next();
-        if next.reader.at == reader.at {
+        let Some(_) = next.field else {
             return reader.at;
-        }
+        };
         reader = next.reader;
-    }
-}
-
-// The field in the k-th six columns of a line, and the number of the field after it: k again if there is no field.
-fn step_in(line: &[u8], k: usize) -> Step
-    ensures { result ≡ step_at line.now k }
-{
-    let field = columns::field_in(line, k);
-    let Field::Number(_) = field else {
-        return Step { field, at: k };
-    };
-    Step { field, at: k + 1 }
-}
-
-// The bytes of a line from its k-th six columns on.
-fn part_from(line: &[u8], k: usize) -> &[u8]
-    ensures { result.now ≡ drop (6 * k) line.now }
-{
-    if k <= line.len() / columns::COLUMNS {
-        let at = columns::COLUMNS * k;
-        &line[at..]
-    } else {
-        &line[line.len()..]
     }
 }

@@ -30,8 +30,9 @@ use Rattle.plan.specs.Plan.{row_plan_of}
 use Rattle.plan.proofs.Held.{row_as_is, row_line_lem, row_by_lem, row_is}
 use Rattle.plan.proofs.Planned.{impl_row_plan}
 use Rattle.state_passes.specs.Passes.{seen, row_in, impl_between, reply_in, spec_between}
-use Rattle.state_passes.specs.declared.Seen.{Seen}
-use Rattle.state_passes.proofs.Decided.{on_guarded, row_seen, row_replied, seen_holds, seen_quiet}
+use Rattle.std.specs.Prelude.{Some, is_some, unwrap_or}
+use Rattle.state_passes.proofs.Seeing.{seen_holds, seen_quiet}
+use Rattle.state_passes.proofs.Decided.{on_guarded, row_seen, row_replied}
 use Rattle.watched.specs.Watched.{all_of, map_reads, enabling, watched, reply_watched}
 use Rattle.recall.specs.Recall.{Task, Known, Replied, RowIs, MappedIs, idle_in, seen_in, look_inside, loud_of}
 use Rattle.recall.specs.declared.Look.{Look}
@@ -134,21 +135,22 @@ module _ (f s : List ℕ) (h : Shape) (p sets v t : List ℕ) (task : Task f s h
       loud true z = absurd (z refl)
       loud false z = refl
 
-  pub looked : (r : Look) → r ≡ look_inside f s h p sets i v t → r.holds ≡ true → Shown r.watch (loud_of r.quiet)
+  pub looked : (r : Look) → r ≡ look_inside f s h p sets i v t → is_some r.seen ≡ true → Shown r.watch (loud_of (unwrap_or r.seen false))
   unfolding look_inside
   looked r er holds = go (idle_in f s h p i v) refl er
     where
       found : Bool → Look
-      found b =
-          cond b (record { holds = true; quiet = true; watch = get_or sets i 0 })
-          (record { holds = (seen_in f s h p i v t).holds; quiet = (seen_in f s h p i v t).quiet; watch = get_or sets (32 + i) 0 })
+      found b = cond b (record { seen = Some true; watch = get_or sets i 0 }) (record { seen = seen_in f s h p i v t; watch = get_or sets (32 + i) 0 })
 
-      go : (b : Bool) → idle_in f s h p i v ≡ b → r ≡ found b → Shown r.watch (loud_of r.quiet)
+      quiet-r : Bool
+      quiet-r = unwrap_or r.seen false
+
+      go : (b : Bool) → idle_in f s h p i v ≡ b → r ≡ found b → Shown r.watch (loud_of quiet-r)
       go true y e = rw (e, task.sets_are.enable i listed) (idle_shown (idle_means y))
       go false y e =
-          let k : keeps_b ≡ true = and_left keeps_b true (sym (seen_holds (keeps_b && true) ((keeps_b && quiet_b) && true)) ∙ sym (ap (λ (z : Seen). z.holds) sight) ∙ sym (ap (λ (z : Look). z.holds) e) ∙ holds) in
-          let q : quiet_b ≡ r.quiet = sym (ap (λ (z : Look). z.quiet) e ∙ ap (λ (z : Seen). z.quiet) sight ∙ rw (seen_quiet (keeps_b && true) ((keeps_b && quiet_b) && true), k) (and-true quiet_b)) in
-          subst (λ w. Shown w (loud_of r.quiet)) (sym (ap (λ (z : Look). z.watch) e ∙ task.sets_are.watch i listed)) (seen_shown r.quiet k q)
+          let k : keeps_b ≡ true = and_left keeps_b true (sym (seen_holds (keeps_b && true) ((keeps_b && quiet_b) && true)) ∙ sym (ap is_some sight) ∙ sym (ap (λ (z : Look). is_some z.seen) e) ∙ holds) in
+          let q : quiet_b ≡ quiet-r = sym (ap (λ (z : Look). unwrap_or z.seen false) e ∙ ap (λ o. unwrap_or o false) sight ∙ rw (seen_quiet (keeps_b && true) ((keeps_b && quiet_b) && true), k) (and-true quiet_b)) in
+          subst (λ w. Shown w (loud_of quiet-r)) (sym (ap (λ (z : Look). z.watch) e ∙ task.sets_are.watch i listed)) (seen_shown quiet-r k q)
 
 -- ---- the reply to a row of the specification
 

@@ -1,5 +1,5 @@
 -- What the functions return, as specs/Recall says it, and the turns of their loops.
-use mathlib.Core.Path.{◌≡◌}
+use mathlib.Core.Path.{◌≡◌, refl, ◌∙◌}
 use mathlib.Core.Bool.{Bool, true, false, not}
 use mathlib.Core.List.{List}
 use Prim.Native.Nat.{ℕ, ◌+◌}
@@ -17,7 +17,8 @@ use Rattle.conjuncts.specs.declared.Guarded.{Guarded}
 use Rattle.row_plan.specs.RowPlan.{row_plan_at}
 use Rattle.row_plan.specs.declared.RowPlan.{RowPlan}
 use Rattle.state_passes.specs.Passes.{impl_between, spec_between}
-use Rattle.state_passes.specs.declared.Seen.{Seen}
+use Rattle.std.specs.Prelude.{Option, Some, is_some, unwrap_or}
+use Rattle.std.specs.Int.{from_bool}
 use Rattle.reads.specs.Reads.{differ}
 use Rattle.recall.specs.Recall.{since, idle_in, look_inside, loud_of, noted_in, row_passes_in, reply_noted_in, reply_passes_in}
 use Rattle.recall.specs.declared.Look.{Look}
@@ -42,12 +43,12 @@ module _ (f s p v : List ℕ) (h : Shape) (i line n : ℕ) (g : Guarded) (el : l
 -- ---- a look
 
 module _ (f s p sets v t : List ℕ) (h : Shape) (i : ℕ) (b : Bool) (eb : b ≡ idle_in f s h p i v) where
-  pub look_idle : b ≡ true → record { holds = true; quiet = true; watch = get_or sets i 0 } ≡ look_inside f s h p sets i v t
+  pub look_idle : b ≡ true → record { seen = Some true; watch = get_or sets i 0 } ≡ look_inside f s h p sets i v t
   unfolding look_inside
   look_idle y = rw (← eb, y)
 
-  pub look_seen : (m : ℕ) (r : Seen) → b ≡ false → m ≡ measure_in f s h v → r ≡ impl_between f s h p i (i + 1) v t m
-      → record { holds = r.holds; quiet = r.quiet; watch = get_or sets (32 + i) 0 } ≡ look_inside f s h p sets i v t
+  pub look_seen : (m : ℕ) (r : Option Bool) → b ≡ false → m ≡ measure_in f s h v → r ≡ impl_between f s h p i (i + 1) v t m
+      → record { seen = r; watch = get_or sets (32 + i) 0 } ≡ look_inside f s h p sets i v t
   unfolding look_inside
   look_seen m r y em er = rw (← eb, y, ← em, er)
 
@@ -63,13 +64,17 @@ module _ (f s p sets v t watch : List ℕ) (h : Shape) (changed i : ℕ) where
   kept_noted z = rw (eq-eqb (bit_and (get_or watch i 0) changed) 0 z)
 
   module _ (n : bit_and (get_or watch i 0) changed ≡ 0 → ⊥) (r : Look) (er : r ≡ look_inside f s h p sets i v t) where
-    pub seen_passes : r.holds ≡ row_passes_in f s h p sets changed i v t watch
+    pub seen_passes : (b : Bool) → b ≡ is_some r.seen → b ≡ row_passes_in f s h p sets changed i v t watch
     unfolding row_passes_in
-    seen_passes = rw (ne_eqb (bit_and (get_or watch i 0) changed) 0 n, er)
+    seen_passes b eb = eb ∙ rw (ne_eqb (bit_and (get_or watch i 0) changed) 0 n, er)
 
-    pub seen_noted : (x : ℕ) → x ≡ loud_of r.quiet → set (set watch i r.watch) (65 + i) x ≡ noted_in f s h p sets changed i v t watch
+    as_flag : (q : Bool) → from_bool (not q) ≡ loud_of q
+    as_flag true = refl
+    as_flag false = refl
+
+    pub seen_noted : (q : Bool) (x : ℕ) → q ≡ unwrap_or r.seen false → x ≡ from_bool (not q) → set (set watch i r.watch) (65 + i) x ≡ noted_in f s h p sets changed i v t watch
     unfolding noted_in
-    seen_noted x ex = rw (ne_eqb (bit_and (get_or watch i 0) changed) 0 n, ← er, ex)
+    seen_noted q x eq ex = rw (ne_eqb (bit_and (get_or watch i 0) changed) 0 n, ← er, ex, as_flag q, eq)
 
 -- ---- a reply
 

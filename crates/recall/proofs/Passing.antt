@@ -6,7 +6,7 @@ use Prim.Native.Nat.{ℕ, ◌+◌}
 use native.Mathlib.Omega.{arith}
 use borrow.Author.Tests.{not-false}
 use lib.Bits.{bit_and}
-use lib.ListN.{length, get_or}
+use lib.ListN.{get_or}
 use Rattle.foundation.specs.First.{all_in_range}
 use Rattle.foundation.specs.Reflects.{◌⇒◌}
 use Rattle.foundation.proofs.All.{all_in, all_yes}
@@ -24,6 +24,7 @@ use Rattle.design.specs.declared.Shape.{Shape}
 use Rattle.steps.specs.Arrays.{mapped_in}
 use Rattle.plan.proofs.Held.{row_as_is, row_is, numbered}
 use Rattle.state_passes.proofs.Decided.{rows_held_lem, focus_held, sevens_held}
+use Rattle.std.specs.Prelude.{Option, Some, IfSome}
 use Rattle.recall.specs.Recall.{When, since, Task, Known, Replied, RowIs, MappedIs, RowsCarried, RepliesCarried, MappedCarried, Recalls, OneLoud, RowsTo, RepliesTo, MappedTo, Passed}
 use Rattle.recall.proofs.States.{all_hold}
 
@@ -39,12 +40,6 @@ since_triangle last v x w a b =
 module _ (f s v watch after t : List ℕ) (h : Shape) (b : Bool) where
   pub mapped_here : When b (MappedTo f s h watch v after t) → not b ≡ false → t ≡ mapped_in f s h v
   mapped_here w y = (w.so (not-false b y)).here.is
-
-  pub one_long : When b (MappedTo f s h watch v after t) → not b ≡ false → length after ≡ 97
-  one_long w y = (w.so (not-false b y)).long
-
-pub two_long : (f s v watch after : List ℕ) (h : Shape) (b : Bool) (i : ℕ) (quiet : Bool) → When b (RowsTo f s h watch v after i quiet) → not b ≡ false → length after ≡ 97
-two_long f s v watch after h b i quiet w y = (w.so (not-false b y)).long
 
 module _ (f s : List ℕ) (h : Shape) (p sets last v : List ℕ) (task : Task f s h p sets v) where
   carry : (w : ℕ) (P : List ℕ → Type 0) → Known f s h last w P → bit_and w (since last v) ≡ 0 → Known f s h v w P × P v
@@ -75,9 +70,9 @@ module _ (f s : List ℕ) (h : Shape) (p sets last v : List ℕ) (task : Task f 
             (subst (λ z. Known f s h v (get_or watch i 0) (RowIs f s h i z) × RowIs f s h i z v) (sym g) k);
       }
 
-      module _ (two : List ℕ) (b₂ quiet : Bool) (rows : When b₂ (RowsTo f s h one v two h.implementation.rows.count quiet)) (y₂ : not b₂ ≡ false) where
+      module _ (two : List ℕ) (r₂ : Option Bool) (quiet : Bool) (rows : IfSome r₂ (λ q. RowsTo f s h one v two h.implementation.rows.count q)) (y₂ : r₂ ≡ Some quiet) where
         to_rows : RowsTo f s h one v two h.implementation.rows.count quiet
-        to_rows = rows.so (not-false b₂ y₂)
+        to_rows = rw y₂ at rows
 
         pub carried_replies : RepliesCarried f s h m two v
         carried_replies = record {

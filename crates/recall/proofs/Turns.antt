@@ -23,6 +23,7 @@ use Rattle.steps.proofs.States as steps
 use Rattle.state_passes.specs.Passes.{spec_between}
 use Rattle.recall.specs.Recall.{When, since, Task, Known, Replied, RowIs, MappedIs, RowKnown, ReplyKnown, RowsCarried, RepliesCarried, MappedCarried, look_inside, loud_of, noted_in, row_passes_in, OneLoud, RowsTo, reply_noted_in, reply_passes_in, RepliesTo, MappedTo, Recalls, Forgets}
 use Rattle.recall.specs.declared.Look.{Look}
+use Rattle.std.specs.Prelude.{is_some, unwrap_or}
 use Rattle.recall.proofs.Known.{looked, replied_on, reply_looked, mapped_on}
 
 -- of a no nothing is said
@@ -70,14 +71,14 @@ module _ (f s p sets v t before watch after : List ℕ) (h : Shape) (changed i :
     same = λ j n m. ap (λ z. get_or z j 0) e;
   }
 
-  seen : (r : Look) → r ≡ look_inside f s h p sets i v t → r.holds ≡ true → after ≡ set (set watch i r.watch) (65 + i) (loud_of r.quiet) → Turned
+  seen : (r : Look) → r ≡ look_inside f s h p sets i v t → is_some r.seen ≡ true → after ≡ set (set watch i r.watch) (65 + i) (loud_of (unwrap_or r.seen false)) → Turned
   seen r er holds e = record {
     noted =
         let k = looked f s h p sets v t task et i l r er holds in
         subst (λ w. Known f s h v w (RowIs f s h i (get_or after (65 + i) 0)) × RowIs f s h i (get_or after (65 + i) 0) v) (sym first)
         (subst (λ m. Known f s h v r.watch (RowIs f s h i m) × RowIs f s h i m v) (sym second) (k.on, k.here));
     long = whole;
-    same = λ j n m. ap (λ z. get_or z j 0) e ∙ get_or-set_other one (65 + i) j (loud_of r.quiet) 0 m ∙ get_or-set_other watch i j r.watch 0 n;
+    same = λ j n m. ap (λ z. get_or z j 0) e ∙ get_or-set_other one (65 + i) j (loud_of (unwrap_or r.seen false)) 0 m ∙ get_or-set_other watch i j r.watch 0 n;
   }
     where
       one : List ℕ
@@ -87,15 +88,15 @@ module _ (f s p sets v t before watch after : List ℕ) (h : Shape) (changed i :
       one_long = length-set watch i r.watch ∙ inv.long
 
       whole : length after ≡ 97
-      whole = ap length e ∙ length-set one (65 + i) (loud_of r.quiet) ∙ one_long
+      whole = ap length e ∙ length-set one (65 + i) (loud_of (unwrap_or r.seen false)) ∙ one_long
 
       first : get_or after i 0 ≡ r.watch
       first =
           let n = inv.long in
-          ap (λ z. get_or z i 0) e ∙ get_or-set_other one (65 + i) i (loud_of r.quiet) 0 (λ z. omega arith) ∙ get_or-set_same watch i r.watch 0 (let b = below in omega arith)
+          ap (λ z. get_or z i 0) e ∙ get_or-set_other one (65 + i) i (loud_of (unwrap_or r.seen false)) 0 (λ z. omega arith) ∙ get_or-set_same watch i r.watch 0 (let b = below in omega arith)
 
-      second : get_or after (65 + i) 0 ≡ loud_of r.quiet
-      second = let n = one_long in ap (λ z. get_or z (65 + i) 0) e ∙ get_or-set_same one (65 + i) (loud_of r.quiet) 0 (let b = below in omega arith)
+      second : get_or after (65 + i) 0 ≡ loud_of (unwrap_or r.seen false)
+      second = let n = one_long in ap (λ z. get_or z (65 + i) 0) e ∙ get_or-set_same one (65 + i) (loud_of (unwrap_or r.seen false)) 0 (let b = below in omega arith)
 
   turned : Turned
   unfolding noted_in row_passes_in
@@ -104,7 +105,7 @@ module _ (f s p sets v t before watch after : List ℕ) (h : Shape) (changed i :
       r : Look
       r = look_inside f s h p sets i v t
 
-      go : (z : Bool) → eqb (bit_and (get_or watch i 0) changed) 0 ≡ z → cond z true r.holds ≡ true → after ≡ cond z watch (set (set watch i r.watch) (65 + i) (loud_of r.quiet)) → Turned
+      go : (z : Bool) → eqb (bit_and (get_or watch i 0) changed) 0 ≡ z → cond z true (is_some r.seen) ≡ true → after ≡ cond z watch (set (set watch i r.watch) (65 + i) (loud_of (unwrap_or r.seen false))) → Turned
       go true a y e = kept (eqb-true (bit_and (get_or watch i 0) changed) 0 a) e
       go false a y e = seen r refl y e
 
@@ -134,11 +135,8 @@ module _ (f s p sets v t before watch after : List ℕ) (h : Shape) (changed i :
 
 module _ (f s v before watch : List ℕ) (h : Shape) (i : ℕ) (quiet : Bool) where
   pub rows_end : i ≤ h.implementation.rows.count → h.implementation.rows.count ≤ i → RowsTo f s h before v watch i quiet
-      → When true (RowsTo f s h before v watch h.implementation.rows.count quiet)
-  rows_end u m inv = let e : i ≡ h.implementation.rows.count = omega arith in record { so = λ y. subst (λ n. RowsTo f s h before v watch n quiet) e inv }
-
-  pub rows_long : RowsTo f s h before v watch i quiet → length watch ≡ 97
-  rows_long inv = inv.long
+      → RowsTo f s h before v watch h.implementation.rows.count quiet
+  rows_end u m inv = let e : i ≡ h.implementation.rows.count = omega arith in subst (λ n. RowsTo f s h before v watch n quiet) e inv
 
 pub row_below : (f s p sets v : List ℕ) (h : Shape) (i : ℕ) → Task f s h p sets v → i < h.implementation.rows.count → i < 32
 row_below f s p sets v h i task l = let few = task.fits.implementation.rows in omega arith
@@ -213,9 +211,6 @@ module _ (f s v before watch : List ℕ) (h : Shape) (i : ℕ) (quiet : Bool) wh
   pub replies_end : i ≤ h.specification.rows.count → h.specification.rows.count ≤ i → RepliesTo f s h before v watch i quiet
       → When true (RepliesTo f s h before v watch h.specification.rows.count quiet)
   replies_end u m inv = let e : i ≡ h.specification.rows.count = omega arith in record { so = λ y. subst (λ n. RepliesTo f s h before v watch n quiet) e inv }
-
-  pub replies_long : RepliesTo f s h before v watch i quiet → length watch ≡ 97
-  replies_long inv = inv.long
 
 pub reply_below : (f s p sets v : List ℕ) (h : Shape) (i : ℕ) → Task f s h p sets v → i < h.specification.rows.count → i < 32
 reply_below f s p sets v h i task l = let n = task.fits.specification.rows in omega arith

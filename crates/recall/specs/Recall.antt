@@ -1,7 +1,7 @@
 -- What is known of a state from those before it. Beside each row stands a set of parameters, as in the crate reads: what is known of the row is
 -- so in every state of the invariant that differs from the last one in none of them. 256 is no parameter: in a set it says that nothing is
 -- known. f the fields, s the starts of lines, h the shape, p the plan; v, x arrays that hold states, t the mapped state; i counts rows from 0.
-use Rattle.std.specs.Prelude.{◌≡◌, Bool, true, false, not, cond, List, ℕ, ◌+◌, ◌≤◌, ◌<◌, eqb, length, get_or, drop, set}
+use Rattle.std.specs.Prelude.{◌≡◌, Bool, true, false, not, cond, List, ℕ, ◌+◌, ◌≤◌, ◌<◌, eqb, length, get_or, drop, set, Option, Some, is_some, unwrap_or}
 use Rattle.std.specs.Int.Bits.{bit_and, bit_or}
 use Rattle.foundation.specs.First.{all_in_range}
 use Rattle.foundation.specs.Reflects.{◌⇒◌}
@@ -21,7 +21,6 @@ use Rattle.row_plan.specs.RowPlan.{row_plan_at}
 use Rattle.row_plan.specs.declared.RowPlan.{RowPlan}
 use Rattle.plan.specs.Plan.{plan_in, sure_in}
 use Rattle.state_passes.specs.Passes.{impl_between, spec_between}
-use Rattle.state_passes.specs.declared.Seen.{Seen}
 use Rattle.reads.specs.Reads.{differ}
 use Rattle.watched.specs.Watched.{all_of, map_reads, enabling, watched, reply_watched}
 use Rattle.recall.specs.declared.Look.{Look}
@@ -138,15 +137,13 @@ idle_in f s h p i v =
     cond front.holds (cond e.free (not (eval_f (read_f front.depth (drop front.at f)).tree v 0)) false) true
 
 -- what is seen of it
-abbrev pub seen_in : List ℕ → List ℕ → Shape → List ℕ → ℕ → List ℕ → List ℕ → Seen
+abbrev pub seen_in : List ℕ → List ℕ → Shape → List ℕ → ℕ → List ℕ → List ℕ → Option Bool
 seen_in f s h p i v t = impl_between f s h p i (i + 1) v t (measure_in f s h v)
 
 -- a row that is not enabled keeps its criteria until what enables it changes
 unfoldable pub look_inside : List ℕ → List ℕ → Shape → List ℕ → List ℕ → ℕ → List ℕ → List ℕ → Look
 look_inside f s h p sets i v t =
-    let r : Seen = seen_in f s h p i v t in
-    cond (idle_in f s h p i v) (record { holds = true; quiet = true; watch = get_or sets i 0 })
-    (record { holds = r.holds; quiet = r.quiet; watch = get_or sets (32 + i) 0 })
+    cond (idle_in f s h p i v) (record { seen = Some true; watch = get_or sets i 0 }) (record { seen = seen_in f s h p i v t; watch = get_or sets (32 + i) 0 })
 
 -- ---- rows, one after the other
 
@@ -158,10 +155,10 @@ loud_of quiet = cond quiet 0 1
 unfoldable pub noted_in : List ℕ → List ℕ → Shape → List ℕ → List ℕ → ℕ → ℕ → List ℕ → List ℕ → List ℕ → List ℕ
 noted_in f s h p sets changed i v t watch =
     let r : Look = look_inside f s h p sets i v t in
-    cond (eqb (bit_and (get_or watch i 0) changed) 0) watch (set (set watch i r.watch) (65 + i) (loud_of r.quiet))
+    cond (eqb (bit_and (get_or watch i 0) changed) 0) watch (set (set watch i r.watch) (65 + i) (loud_of (unwrap_or r.seen false)))
 
 unfoldable pub row_passes_in : List ℕ → List ℕ → Shape → List ℕ → List ℕ → ℕ → ℕ → List ℕ → List ℕ → List ℕ → Bool
-row_passes_in f s h p sets changed i v t watch = cond (eqb (bit_and (get_or watch i 0) changed) 0) true (look_inside f s h p sets i v t).holds
+row_passes_in f s h p sets changed i v t watch = cond (eqb (bit_and (get_or watch i 0) changed) 0) true (is_some (look_inside f s h p sets i v t).seen)
 
 -- one of the rows before row i has a marked step
 pub record OneLoud (f s : List ℕ) (h : Shape) (v : List ℕ) (i : ℕ) : Type 0 where

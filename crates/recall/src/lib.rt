@@ -3,20 +3,20 @@
 // of one that isn't nothing is said. It is for designs in which nothing lacks a value. What is known is said in specs/Recall.
 #![tactic(auto)]
 
-ghost use Rattle.std.specs.Prelude.{◌≡◌, ◌+◌, ◌<◌, ◌≤◌, length};
+ghost use Rattle.std.specs.Prelude.{◌≡◌, ◌+◌, ◌<◌, ◌≤◌, IfSome};
 ghost use Rattle.watched.specs.Watched.{map_reads};
 ghost use Rattle.design.specs.Loaded.{design_at};
 ghost use Rattle.layout.specs.Sizes.{Fits};
 ghost use Rattle.steps.specs.Arrays.{padded, mapped_in, measure_in};
-ghost use Rattle.recall.specs.Recall.{When, SetsAre, SetsTo, since, Task, idle_in, look_inside, loud_of, noted_in, row_passes_in, RowsCarried, RowsTo, reply_noted_in, reply_passes_in, RepliesCarried, RepliesTo, MappedCarried, MappedTo, Recalls, Passed, Forgets};
+ghost use Rattle.recall.specs.Recall.{When, SetsAre, SetsTo, since, Task, idle_in, look_inside, noted_in, row_passes_in, RowsCarried, RowsTo, reply_noted_in, reply_passes_in, RepliesCarried, RepliesTo, MappedCarried, MappedTo, Recalls, Passed, Forgets};
 
 use design::{Process, Shape};
+use layout::Lines;
 
-// What was seen of a row: whether it keeps its criteria, whether it has no marked step, and what that depends on.
+// What was seen of a row: where it keeps its criteria, whether it has no marked step; and what that depends on.
 #[derive(Clone, Copy)]
 pub struct Look {
-    pub holds: bool,
-    pub quiet: bool,
+    pub seen: Option<bool>,
     pub watch: u16,
 }
 
@@ -25,63 +25,45 @@ pub struct Look {
 pub const SETS: usize = 3 * limits::MAX_ROWS + 1;
 
 // Stores the sets of the rows of the implementation.
-fn put_rows<'a>(
-    fields: &'a limits::Fields,
-    starts: &'a limits::Starts,
-    shape: Shape,
-    mapping: &limits::Values,
-    out: &mut [u16; SETS],
-)
+fn put_rows(lines: &Lines, shape: Shape, mapping: &limits::Values, out: &mut [u16; SETS])
     requires fits { Fits shape }
-    requires mapping_value { mapping.now ≡ padded (map_reads (design_at fields.now starts.now shape)) }
-    requires out_len { length out.old ≡ 97 }
-    ensures { SetsTo (design_at fields.now starts.now shape) out.new shape.implementation.rows.count 0 }
+    requires mapping_value { mapping.now ≡ padded (map_reads (design_at lines.now.fields lines.now.starts shape)) }
+    ensures { SetsTo (design_at lines.now.fields lines.now.starts shape) out.new shape.implementation.rows.count 0 }
 {
-    let mut i = 0;
-    while i < shape.implementation.rows.count {
+    for i in 0..shape.implementation.rows.count {
         let k = i as u16 + 1;
-        out[i as usize] = watches::enabling(fields, starts, shape, k);
-        out[limits::MAX_ROWS + i as usize] = watches::watched(fields, starts, shape, mapping, k);
-        i += 1;
+        out[i as usize] = watches::enabling(lines, shape, k);
+        out[limits::MAX_ROWS + i as usize] = watches::watched(lines, shape, mapping, k);
     }
 }
 
 // Stores those of the rows of the specification.
-fn put_replies<'a>(
-    fields: &'a limits::Fields,
-    starts: &'a limits::Starts,
-    shape: Shape,
-    mapping: &limits::Values,
-    out: &mut [u16; SETS],
-)
+fn put_replies(lines: &Lines, shape: Shape, mapping: &limits::Values, out: &mut [u16; SETS])
     requires fits { Fits shape }
-    requires mapping_value { mapping.now ≡ padded (map_reads (design_at fields.now starts.now shape)) }
-    requires sets_to { SetsTo (design_at fields.now starts.now shape) out.old shape.implementation.rows.count 0 }
-    ensures { SetsTo (design_at fields.now starts.now shape) out.new shape.implementation.rows.count shape.specification.rows.count }
+    requires mapping_value { mapping.now ≡ padded (map_reads (design_at lines.now.fields lines.now.starts shape)) }
+    requires sets_to { SetsTo (design_at lines.now.fields lines.now.starts shape) out.old shape.implementation.rows.count 0 }
+    ensures { SetsTo (design_at lines.now.fields lines.now.starts shape) out.new shape.implementation.rows.count shape.specification.rows.count }
 {
-    let mut i = 0;
-    while i < shape.specification.rows.count {
+    for i in 0..shape.specification.rows.count {
         out[2 * limits::MAX_ROWS + i as usize] = watches::reply_watched(
-            fields,
-            starts,
+            lines,
             shape,
             mapping,
             i as u16 + 1,
         );
-        i += 1;
     }
 }
 
 // The sets of a design.
-pub fn sets<'a>(fields: &'a limits::Fields, starts: &'a limits::Starts, shape: Shape) -> [u16; SETS]
+pub fn sets(lines: &Lines, shape: Shape) -> [u16; SETS]
     requires { Fits shape }
-    ensures { SetsAre (design_at fields.now starts.now shape) result }
+    ensures { SetsAre (design_at lines.now.fields lines.now.starts shape) result }
 {
-    let mapping = watches::mapping_reads(fields, starts, shape);
+    let mapping = watches::mapping_reads(lines, shape);
     let mut out = [0u16; SETS];
-    put_rows(fields, starts, shape, &mapping, &mut out);
-    put_replies(fields, starts, shape, &mapping, &mut out);
-    out[SETS - 1] = watches::mapping_watched(fields, starts, shape, &mapping);
+    put_rows(lines, shape, &mapping, &mut out);
+    put_replies(lines, shape, &mapping, &mut out);
+    out[SETS - 1] = watches::mapping_watched(lines, shape, &mapping);
     out
 }
 
@@ -96,36 +78,28 @@ pub fn pays(sets: &[u16; SETS], implementation: Process) -> bool
     }
     let last = reads::only(places as u16 - 1);
     let mut restless = 0u16;
-    let mut i = 0;
-    while i < implementation.rows.count {
-        restless = restless + meets(sets[i as usize], last);
-        i += 1;
+    for i in 0..implementation.rows.count {
+        if sets[i as usize] & last != 0 {
+            restless += 1;
+        }
     }
     4 * restless < 3 * (implementation.rows.count as u16)
 }
 
-// 1 if two sets have something in common.
-fn meets(a: u16, b: u16) -> u16
-    ensures { result ≤ 1 }
-{
-    if a & b == 0 { 0 } else { 1 }
-}
-
 // Whether row i of the implementation is not enabled, as far as a look at its condition for one sum value tells.
-fn idle<'a>(
-    fields: &'a limits::Fields,
-    starts: &'a limits::Starts,
+fn idle(
+    lines: &Lines,
     shape: Shape,
     plan: &[u16; row_plan::LENGTH],
     i: u8,
     v: &limits::Values,
 ) -> bool
     requires { i < 32 }
-    ensures { result ≡ idle_in fields.now starts.now shape plan.now i v.now }
+    ensures { result ≡ idle_in lines.now.fields lines.now.starts shape plan.now i v.now }
 {
-    let line = steps::line_of(starts, shape.implementation, i as u16 + 1);
+    let line = steps::line_of(lines, shape.implementation, i as u16 + 1);
     let conjuncts = row_plan::front(plan, i as usize);
-    let front = conjuncts::guard(fields, line as usize + 3, v, 0, conjuncts);
+    let front = conjuncts::guard(&lines.fields, line as usize + 3, v, 0, conjuncts);
     if !front.holds {
         return true;
     }
@@ -133,14 +107,13 @@ fn idle<'a>(
     if !planned.free {
         return false;
     }
-    let on = eval::formula(fields, front.at, v, 0, front.depth);
+    let on = eval::formula(&lines.fields, front.at, v, 0, front.depth);
     !on.holds
 }
 
 // A look at row i.
-fn look_at<'a>(
-    fields: &'a limits::Fields,
-    starts: &'a limits::Starts,
+fn look_at(
+    lines: &Lines,
     shape: Shape,
     plan: &[u16; row_plan::LENGTH],
     sets: &[u16; SETS],
@@ -150,20 +123,17 @@ fn look_at<'a>(
     m: u16,
 ) -> Look
     requires i_bound { i < 32 }
-    requires m_value { m ≡ measure_in fields.now starts.now shape v.now }
-    ensures { result ≡ look_inside fields.now starts.now shape plan.now sets.now i v.now t.now }
+    requires m_value { m ≡ measure_in lines.now.fields lines.now.starts shape v.now }
+    ensures { result ≡ look_inside lines.now.fields lines.now.starts shape plan.now sets.now i v.now t.now }
 {
-    if idle(fields, starts, shape, plan, i, v) {
+    if idle(lines, shape, plan, i, v) {
         return Look {
-            holds: true,
-            quiet: true,
+            seen: Some(true),
             watch: sets[i as usize],
         };
     }
-    let seen = state_passes::rows_seen_between(fields, starts, shape, plan, i, i + 1, v, t, m);
     Look {
-        holds: seen.holds,
-        quiet: seen.quiet,
+        seen: state_passes::rows_seen_between(lines, shape, plan, i, i + 1, v, t, m),
         watch: sets[limits::MAX_ROWS + i as usize],
     }
 }
@@ -176,17 +146,9 @@ const MAPPING: usize = 2 * limits::MAX_ROWS;
 
 const LOUD: usize = MAPPING + 1;
 
-// 1 if there is a marked step.
-fn flag(quiet: bool) -> u16
-    ensures { result ≡ loud_of quiet }
-{
-    if quiet { 0 } else { 1 }
-}
-
 // Row i by what is known of it, or by a look, which is noted.
-fn row_passes<'a>(
-    fields: &'a limits::Fields,
-    starts: &'a limits::Starts,
+fn row_passes(
+    lines: &Lines,
     shape: Shape,
     plan: &[u16; row_plan::LENGTH],
     sets: &[u16; SETS],
@@ -198,31 +160,23 @@ fn row_passes<'a>(
     watch: &mut [u16; WATCH],
 ) -> bool
     requires i_bound { i < 32 }
-    requires m_value { m ≡ measure_in fields.now starts.now shape v.now }
-    requires watch_len { length watch.old ≡ 97 }
-    ensures value { result ≡ row_passes_in fields.now starts.now shape plan.now sets.now changed i v.now t.now watch.old }
-    ensures watch_after { watch.new ≡ noted_in fields.now starts.now shape plan.now sets.now changed i v.now t.now watch.old }
+    requires m_value { m ≡ measure_in lines.now.fields lines.now.starts shape v.now }
+    ensures value { result ≡ row_passes_in lines.now.fields lines.now.starts shape plan.now sets.now changed i v.now t.now watch.old }
+    ensures watch_after { watch.new ≡ noted_in lines.now.fields lines.now.starts shape plan.now sets.now changed i v.now t.now watch.old }
 {
     let known = watch[i as usize];
     if known & changed == 0 {
         return true;
     }
-    let seen = look_at(fields, starts, shape, plan, sets, i, v, t, m);
-    watch[i as usize] = seen.watch;
-    watch[LOUD + i as usize] = flag(seen.quiet);
-    seen.holds
+    let look = look_at(lines, shape, plan, sets, i, v, t, m);
+    watch[i as usize] = look.watch;
+    watch[LOUD + i as usize] = u16::from(!look.seen.unwrap_or(false));
+    look.seen.is_some()
 }
 
-// What the rows of the implementation come to: whether all hold, and, if so, whether none is known to have a marked step.
-#[derive(Clone, Copy)]
-pub struct Rows {
-    pub holds: bool,
-    pub quiet: bool,
-}
-
-fn rows_pass<'a>(
-    fields: &'a limits::Fields,
-    starts: &'a limits::Starts,
+// All of them: where all hold, whether none is known to have a marked step.
+fn rows_pass(
+    lines: &Lines,
     shape: Shape,
     plan: &[u16; row_plan::LENGTH],
     sets: &[u16; SETS],
@@ -231,32 +185,21 @@ fn rows_pass<'a>(
     t: &limits::Values,
     m: u16,
     watch: &mut [u16; WATCH],
-) -> Rows
-    requires task { Task fields.now starts.now shape plan.now sets.now v.now }
-    requires t_value { t.now ≡ mapped_in fields.now starts.now shape v.now }
-    requires m_value { m ≡ measure_in fields.now starts.now shape v.now }
-    requires watch_len { length watch.old ≡ 97 }
-    requires rows_carried { RowsCarried fields.now starts.now shape changed watch.old v.now }
-    ensures { When result.holds (RowsTo fields.now starts.now shape watch.old v.now watch.new shape.implementation.rows.count result.quiet) }
+) -> Option<bool>
+    requires task { Task lines.now.fields lines.now.starts shape plan.now sets.now v.now }
+    requires t_value { t.now ≡ mapped_in lines.now.fields lines.now.starts shape v.now }
+    requires m_value { m ≡ measure_in lines.now.fields lines.now.starts shape v.now }
+    requires rows_carried { RowsCarried lines.now.fields lines.now.starts shape changed watch.old v.now }
+    ensures { IfSome result (λ quiet. RowsTo lines.now.fields lines.now.starts shape watch.old v.now watch.new shape.implementation.rows.count quiet) }
 {
     let mut quiet = true;
-    let mut i = 0;
-    while i < shape.implementation.rows.count {
-        if !row_passes(
-            fields, starts, shape, plan, sets, changed, i, v, t, m, watch,
-        ) {
-            return Rows {
-                holds: false,
-                quiet: false,
-            };
+    for i in 0..shape.implementation.rows.count {
+        if !row_passes(lines, shape, plan, sets, changed, i, v, t, m, watch) {
+            return None;
         }
         quiet = quiet & (watch[LOUD + i as usize] == 0);
-        i += 1;
     }
-    Rows {
-        holds: true,
-        quiet: quiet,
-    }
+    Some(quiet)
 }
 
 // ---- the rows of the specification
@@ -265,9 +208,8 @@ fn rows_pass<'a>(
 const UNKNOWN: u16 = 256;
 
 // The reply to row i by what is known of it, or at a focus point by a look, which is noted; elsewhere it is forgotten.
-fn reply_passes<'a>(
-    fields: &'a limits::Fields,
-    starts: &'a limits::Starts,
+fn reply_passes(
+    lines: &Lines,
     shape: Shape,
     plan: &[u16; row_plan::LENGTH],
     sets: &[u16; SETS],
@@ -278,9 +220,8 @@ fn reply_passes<'a>(
     t: &limits::Values,
     watch: &mut [u16; WATCH],
 ) -> bool
-    requires i_bound { i < 32 }
-    requires watch_len { length watch.old ≡ 97 }
-    ensures value { result ≡ reply_passes_in fields.now starts.now shape plan.now changed quiet i v.now t.now watch.old }
+    requires { i < 32 }
+    ensures value { result ≡ reply_passes_in lines.now.fields lines.now.starts shape plan.now changed quiet i v.now t.now watch.old }
     ensures watch_after { watch.new ≡ reply_noted_in sets.now changed quiet i watch.old }
 {
     let at = limits::MAX_ROWS + i as usize;
@@ -293,13 +234,12 @@ fn reply_passes<'a>(
         return true;
     }
     watch[at] = sets[limits::MAX_ROWS + at];
-    state_passes::rows_replied_between(fields, starts, shape, plan, i, i + 1, v, t)
+    state_passes::rows_replied_between(lines, shape, plan, i, i + 1, v, t)
 }
 
 // All of them.
-fn replies_pass<'a>(
-    fields: &'a limits::Fields,
-    starts: &'a limits::Starts,
+fn replies_pass(
+    lines: &Lines,
     shape: Shape,
     plan: &[u16; row_plan::LENGTH],
     sets: &[u16; SETS],
@@ -309,20 +249,15 @@ fn replies_pass<'a>(
     t: &limits::Values,
     watch: &mut [u16; WATCH],
 ) -> bool
-    requires task { Task fields.now starts.now shape plan.now sets.now v.now }
-    requires t_value { t.now ≡ mapped_in fields.now starts.now shape v.now }
-    requires watch_len { length watch.old ≡ 97 }
-    requires replies_carried { RepliesCarried fields.now starts.now shape changed watch.old v.now }
-    ensures { When result (RepliesTo fields.now starts.now shape watch.old v.now watch.new shape.specification.rows.count quiet) }
+    requires task { Task lines.now.fields lines.now.starts shape plan.now sets.now v.now }
+    requires t_value { t.now ≡ mapped_in lines.now.fields lines.now.starts shape v.now }
+    requires replies_carried { RepliesCarried lines.now.fields lines.now.starts shape changed watch.old v.now }
+    ensures { When result (RepliesTo lines.now.fields lines.now.starts shape watch.old v.now watch.new shape.specification.rows.count quiet) }
 {
-    let mut i = 0;
-    while i < shape.specification.rows.count {
-        if !reply_passes(
-            fields, starts, shape, plan, sets, changed, quiet, i, v, t, watch,
-        ) {
+    for i in 0..shape.specification.rows.count {
+        if !reply_passes(lines, shape, plan, sets, changed, quiet, i, v, t, watch) {
             return false;
         }
-        i += 1;
     }
     true
 }
@@ -330,9 +265,8 @@ fn replies_pass<'a>(
 // ---- the mapping
 
 // The mapped state by what is known of it, or anew, and whether it is in size.
-fn mapping_passes<'a>(
-    fields: &'a limits::Fields,
-    starts: &'a limits::Starts,
+fn mapping_passes(
+    lines: &Lines,
     shape: Shape,
     plan: &[u16; row_plan::LENGTH],
     sets: &[u16; SETS],
@@ -341,19 +275,18 @@ fn mapping_passes<'a>(
     t: &mut limits::Values,
     watch: &mut [u16; WATCH],
 ) -> bool
-    requires task { Task fields.now starts.now shape plan.now sets.now v.now }
-    requires watch_len { length watch.old ≡ 97 }
-    requires mapped_carried { MappedCarried fields.now starts.now shape changed watch.old t.old v.now }
-    ensures { When result (MappedTo fields.now starts.now shape watch.old v.now watch.new t.new) }
+    requires task { Task lines.now.fields lines.now.starts shape plan.now sets.now v.now }
+    requires mapped_carried { MappedCarried lines.now.fields lines.now.starts shape changed watch.old t.old v.now }
+    ensures { When result (MappedTo lines.now.fields lines.now.starts shape watch.old v.now watch.new t.new) }
 {
     let known = watch[MAPPING];
     if known & changed == 0 {
         return true;
     }
     *t = [0u16; limits::MAX_PARAMETERS];
-    steps::put_mapped(fields, starts, shape, v, t);
+    steps::put_mapped(lines, shape, v, t);
     watch[MAPPING] = sets[SETS - 1];
-    steps::below(fields, starts, shape.specification, t)
+    steps::below(lines, shape.specification, t)
 }
 
 // ---- the state
@@ -373,9 +306,8 @@ fn since(last: &limits::Values, v: &limits::Values) -> u16
 }
 
 // Whether the state v passes, as far as is known from the last one and seen now. Where it does, what is known is that from v on.
-pub fn passes<'a>(
-    fields: &'a limits::Fields,
-    starts: &'a limits::Starts,
+pub fn passes(
+    lines: &Lines,
     shape: Shape,
     plan: &[u16; row_plan::LENGTH],
     sets: &[u16; SETS],
@@ -384,21 +316,17 @@ pub fn passes<'a>(
     t: &mut limits::Values,
     watch: &mut [u16; WATCH],
 ) -> bool
-    requires task { Task fields.now starts.now shape plan.now sets.now v.now }
-    requires watch_len { length watch.old ≡ 97 }
-    requires recalls { Recalls fields.now starts.now shape watch.old t.old last.now }
-    ensures { When result (Passed fields.now starts.now shape v.now watch.new t.new) }
+    requires task { Task lines.now.fields lines.now.starts shape plan.now sets.now v.now }
+    requires recalls { Recalls lines.now.fields lines.now.starts shape watch.old t.old last.now }
+    ensures { When result (Passed lines.now.fields lines.now.starts shape v.now watch.new t.new) }
 {
     let changed = since(last, v);
-    if !mapping_passes(fields, starts, shape, plan, sets, changed, v, t, watch) {
+    if !mapping_passes(lines, shape, plan, sets, changed, v, t, watch) {
         return false;
     }
-    let m = steps::measure(fields, starts, shape, v);
-    let seen = rows_pass(fields, starts, shape, plan, sets, changed, v, t, m, watch);
-    if !seen.holds {
+    let m = steps::measure(lines, shape, v);
+    let Some(quiet) = rows_pass(lines, shape, plan, sets, changed, v, t, m, watch) else {
         return false;
-    }
-    replies_pass(
-        fields, starts, shape, plan, sets, changed, seen.quiet, v, t, watch,
-    )
+    };
+    replies_pass(lines, shape, plan, sets, changed, quiet, v, t, watch)
 }

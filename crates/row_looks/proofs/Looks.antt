@@ -34,7 +34,7 @@ use Rattle.row_plan.specs.declared.RowPlan.{RowPlan}
 use Rattle.plan.specs.Plan.{plan_in, row_plan_of, impl_plan}
 use Rattle.plan.proofs.Planned.{impl_row_plan}
 use Rattle.plan.proofs.Held.{row_as_is, row_by_lem, row_is, row_line_lem, marks_at}
-use Rattle.row_looks.specs.Looks.{left, next_from, looks_needed, row_of, IsAt, FirstOn}
+use Rattle.row_looks.specs.Looks.{left, next_from, looks_needed, row_of, IsAt, FoundOn, NoneOn}
 use Rattle.row_looks.specs.declared.Row.{Row}
 
 -- ---- how many looks
@@ -196,23 +196,18 @@ module _ (f : List ℕ) (row : Row) (v : List ℕ) (from : ℕ) where
       go e a (yes l) b = o.none_before e a l
       go e a (no l) b = let q : e ≡ sum = omega arith in rw q (ap (λ (x : Held). x.holds) (sym eo) ∙ z)
 
-  pub found_on : (sum : ℕ) (on : Held) → on ≡ answer_f row.at v sum (left f row) → on.holds ≡ true → Off sum → FirstOn f row v from (record { sum = sum; at = on.next })
-  found_on sum on eo z o =
+  pub found_on : (sum : ℕ) (on : Held) → sum < row.looks → on ≡ answer_f row.at v sum (left f row) → on.holds ≡ true → Off sum → FoundOn f row v from (record { sum = sum; at = on.next })
+  found_on sum on l eo z o =
       record {
         after = o.after;
+        below = l;
         none_before = o.none_before;
-        holds = λ _. ap (λ (q : Held). q.holds) (sym eo) ∙ z;
-        at = λ _. ap (λ (q : Held). q.next) eo;
+        holds = ap (λ (q : Held). q.holds) (sym eo) ∙ z;
+        at = ap (λ (q : Held). q.next) eo;
       }
 
-  pub found_none : (sum : ℕ) → row.looks ≤ sum → Off sum → FirstOn f row v from (record { sum = sum; at = 0 })
-  found_none sum past o =
-      record {
-        after = o.after;
-        none_before = o.none_before;
-        holds = λ l. absurd (omega arith);
-        at = λ l. absurd (omega arith);
-      }
+  pub found_none : (sum : ℕ) → row.looks ≤ sum → Off sum → NoneOn f row v from
+  found_none sum past o = record { none = λ e a b. o.none_before e a (omega arith) }
 
 -- ---- where it leads
 

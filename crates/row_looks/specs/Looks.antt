@@ -1,6 +1,6 @@
 -- A row at a state, and what is so of it: f the fields, s the starts of lines, h the shape, v an array that holds the state; the row stands
 -- after i others, so its number is i + 1.
-use Rattle.std.specs.Prelude.{◌≡◌, true, false, not, ◌&&◌, ◌||◌, cond, List, ℕ, ◌+◌, ◌≤◌, ◌<◌, ltb, drop}
+use Rattle.std.specs.Prelude.{◌≡◌, true, false, not, ◌&&◌, ◌||◌, cond, List, ℕ, ◌+◌, ◌≤◌, ◌<◌, ltb, drop, Option, MatchOption}
 use Rattle.terms.specs.Tree.{Formula, eval_f}
 use Rattle.terms.specs.Read.{Read, read_v, read_f}
 use Rattle.criteria.specs.Design as design
@@ -46,9 +46,18 @@ pub record IsAt (f s : List ℕ) (h : Shape) (i : ℕ) (v : List ℕ) (row : Row
   -- and an internal row's mark is where it is said to be
   pub marked : (e : ℕ) → internal_b (row_of f s h i) ≡ true → mark_holds f row.mark v e ≡ marked_b (design_at f s h) (i + 1) v e
 
--- what is left of the row's condition holds for r's sum value, if that needs a look, and for none from `from` up to it
-pub record FirstOn (f : List ℕ) (row : Row) (v : List ℕ) (from : ℕ) (r : Look) : Type 0 where
+-- what is left of the row's condition holds for r's sum value, which needs a look, and for none from `from` up to it
+pub record FoundOn (f : List ℕ) (row : Row) (v : List ℕ) (from : ℕ) (r : Look) : Type 0 where
   pub after : from ≤ r.sum
+  pub below : r.sum < row.looks
   pub none_before : (e : ℕ) → from ≤ e → e < r.sum → eval_f (left f row).tree v e ≡ false
-  pub holds : r.sum < row.looks → eval_f (left f row).tree v r.sum ≡ true
-  pub at : r.sum < row.looks → r.at ≡ row.at + (left f row).used
+  pub holds : eval_f (left f row).tree v r.sum ≡ true
+  pub at : r.at ≡ row.at + (left f row).used
+
+-- it holds for no sum value from `from` on that needs a look
+pub record NoneOn (f : List ℕ) (row : Row) (v : List ℕ) (from : ℕ) : Type 0 where
+  pub none : (e : ℕ) → from ≤ e → e < row.looks → eval_f (left f row).tree v e ≡ false
+
+-- the first such sum value, if there is one
+abbrev pub FirstOn : List ℕ → Row → List ℕ → ℕ → Option Look → Type 0
+FirstOn f row v from r = MatchOption r (NoneOn f row v from) (λ x. FoundOn f row v from x)

@@ -10,6 +10,7 @@ ghost use Rattle.row_looks.specs.Looks.{looks_needed, IsAt, FirstOn, next_from};
 
 use conjuncts::Guarded;
 use design::Shape;
+use layout::Lines;
 use row_plan::RowPlan;
 
 // A row at a state.
@@ -25,7 +26,7 @@ pub struct Row {
     pub mark: usize,
 }
 
-// The first sum value from one on for which a row is enabled, and where its data stand; from `looks` on there is none.
+// A sum value for which a row is enabled, and where its data stand.
 #[derive(Clone, Copy)]
 pub struct Look {
     pub sum: u16,
@@ -33,9 +34,8 @@ pub struct Look {
 }
 
 // The row after i others.
-pub fn row_at<'a>(
-    fields: &'a limits::Fields,
-    starts: &'a limits::Starts,
+pub fn row_at(
+    lines: &Lines,
     shape: Shape,
     plan: &[u16; row_plan::LENGTH],
     i: u8,
@@ -43,18 +43,18 @@ pub fn row_at<'a>(
 ) -> Row
     requires fits { Fits shape }
     requires i_lt_count { i < shape.implementation.rows.count }
-    requires plan_value { plan.now ≡ plan_in fields.now starts.now shape }
-    ensures { IsAt fields.now starts.now shape i v.now result }
+    requires plan_value { plan.now ≡ plan_in lines.now.fields lines.now.starts shape }
+    ensures { IsAt lines.now.fields lines.now.starts shape i v.now result }
 {
     let planned = row_plan::planned(plan, i as usize);
-    let line = steps::line_of(starts, shape.implementation, i as u16 + 1);
-    let front = conjuncts::guard(fields, line as usize + 3, v, 0, planned.front);
+    let line = steps::line_of(lines, shape.implementation, i as u16 + 1);
+    let front = conjuncts::guard(&lines.fields, line as usize + 3, v, 0, planned.front);
     Row {
         internal: planned.internal,
         at: front.at,
         depth: front.depth,
-        looks: looks_for(fields, front, planned, v),
-        mark: marks::place_from(starts, shape, planned.mark.at),
+        looks: looks_for(&lines.fields, front, planned, v),
+        mark: marks::place_from(lines, shape, planned.mark.at),
     }
 }
 
@@ -72,19 +72,22 @@ fn looks_for(fields: &limits::Fields, front: Guarded, planned: RowPlan, v: &limi
     if on.holds { planned.looks } else { 0 }
 }
 
-// The first sum value from `from` on for which a row is enabled.
-pub fn enabled_from(fields: &limits::Fields, row: Row, v: &limits::Values, from: u16) -> Look
+// The first sum value from `from` on that needs a look and for which a row is enabled.
+pub fn enabled_from(
+    fields: &limits::Fields,
+    row: Row,
+    v: &limits::Values,
+    from: u16,
+) -> Option<Look>
     ensures { FirstOn fields.now row v.now from result }
 {
-    let mut sum = from;
-    while sum < row.looks {
+    for sum in from..row.looks {
         let on = eval::formula(fields, row.at, v, sum, row.depth);
         if on.holds {
-            return Look { sum, at: on.next };
+            return Some(Look { sum, at: on.next });
         }
-        sum += 1;
     }
-    Look { sum, at: 0 }
+    None
 }
 
 // Where a row of the implementation leads whose data stand at a place.

@@ -10,41 +10,25 @@ use native.Mathlib.Omega.{arith}
 use lib.Dec.{eqb, leb}
 use lib.ListN.{length, get_or, set, replicate, length-append, length-set, length-replicate, get_or-replicate, drop_of_length-le, get_or-eq_default}
 use lib.Seq.{sets, sets-eq, set_comm, get_or-set_other, get_or-append-add}
-use mir.Syntax.{w16}
-use mir.Val.{Fits}
+use Rattle.std.specs.Int.{from_bool}
 use Rattle.row_plan.specs.RowPlan.{no_row_plan, two_flags, flags_of, pack_of, packed_of, numbers_from, row_plan_at, risks_from, risk_at, unsure_at, stored, Blank}
 use Rattle.row_plan.specs.declared.RowPlan.{RowPlan}
 
 -- ---- flags
 
-module _ (a b : Bool) (r : ℕ) where
-  pub two_first : a ≡ true → r ≡ cond b 3 1 → r ≡ two_flags a b
-  unfolding two_flags
-  two_first h er = er ∙ rw h
-
-  pub two_second : a ≡ false → r ≡ cond b 2 0 → r ≡ two_flags a b
-  unfolding two_flags
-  two_second h er = er ∙ rw h
-
-  -- they are small
-  pub two_small : r ≡ two_flags a b → Fits w16 (4 + r)
-  unfolding two_flags
-  two_small er = go a b er
-    where
-      go : (x y : Bool) → r ≡ cond x (cond y 3 1) (cond y 2 0) → Fits w16 (4 + r)
-      go true true e = record { fits = omega arith }
-      go true false e = record { fits = omega arith }
-      go false true e = record { fits = omega arith }
-      go false false e = record { fits = omega arith }
-
-  module _ (c : Bool) (er : r ≡ two_flags a b) where
-    pub flags_third : c ≡ true → 4 + r ≡ flags_of a b c
-    unfolding flags_of
-    flags_third h = rw (er, h)
-
-    pub flags_two : c ≡ false → r ≡ flags_of a b c
-    unfolding flags_of
-    flags_two h = er ∙ rw h
+pub flags_are : (a b c : Bool) (x y z : ℕ) → x ≡ from_bool a → y ≡ from_bool b → z ≡ from_bool c → x + 2 * y + 4 * z ≡ flags_of a b c
+unfolding flags_of two_flags
+flags_are a b c x y z ex ey ez = rw (ex, ey, ez) (go a b c)
+  where
+    go : (a b c : Bool) → from_bool a + 2 * from_bool b + 4 * from_bool c ≡ cond c (4 + cond a (cond b 3 1) (cond b 2 0)) (cond a (cond b 3 1) (cond b 2 0))
+    go true true true = refl
+    go true true false = refl
+    go true false true = refl
+    go true false false = refl
+    go false true true = refl
+    go false true false = refl
+    go false false true = refl
+    go false false false = refl
 
 pub flags_small : (a b c : Bool) (r : ℕ) → r ≡ flags_of a b c → r < 8
 unfolding flags_of two_flags

@@ -2,10 +2,10 @@
 // row without a value, each told by a number as in the crate divisors.
 #![tactic(auto)]
 
-ghost use Rattle.std.specs.Prelude.{◌≡◌, cond, ◌+◌, ◌*◌, ◌/◌, ◌%◌, ◌<◌};
-ghost use Rattle.row_plan.specs.RowPlan.{flags_of, two_flags, pack_of, packed_of, row_plan_at, risk_at, unsure_at};
+ghost use Rattle.std.specs.Prelude.{◌≡◌, ◌+◌, ◌*◌, ◌/◌, ◌%◌, ◌<◌};
+ghost use Rattle.row_plan.specs.RowPlan.{flags_of, pack_of, packed_of, row_plan_at, risk_at, unsure_at};
 
-// What a plan has of a row.
+// What a plan has of a row. It is kept in the plan's numbers, which C lends: so 0 says that there is no partner, and no mark.
 #[derive(Clone, Copy)]
 pub struct RowPlan {
     // the number of its partner, 0 if there is none
@@ -54,26 +54,7 @@ const UPPER: u32 = 65536;
 fn flags(first: bool, second: bool, third: bool) -> u16
     ensures { result ≡ flags_of first second third }
 {
-    if third {
-        return 4 + two_flags(first, second);
-    }
-    two_flags(first, second)
-}
-
-fn two_flags(first: bool, second: bool) -> u16
-    ensures { result ≡ two_flags first second }
-{
-    if first {
-        return one_of(second, 3, 1);
-    }
-    one_of(second, 2, 0)
-}
-
-// The first number if so, else the other.
-fn one_of(so: bool, first: u16, other: u16) -> u16
-    ensures { result ≡ cond so first other }
-{
-    if so { first } else { other }
+    u16::from(first) + 2 * u16::from(second) + 4 * u16::from(third)
 }
 
 // A partner and flags as one number.

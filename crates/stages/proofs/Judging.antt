@@ -9,7 +9,9 @@ use Rattle.criteria.specs.Verdict.{accepted, failed}
 use Rattle.criteria.specs.Verdict as criteria
 use Rattle.decision.specs.Verdict.{verdict_of}
 use Rattle.design.specs.Lines.{design_text}
+use Rattle.verdicts.proofs.Refusals.{its_number}
 use Rattle.loader.specs.Load.{fault_of, held_by, loaded_of}
+use Rattle.loader.proofs.Lowest.{fault_at_most}
 use Rattle.answers.specs.declared.Phase.{Phase}
 use Rattle.answers.specs.declared.Phase.TheVariants as phase
 use Rattle.answers.specs.declared.Done.TheVariants as done
@@ -27,12 +29,12 @@ pub opened_stage : (text : List ℕ) → fault_of text ≡ 0 → Stage text (ope
 opened_stage text ok = fresh (record { free = ok; held = record { fields_are = refl; starts_are = refl; counts_are = refl }; plan_is = refl }) refl refl
 
 pub loaded_free : (d : Desk) (text : List ℕ) → fault_of text ≡ 0 → load_empty d (loaded_of text) ≡ record { answer = done.Done; desk = opened (held_by (fields_by_line text)) }
-unfolding load_empty loaded_of
+unfolding loaded_of
 loaded_free d text ok = rw ok
 
 pub loaded_fault : (d : Desk) (text : List ℕ) → fault_of text ≢ 0 → load_empty d (loaded_of text) ≡ not_loaded (fault_of text) d
-unfolding load_empty loaded_of
-loaded_fault d text z = rw (ne_eqb (fault_of text) 0 z) (rw (ne_eqb (fault_of text) 0 z))
+unfolding loaded_of
+loaded_fault d text z = rw (ne_eqb (fault_of text) 0 z) (ap (λ k. not_loaded k d) (its_number (fault_of text) z (fault_at_most text z)))
 
 -- ---- the verdict of a decided desk
 

@@ -21,7 +21,7 @@ use Rattle.checker.proofs.Opened.{start_held, accepted_held, total_held, initial
 pub record Ready (text : List ℕ) (desk : Desk) : Type 0 where
   pub free : fault_of text ≡ 0
   pub held : HoldsText text desk
-  pub plan_is : desk.plan ≡ plan_of desk.fields desk.starts desk.counts
+  pub plan_is : desk.plan ≡ plan_of desk.lines.fields desk.lines.starts desk.counts
 
 module _ (text : List ℕ) (desk : Desk) (r : Ready text desk) where
   abbrev d : Design
@@ -30,18 +30,18 @@ module _ (text : List ℕ) (desk : Desk) (r : Ready text desk) where
   h : HoldsText text desk
   h = r.held
 
-  pub start_is : start_in desk.fields desk.starts desk.counts ≡ holds1 d
+  pub start_is : start_in desk.lines.fields desk.lines.starts desk.counts ≡ holds1 d
   start_is = rw (h.fields_are, h.starts_are, h.counts_are) (start_held text r.free)
 
-  pub acceptance_is : acceptance_in desk.fields desk.starts desk.counts ≡ acceptance_of d
+  pub acceptance_is : acceptance_in desk.lines.fields desk.lines.starts desk.counts ≡ acceptance_of d
   acceptance_is = rw (h.fields_are, h.starts_are, h.counts_are) (accepted_held text r.free)
 
-  pub total_is : state_count_in desk.fields desk.starts desk.counts ≡ states d
+  pub total_is : state_count_in desk.lines.fields desk.lines.starts desk.counts ≡ states d
   total_is = rw (h.fields_are, h.starts_are, h.counts_are) (total_held text r.free)
 
-  pub initial_is : initial_number_in desk.fields desk.starts desk.counts ≡ state_number d (initial_state d.impl)
+  pub initial_is : initial_number_in desk.lines.fields desk.lines.starts desk.counts ≡ state_number d (initial_state d.impl)
   initial_is = rw (h.fields_are, h.starts_are, h.counts_are) (initial_held text r.free)
 
   pub walk_is : (n from : ℕ) → from + n ≤ states (design_text text)
-      → walked_under desk.fields desk.starts desk.counts desk.plan n from ≡ said_walked (walk (examine (design_text text)) n from)
+      → walked_under desk.lines.fields desk.lines.starts desk.counts desk.plan n from ≡ said_walked (walk (examine (design_text text)) n from)
   walk_is n from l = rw (r.plan_is, h.fields_are, h.starts_are, h.counts_are) (walk_held text r.free n from l)

@@ -160,7 +160,7 @@ module _ (text : List ℕ) (desk : Desk) (h : Ready text desk) where
   start_stage : (n : ℕ) → m ≡ 0 → holds1 d ≡ false → AdvanceDue text desk n (fail_start desk)
   unfolding fail_start
   start_stage n z e =
-      let f : Phase = phase.Failed (record { criterion = 1; state = initial_number_in desk.fields desk.starts desk.counts; row = 0; sum = 0 }) in
+      let f : Phase = phase.Failed (record { criterion = 1; state = initial_number_in desk.lines.fields desk.lines.starts desk.counts; row = 0; sum = 0 }) in
       record {
         stage = fails (start_failure d) (moved 0 f h) (rw (initial_is text desk h)) (ends_at_start d e);
         accepted_is = λ how k q. absurd (failed_answer q);

@@ -8,45 +8,38 @@ ghost use Rattle.design.specs.Loaded.{design_at};
 ghost use Rattle.start.specs.Start.{start_in, start_failure_in, start_meets, no_internal_row, acceptance_in};
 
 use design::{Counts, Shape};
+use layout::Lines;
 use verdicts::{Acceptance, Failure};
 
 // Whether criterion 1 holds; not where the counts do not fit.
-pub fn holds<'a>(fields: &'a limits::Fields, starts: &'a limits::Starts, counts: Counts) -> bool
-    ensures { result ≡ start_in fields.now starts.now counts }
+pub fn holds(lines: &Lines, counts: Counts) -> bool
+    ensures { result ≡ start_in lines.now.fields lines.now.starts counts }
 {
     if !layout::counts_fit(counts) {
         return false;
     }
-    meets(fields, starts, layout::shape_of(counts))
+    meets(lines, layout::shape_of(counts))
 }
 
 // The failure of criterion 1.
-pub fn failure<'a>(
-    fields: &'a limits::Fields,
-    starts: &'a limits::Starts,
-    counts: Counts,
-) -> Failure
-    ensures { result ≡ start_failure_in fields.now starts.now counts }
+pub fn failure(lines: &Lines, counts: Counts) -> Failure
+    ensures { result ≡ start_failure_in lines.now.fields lines.now.starts counts }
 {
     Failure {
         criterion: 1,
-        state: layout::initial_number(fields, starts, counts),
+        state: lines.initial_number(counts),
         row: 0,
         sum: 0,
     }
 }
 
 // How the design is accepted, if it is: by whether an internal row is enabled in the initial state.
-pub fn acceptance<'a>(
-    fields: &'a limits::Fields,
-    starts: &'a limits::Starts,
-    counts: Counts,
-) -> Acceptance
-    ensures { result ≡ acceptance_in fields.now starts.now counts }
+pub fn acceptance(lines: &Lines, counts: Counts) -> Acceptance
+    ensures { result ≡ acceptance_in lines.now.fields lines.now.starts counts }
 {
     let shape = layout::shape_of(counts);
-    let initial = steps::initial_state(fields, starts, shape.implementation);
-    if no_internal(fields, starts, shape, &initial) {
+    let initial = steps::initial_state(lines, shape.implementation);
+    if no_internal(lines, shape, &initial) {
         Acceptance::AsIs
     } else {
         Acceptance::AfterInternal
@@ -54,58 +47,42 @@ pub fn acceptance<'a>(
 }
 
 // The initial state meets it.
-fn meets<'a>(fields: &'a limits::Fields, starts: &'a limits::Starts, shape: Shape) -> bool
-    ensures { result ≡ start_meets fields.now starts.now shape }
+fn meets(lines: &Lines, shape: Shape) -> bool
+    ensures { result ≡ start_meets lines.now.fields lines.now.starts shape }
 {
-    let v = steps::initial_state(fields, starts, shape.implementation);
-    let t = steps::mapped(fields, starts, shape, &v);
-    let u = steps::initial_state(fields, starts, shape.specification);
+    let v = steps::initial_state(lines, shape.implementation);
+    let t = steps::mapped(lines, shape, &v);
+    let u = steps::initial_state(lines, shape.specification);
     let n = shape.specification.parameters.count;
-    let holds = steps::invariant(fields, starts, shape, &v)
-        & defined::invariant(fields, starts, shape, &v);
-    holds & (steps::same(n, &t, &u) & defined::mapping(fields, starts, shape, &v))
+    let holds = steps::invariant(lines, shape, &v) & defined::invariant(lines, shape, &v);
+    holds & (steps::same(n, &t, &u) & defined::mapping(lines, shape, &v))
 }
 
 // No internal row is enabled in the state, marked or not.
-fn no_internal<'a>(
-    fields: &'a limits::Fields,
-    starts: &'a limits::Starts,
-    shape: Shape,
-    v: &limits::Values,
-) -> bool
-    ensures { result ≡ no_internal_b (design_at fields.now starts.now shape) v.now }
+fn no_internal(lines: &Lines, shape: Shape, v: &limits::Values) -> bool
+    ensures { result ≡ no_internal_b (design_at lines.now.fields lines.now.starts shape) v.now }
 {
-    let mut i = 0;
-    while i < shape.implementation.rows.count {
-        if !no_internal_row(fields, starts, shape, i as u16 + 1, v) {
+    for i in 0..shape.implementation.rows.count {
+        if !no_internal_row(lines, shape, i as u16 + 1, v) {
             return false;
         }
-        i += 1;
     }
     true
 }
 
 // Row k is visible, or enabled for no sum value.
-fn no_internal_row<'a>(
-    fields: &'a limits::Fields,
-    starts: &'a limits::Starts,
-    shape: Shape,
-    k: u16,
-    v: &limits::Values,
-) -> bool
-    ensures { result ≡ no_internal_row (design_at fields.now starts.now shape) v.now k }
+fn no_internal_row(lines: &Lines, shape: Shape, k: u16, v: &limits::Values) -> bool
+    ensures { result ≡ no_internal_row (design_at lines.now.fields lines.now.starts shape) v.now k }
 {
-    let span = steps::row_span(fields, starts, shape.implementation, k);
-    let mut sum = 0;
-    while sum < span {
-        let step = steps::row_step(fields, starts, shape.implementation, k, v, sum);
+    let span = steps::row_span(lines, shape.implementation, k);
+    for sum in 0..span {
+        let step = steps::row_step(lines, shape.implementation, k, v, sum);
         if step.action != 0 {
             return true;
         }
         if step.enabled {
             return false;
         }
-        sum += 1;
     }
     true
 }

@@ -4,6 +4,7 @@ use mathlib.Core.Path.{◌≡◌, refl, sym, ◌∙◌, ap}
 use mathlib.Core.Logic.{◌⊎◌, inl, inr}
 use mathlib.Core.Bool.{Bool, true, false, not, ◌&&◌, ◌||◌, true≢false, or-true, and-true, cond}
 use mathlib.Core.List.{List}
+use Rattle.std.specs.Prelude.{Option, is_some}
 use Prim.Native.Nat.{ℕ, zero, suc, ◌+◌, ◌-◌, ◌≤◌, ◌<◌, min}
 use native.Mathlib.Omega.{arith}
 use borrow.Author.Tests.{eqb-true}
@@ -53,8 +54,8 @@ use Rattle.row_plan.specs.declared.Mark.{Mark}
 use Rattle.plan.proofs.Planned.{impl_row_plan, spec_row_plan}
 use Rattle.plan.proofs.Held.{AsForZero, as_for_zero, condition_free, taken_held, row_as_is, row_line_lem, row_by_lem, numbered, planned, marks_are}
 use Rattle.step_passes.specs.Steps.{has_values_in, kept_in, answered_in, internal_step, visible_step}
-use Rattle.state_passes.specs.Passes.{row_for, step_inside, step_of_row, seen, looks_in, row_in, impl_in, impl_between, reply_looks, reply_in, spec_in, spec_between, passes_in}
-use Rattle.state_passes.specs.declared.Seen.{Seen}
+use Rattle.state_passes.specs.Passes.{row_for, step_inside, step_of_row, seen, quiet, looks_in, row_in, impl_in, impl_between, reply_looks, reply_in, spec_in, spec_between, passes_in}
+use Rattle.state_passes.proofs.Seeing.{seen_holds, seen_quiet}
 
 -- a row's condition for the sum value e, taken for 0 where it is said to be sum-free
 abbrev on_in : Row → List ℕ → Bool → ℕ → Bool
@@ -77,16 +78,8 @@ unfolding looks_of
 all_looks g true n h = all_once g n (h refl)
 all_looks g false n h = refl
 
-pub seen_holds : (a b : Bool) → (seen a b).holds ≡ a
-seen_holds true b = refl
-seen_holds false b = refl
-
-pub seen_quiet : (a b : Bool) → (seen a b).quiet ≡ a && b
-seen_quiet true b = refl
-seen_quiet false b = refl
-
 -- where all rows hold, what is said of the others counts
-arranged : (a b r : Bool) → (seen a (a && b)).holds && ((seen a (a && b)).quiet ⇒ r) ≡ a && (b ⇒ r)
+arranged : (a b r : Bool) → is_some (seen a (a && b)) && (quiet (seen a (a && b)) ⇒ r) ≡ a && (b ⇒ r)
 arranged true b r = refl
 arranged false b r = refl
 
@@ -467,7 +460,7 @@ module _ (f s : List ℕ) (h : Shape) (fits : Fits h) (v : State) where
   abbrev quiet_at : ℕ → Row → Bool
   quiet_at k z = all_in_range (λ e. not (marked_test d v k z e)) z.span 0
 
-  abbrev seen_at : ℕ → Seen
+  abbrev seen_at : ℕ → Option Bool
   seen_at i = row_in f s h (i + 1) (row_plan_at p i) (risk_at p 64) v t (measure_in f s h v)
 
   pub row_seen : (i : ℕ) → i < rows → seen_at i ≡ seen (holds_at (i + 1) (impl_row i)) (quiet_at (i + 1) (impl_row i))
@@ -494,8 +487,8 @@ module _ (f s : List ℕ) (h : Shape) (fits : Fits h) (v : State) where
       let qu : ℕ → Bool = λ i. quiet_at (i + 1) (impl_row i) in
       rw (
         all,
-        all_in (λ i. (seen_at i).holds) ho rows 0 (λ i z u. ap (λ (g : Seen). g.holds) (row_seen i (omega arith)) ∙ seen_holds (ho i) (qu i)),
-        all_in (λ i. (seen_at i).quiet) (λ i. ho i && qu i) rows 0 (λ i z u. ap (λ (g : Seen). g.quiet) (row_seen i (omega arith)) ∙ seen_quiet (ho i) (qu i)),
+        all_in (λ i. is_some (seen_at i)) ho rows 0 (λ i z u. ap is_some (row_seen i (omega arith)) ∙ seen_holds (ho i) (qu i)),
+        all_in (λ i. quiet (seen_at i)) (λ i. ho i && qu i) rows 0 (λ i z u. ap quiet (row_seen i (omega arith)) ∙ seen_quiet (ho i) (qu i)),
         all_both ho qu rows 0,
       )
 

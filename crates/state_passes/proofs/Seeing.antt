@@ -2,6 +2,7 @@
 use mathlib.Core.Path.{◌≡◌, refl, sym, ◌∙◌, ap}
 use mathlib.Core.Bool.{Bool, true, false, not, ◌&&◌, ◌||◌, or-true, and-true, and_assoc, cond}
 use mathlib.Core.List.{List}
+use Rattle.std.specs.Prelude.{Option, Some, None, is_some}
 use Prim.Native.Nat.{ℕ, zero, suc, ◌+◌, ◌-◌, ◌≤◌, ◌<◌}
 use native.Mathlib.Numerals.{add-one}
 use native.Mathlib.Omega.{arith}
@@ -10,7 +11,7 @@ use lib.Dec.{eqb, eqb-suc-zero}
 use lib.ListN.{drop}
 use Rattle.foundation.specs.First.{all_in_range}
 use Rattle.foundation.specs.Reflects.{◌⇒◌}
-use Rattle.foundation.proofs.First.{all_alike}
+use Rattle.foundation.proofs.First.{all_alike, all_both}
 use Rattle.foundation.proofs.All.{all_begin, all_turn, all_fail, all_end, all_yes}
 use Rattle.terms.specs.Tree.{eval_f}
 use Rattle.terms.specs.Read.{read_f}
@@ -29,8 +30,7 @@ use Rattle.marks.specs.Marks.{place_from, mark_holds}
 use Rattle.row_plan.specs.RowPlan.{row_plan_at, risk_at}
 use Rattle.row_plan.specs.declared.RowPlan.{RowPlan}
 use Rattle.step_passes.specs.Steps.{internal_step, visible_step}
-use Rattle.state_passes.specs.Passes.{row_for, left, on_at, known_in, mark_at, known_mark, step_inside, seen, visible_look, visible_looks, internal_look, internal_looks, looks_in, row_in, impl_in, impl_between, replied_in, reply_looks, reply_in, spec_in, spec_between, passes_in}
-use Rattle.state_passes.specs.declared.Seen.{Seen}
+use Rattle.state_passes.specs.Passes.{row_for, left, on_at, known_in, mark_at, known_mark, step_inside, seen, quiet, visible_look, visible_looks, internal_look, internal_looks, looks_in, row_in, impl_in, impl_between, replied_in, reply_looks, reply_in, spec_in, spec_between, passes_in}
 use Rattle.state_passes.specs.declared.Row.{Row}
 use Rattle.state_passes.specs.declared.First.{First}
 
@@ -84,31 +84,46 @@ unfolding all_in_range
 all_step g n i l = let e : n - i ≡ suc (n - (i + 1)) = omega arith in rw (e, add-one i)
 
 -- n sights g, of which each says whether it holds, and if all do, whether all are quiet
-module _ (g : ℕ → Seen) (n : ℕ) (all : Seen) where
+module _ (g : ℕ → Option Bool) (n : ℕ) (all : Option Bool) where
   abbrev h : ℕ → Bool
-  h i = (g i).holds
+  h i = is_some (g i)
 
   abbrev q : ℕ → Bool
-  q i = (g i).quiet
+  q i = quiet (g i)
 
-  abbrev seen_left : Bool → ℕ → Seen
+  abbrev seen_left : Bool → ℕ → Option Bool
   seen_left a i = seen (all_in_range h (n - i) i) (a && all_in_range q (n - i) i)
 
   seen_begin : seen_left true 0 ≡ seen (all_in_range h n 0) (all_in_range q n 0)
   seen_begin = let e : n - 0 ≡ n = omega arith in rw e
 
-  module _ (a : Bool) (i : ℕ) (r : Seen) (l : i < n) (is : r ≡ g i) (inv : seen_left a i ≡ all) where
-    seen_turn : not r.holds ≡ false → seen_left (a && r.quiet) (i + 1) ≡ all
-    seen_turn ok =
-        let holds : h i ≡ true = sym (ap (λ x. x.holds) is) ∙ not-false r.holds ok in
-        ap (λ x. seen_left (a && x.quiet) (i + 1)) is
+  module _ (a : Bool) (i : ℕ) (r : Option Bool) (l : i < n) (is : r ≡ g i) (inv : seen_left a i ≡ all) where
+    seen_turn : (b : Bool) → r ≡ Some b → seen_left (a && b) (i + 1) ≡ all
+    seen_turn b e =
+        let here : g i ≡ Some b = sym is ∙ e in
+        let holds : h i ≡ true = ap is_some here in
+        let q-here : q i ≡ b = ap quiet here in
+        ap (λ x. seen_left (a && x) (i + 1)) (sym q-here)
         ∙ sym (rw (all_turn h n i l holds, all_step q n i l) (ap (λ b. seen (all_in_range h (n - (i + 1)) (i + 1)) b) (sym (and_assoc a (q i) (all_in_range q (n - (i + 1)) (i + 1)))))) ∙ inv
 
-    seen_fail : not r.holds ≡ true → record { holds = false; quiet = false } ≡ all
-    seen_fail ok = rw (all_fail h n i l (sym (ap (λ x. x.holds) is) ∙ not-true r.holds ok)) at inv
+    seen_fail : r ≡ None → None ≡ all
+    seen_fail e = rw (all_fail h n i l (ap is_some (sym is ∙ e))) at inv
 
-  seen_end : (a : Bool) (i : ℕ) → n ≤ i → seen_left a i ≡ all → record { holds = true; quiet = a } ≡ all
+  seen_end : (a : Bool) (i : ℕ) → n ≤ i → seen_left a i ≡ all → Some a ≡ all
   seen_end a i l inv = rw (all_end h n i l, all_end q n i l, and-true a) at inv
+
+-- of sights that all hold, whether they are quiet counts
+pub seen_holds : (a b : Bool) → is_some (seen a b) ≡ a
+seen_holds true b = refl
+seen_holds false b = refl
+
+pub seen_quiet : (a b : Bool) → quiet (seen a b) ≡ a && b
+seen_quiet true b = refl
+seen_quiet false b = refl
+
+seen_both : (a b : Bool) → seen a (a && b) ≡ seen a b
+seen_both true b = refl
+seen_both false b = refl
 
 -- ---- the looks at a visible row
 
@@ -149,35 +164,35 @@ module _ (f s v t : List ℕ) (h : Shape) (row : Row) (first : Held) where
 
 module _ (f s v t : List ℕ) (h : Shape) (row : Row) (first : First) (m : ℕ) where
   module _ (o : Held) (e : ℕ) (eo : o ≡ known_in f row v first.on e) where
-    pub internal_off : not o.holds ≡ true → record { holds = true; quiet = true } ≡ internal_look f s h row first v t m e
+    pub internal_off : not o.holds ≡ true → Some true ≡ internal_look f s h row first v t m e
     unfolding internal_look
     internal_off y = rw (← eo, not-true o.holds y)
 
-    pub internal_on : (k b : Bool) → not o.holds ≡ false → k ≡ known_mark f row v first.marked e → b ≡ internal_step f s h row.risk o.next k v t m e
-        → record { holds = b; quiet = not k } ≡ internal_look f s h row first v t m e
+    pub internal_on : (k b : Bool) (x : Option Bool) → not o.holds ≡ false → k ≡ known_mark f row v first.marked e → b ≡ internal_step f s h row.risk o.next k v t m e
+        → x ≡ seen b (not k) → x ≡ internal_look f s h row first v t m e
     unfolding internal_look
-    internal_on k b y ek eb = rw (← eo, ← ek, not-false o.holds y, eb)
+    internal_on k b x y ek eb ex = ex ∙ rw (← eo, ← ek, not-false o.holds y, eb)
 
-  abbrev look : ℕ → Seen
+  abbrev look : ℕ → Option Bool
   look e = internal_look f s h row first v t m e
 
-  unfoldable pub internal_left : Bool → ℕ → Seen
+  unfoldable pub internal_left : Bool → ℕ → Option Bool
   internal_left a e = seen_left look row.looks (internal_looks f s h row first v t m) a e
 
   pub internal_begin : internal_left true 0 ≡ internal_looks f s h row first v t m
   unfolding internal_left internal_looks
   internal_begin = seen_begin look row.looks (internal_looks f s h row first v t m)
 
-  module _ (a : Bool) (e : ℕ) (r : Seen) (l : e < row.looks) (er : r ≡ internal_look f s h row first v t m e) (inv : internal_left a e ≡ internal_looks f s h row first v t m) where
-    pub internal_turn : not r.holds ≡ false → internal_left (a && r.quiet) (e + 1) ≡ internal_looks f s h row first v t m
+  module _ (a : Bool) (e : ℕ) (r : Option Bool) (l : e < row.looks) (er : r ≡ internal_look f s h row first v t m e) (inv : internal_left a e ≡ internal_looks f s h row first v t m) where
+    pub internal_turn : (b : Bool) → r ≡ Some b → internal_left (a && b) (e + 1) ≡ internal_looks f s h row first v t m
     unfolding internal_left internal_looks
-    internal_turn ok = seen_turn look row.looks (internal_looks f s h row first v t m) a e r l er inv ok
+    internal_turn b ok = seen_turn look row.looks (internal_looks f s h row first v t m) a e r l er inv b ok
 
-    pub internal_fail : not r.holds ≡ true → record { holds = false; quiet = false } ≡ internal_looks f s h row first v t m
+    pub internal_fail : (x : Option Bool) → r ≡ None → x ≡ None → x ≡ internal_looks f s h row first v t m
     unfolding internal_left internal_looks
-    internal_fail ok = seen_fail look row.looks (internal_looks f s h row first v t m) a e r l er inv ok
+    internal_fail x en ex = ex ∙ seen_fail look row.looks (internal_looks f s h row first v t m) a e r l er inv en
 
-  pub internal_end : (a : Bool) (e : ℕ) → row.looks ≤ e → internal_left a e ≡ internal_looks f s h row first v t m → record { holds = true; quiet = a } ≡ internal_looks f s h row first v t m
+  pub internal_end : (a : Bool) (e : ℕ) → row.looks ≤ e → internal_left a e ≡ internal_looks f s h row first v t m → Some a ≡ internal_looks f s h row first v t m
   unfolding internal_left internal_looks
   internal_end a e l inv = seen_end look row.looks (internal_looks f s h row first v t m) a e l inv
 
@@ -199,7 +214,7 @@ module _ (f s v t : List ℕ) (h : Shape) (row : Row) (m : ℕ) (on : Held) (eo 
   abbrev off : ℕ → Bool
   off e = not (on_at f row v e && mark_at f row v e)
 
-  pub row_ruled_out : row.free && not on.holds ≡ true → record { holds = true; quiet = true } ≡ looks_in f s h row v t m
+  pub row_ruled_out : row.free && not on.holds ≡ true → Some true ≡ looks_in f s h row v t m
   unfolding looks_in
   row_ruled_out y =
       rw (
@@ -208,28 +223,27 @@ module _ (f s v t : List ℕ) (h : Shape) (row : Row) (m : ℕ) (on : Held) (eo 
         or-true (not row.internal),
       )
 
-  pub row_internal : (k : Bool) (r : Seen) → row.internal ≡ true → k ≡ mark_holds f row.mark v 0 → r ≡ internal_looks f s h row (record { on = on; marked = k }) v t m
+  pub row_internal : (k : Bool) (r : Option Bool) → row.internal ≡ true → k ≡ mark_holds f row.mark v 0 → r ≡ internal_looks f s h row (record { on = on; marked = k }) v t m
       → r ≡ looks_in f s h row v t m
   unfolding looks_in internal_looks internal_look
   row_internal k r int ek er =
-      er ∙ (λ i. seen (all_alike _ held row.looks 0 (λ e j. (look_is e j).holds) i) (all_alike _ off row.looks 0 (λ e j. (look_is e j).quiet) i))
+      er
+      ∙ (λ i. seen (all_alike _ held row.looks 0 (λ e. ap is_some (look_is e) ∙ seen_holds (held e) (off e)) i)
+      ((all_alike _ (λ e. held e && off e) row.looks 0 (λ e. ap quiet (look_is e) ∙ seen_quiet (held e) (off e)) ∙ all_both held off row.looks 0) i))
+      ∙ seen_both (all_in_range held row.looks 0) (all_in_range off row.looks 0)
       ∙ rw int
     where
-      look_is : (e : ℕ) → internal_look f s h row (record { on = on; marked = k }) v t m e ≡ record { holds = held e; quiet = off e }
+      look_is : (e : ℕ) → internal_look f s h row (record { on = on; marked = k }) v t m e ≡ seen (held e) (off e)
       look_is e = rw (on_is f row v on e eo, mark_is f row v k e ek, int)
 
-  pub row_visible : (b : Bool) → row.internal ≡ false → b ≡ visible_looks f s h row on v t → record { holds = b; quiet = b } ≡ looks_in f s h row v t m
+  pub row_visible : (b : Bool) (r : Option Bool) → row.internal ≡ false → b ≡ visible_looks f s h row on v t → r ≡ seen b true → r ≡ looks_in f s h row v t m
   unfolding looks_in visible_looks visible_look
-  row_visible b vis eb =
-      ap (λ x. record { holds = x; quiet = x }) (eb ∙ all_alike _ held row.looks 0 look_is)
-      ∙ go (all_in_range held row.looks 0) ∙ ap (λ i. seen (all_in_range held row.looks 0) (not i || all_in_range off row.looks 0)) (sym vis)
+  row_visible b r vis eb er =
+      er ∙ ap (λ x. seen x true) (eb ∙ all_alike _ held row.looks 0 look_is)
+      ∙ ap (λ i. seen (all_in_range held row.looks 0) (not i || all_in_range off row.looks 0)) (sym vis)
     where
       look_is : (e : ℕ) → visible_look f s h row on v t e ≡ held e
       look_is e = rw (on_is f row v on e eo, vis)
-
-      go : (x : Bool) → record { holds = x; quiet = x } ≡ seen x true
-      go true = refl
-      go false = refl
 
 -- the conjuncts in front
 module _ (f s p v t : List ℕ) (h : Shape) (i k m line n : ℕ) (g : Guarded) (ek : k ≡ i + 1) (el : line ≡ line_of s h.implementation k) (en : n ≡ (row_plan_at p i).front)
@@ -237,11 +251,11 @@ module _ (f s p v t : List ℕ) (h : Shape) (i k m line n : ℕ) (g : Guarded) (
   abbrev planned : RowPlan
   planned = row_plan_at p i
 
-  pub row_off : not g.holds ≡ true → record { holds = true; quiet = true } ≡ row_in f s h (i + 1) planned (risk_at p 64) v t m
+  pub row_off : not g.holds ≡ true → Some true ≡ row_in f s h (i + 1) planned (risk_at p 64) v t m
   unfolding row_in
   row_off y = rw (← ek, ← el, ← en, ← eg, not-true g.holds y)
 
-  pub row_on : (e : RowPlan) (at risk : ℕ) (row : Row) (r : Seen) → not g.holds ≡ false → e ≡ row_plan_at p i → at ≡ place_from s h e.mark.at → risk ≡ risk_at p 64 → row ≡ row_for g e at risk → r ≡ looks_in f s h row v t m
+  pub row_on : (e : RowPlan) (at risk : ℕ) (row : Row) (r : Option Bool) → not g.holds ≡ false → e ≡ row_plan_at p i → at ≡ place_from s h e.mark.at → risk ≡ risk_at p 64 → row ≡ row_for g e at risk → r ≡ looks_in f s h row v t m
       → r ≡ row_in f s h (i + 1) planned (risk_at p 64) v t m
   unfolding row_in
   row_on e at risk row r y ee ea ek' ew er = er ∙ rw (ew, ek', ea, ee, ← ek, ← el, ← en, ← eg, not-false g.holds y)
@@ -249,29 +263,29 @@ module _ (f s p v t : List ℕ) (h : Shape) (i k m line n : ℕ) (g : Guarded) (
 -- ---- all rows of the implementation
 
 module _ (f s p v t : List ℕ) (h : Shape) (m first end : ℕ) where
-  abbrev seen_row : ℕ → Seen
+  abbrev seen_row : ℕ → Option Bool
   seen_row i = row_in f s h (i + 1) (row_plan_at p i) (risk_at p 64) v t m
 
-  abbrev all_rows_seen : Seen
+  abbrev all_rows_seen : Option Bool
   all_rows_seen = impl_between f s h p first end v t m
 
-  unfoldable pub impl_left : Bool → ℕ → Seen
+  unfoldable pub impl_left : Bool → ℕ → Option Bool
   impl_left a i = seen_left seen_row end all_rows_seen a i
 
   pub impl_begin : impl_left true first ≡ all_rows_seen
   unfolding impl_left impl_between
   impl_begin = refl
 
-  module _ (a : Bool) (i : ℕ) (r : Seen) (l : i < end) (is : r ≡ row_in f s h (i + 1) (row_plan_at p i) (risk_at p 64) v t m) (inv : impl_left a i ≡ all_rows_seen) where
-    pub impl_turn : not r.holds ≡ false → impl_left (a && r.quiet) (i + 1) ≡ all_rows_seen
+  module _ (a : Bool) (i : ℕ) (r : Option Bool) (l : i < end) (is : r ≡ row_in f s h (i + 1) (row_plan_at p i) (risk_at p 64) v t m) (inv : impl_left a i ≡ all_rows_seen) where
+    pub impl_turn : (b : Bool) → r ≡ Some b → impl_left (a && b) (i + 1) ≡ all_rows_seen
     unfolding impl_left
-    impl_turn ok = seen_turn seen_row end all_rows_seen a i r l is inv ok
+    impl_turn b ok = seen_turn seen_row end all_rows_seen a i r l is inv b ok
 
-    pub impl_fail : not r.holds ≡ true → record { holds = false; quiet = false } ≡ all_rows_seen
+    pub impl_fail : (x : Option Bool) → r ≡ None → x ≡ None → x ≡ all_rows_seen
     unfolding impl_left
-    impl_fail ok = seen_fail seen_row end all_rows_seen a i r l is inv ok
+    impl_fail x en ex = ex ∙ seen_fail seen_row end all_rows_seen a i r l is inv en
 
-  pub impl_end : (a : Bool) (i : ℕ) → end ≤ i → impl_left a i ≡ all_rows_seen → record { holds = true; quiet = a } ≡ all_rows_seen
+  pub impl_end : (a : Bool) (i : ℕ) → end ≤ i → impl_left a i ≡ all_rows_seen → Some a ≡ all_rows_seen
   unfolding impl_left
   impl_end a i l inv = seen_end seen_row end all_rows_seen a i l inv
 
@@ -373,15 +387,15 @@ module _ (f s p v t : List ℕ) (h : Shape) (two : Bool) (said : two ≡ below_i
   unfolding passes_in
   pass_two y = rw (← said, not-true two y)
 
-  module _ (m : ℕ) (r : Seen) (ok : not two ≡ false) (em : m ≡ measure_in f s h v) (er : r ≡ impl_in f s h p v t m) where
-    pub pass_rows : not r.holds ≡ true → false ≡ passes_in f s h p v t
+  module _ (m : ℕ) (r : Option Bool) (ok : not two ≡ false) (em : m ≡ measure_in f s h v) (er : r ≡ impl_in f s h p v t m) where
+    pub pass_rows : r ≡ None → false ≡ passes_in f s h p v t
     unfolding passes_in
-    pass_rows y = rw (← said, not-false two ok, ← em, ← er, not-true r.holds y)
+    pass_rows y = rw (← said, not-false two ok, ← em, ← er, y)
 
-    pub pass_busy : not r.holds ≡ false → not r.quiet ≡ true → true ≡ passes_in f s h p v t
+    pub pass_busy : (q : Bool) → r ≡ Some q → not q ≡ true → true ≡ passes_in f s h p v t
     unfolding passes_in
-    pass_busy y q = rw (← said, not-false two ok, ← em, ← er, not-false r.holds y, not-true r.quiet q)
+    pass_busy q y z = rw (← said, not-false two ok, ← em, ← er, y, not-true q z)
 
-    pub pass_quiet : (b : Bool) → not r.holds ≡ false → not r.quiet ≡ false → b ≡ spec_in f s h p v t → b ≡ passes_in f s h p v t
+    pub pass_quiet : (q b : Bool) → r ≡ Some q → not q ≡ false → b ≡ spec_in f s h p v t → b ≡ passes_in f s h p v t
     unfolding passes_in
-    pass_quiet b y q eb = eb ∙ rw (← said, not-false two ok, ← em, ← er, not-false r.holds y, not-false r.quiet q)
+    pass_quiet q b y z eb = eb ∙ rw (← said, not-false two ok, ← em, ← er, y, not-false q z)

@@ -1,6 +1,7 @@
 -- The quick test of a state as the code makes it, by any plan p: f the fields, s the starts of lines, h the shape; v the state, t its
 -- mapped state, m its measure. By the right plan it is that of decision/specs/Quick (proofs/Decided).
-use Rattle.std.specs.Prelude.{Bool, true, false, not, ◌&&◌, ◌||◌, cond, List, ℕ, ◌+◌, ◌-◌, eqb, drop}
+use Rattle.std.specs.Prelude.{Bool, true, false, not, ◌&&◌, ◌||◌, cond, List, ℕ, ◌+◌, ◌-◌, eqb, drop, Option, is_some, unwrap_or}
+use Rattle.std.specs.Bool.{then_some}
 use Rattle.foundation.specs.First.{all_in_range}
 use Rattle.foundation.specs.Reflects.{◌⇒◌}
 use Rattle.terms.specs.Tree.{Formula, eval_f}
@@ -19,7 +20,6 @@ use Rattle.marks.specs.Marks.{place_from, mark_holds}
 use Rattle.row_plan.specs.RowPlan.{row_plan_at, risk_at}
 use Rattle.row_plan.specs.declared.RowPlan.{RowPlan}
 use Rattle.step_passes.specs.Steps.{internal_to, visible_to, internal_step, visible_step}
-use Rattle.state_passes.specs.declared.Seen.{Seen}
 use Rattle.state_passes.specs.declared.Row.{Row}
 use Rattle.state_passes.specs.declared.First.{First}
 
@@ -71,9 +71,13 @@ step_of_row f s h risk r marked j v t m e =
 
 -- ---- the rows of the implementation
 
--- of rows that do not all hold nothing more is said
-abbrev pub seen : Bool → Bool → Seen
-seen h q = cond h (record { holds = true; quiet = q }) (record { holds = false; quiet = false })
+-- of rows that all hold, whether none has a marked step; of others nothing
+abbrev pub seen : Bool → Bool → Option Bool
+seen h q = then_some h q
+
+-- all hold, and none has a marked step
+abbrev pub quiet : Option Bool → Bool
+quiet r = unwrap_or r false
 
 -- a look at a visible row, and all
 unfoldable pub visible_look : List ℕ → List ℕ → Shape → Row → Held → List ℕ → List ℕ → ℕ → Bool
@@ -83,38 +87,38 @@ unfoldable pub visible_looks : List ℕ → List ℕ → Shape → Row → Held 
 visible_looks f s h row first v t = all_in_range (λ e. visible_look f s h row first v t e) row.looks 0
 
 -- a look at an internal one, and all
-unfoldable pub internal_look : List ℕ → List ℕ → Shape → Row → First → List ℕ → List ℕ → ℕ → ℕ → Seen
+unfoldable pub internal_look : List ℕ → List ℕ → Shape → Row → First → List ℕ → List ℕ → ℕ → ℕ → Option Bool
 internal_look f s h row first v t m e =
     let o = known_in f row v first.on e in
     let marked = known_mark f row v first.marked e in
-    record { holds = o.holds ⇒ internal_step f s h row.risk o.next marked v t m e; quiet = not (o.holds && marked) }
+    seen (o.holds ⇒ internal_step f s h row.risk o.next marked v t m e) (not (o.holds && marked))
 
-unfoldable pub internal_looks : List ℕ → List ℕ → Shape → Row → First → List ℕ → List ℕ → ℕ → Seen
+unfoldable pub internal_looks : List ℕ → List ℕ → Shape → Row → First → List ℕ → List ℕ → ℕ → Option Bool
 internal_looks f s h row first v t m =
-    let look : ℕ → Seen = λ e. internal_look f s h row first v t m e in
-    seen (all_in_range (λ e. (look e).holds) row.looks 0) (all_in_range (λ e. (look e).quiet) row.looks 0)
+    let look : ℕ → Option Bool = λ e. internal_look f s h row first v t m e in
+    seen (all_in_range (λ e. is_some (look e)) row.looks 0) (all_in_range (λ e. quiet (look e)) row.looks 0)
 
 -- the same of either, said of the row
-unfoldable pub looks_in : List ℕ → List ℕ → Shape → Row → List ℕ → List ℕ → ℕ → Seen
+unfoldable pub looks_in : List ℕ → List ℕ → Shape → Row → List ℕ → List ℕ → ℕ → Option Bool
 looks_in f s h row v t m =
     let past = row.at + (left f row).used in
     seen (all_in_range (λ e. on_at f row v e ⇒ step_inside f s h row past (mark_at f row v e) v t m e) row.looks 0)
     (not row.internal || all_in_range (λ e. not (on_at f row v e && mark_at f row v e)) row.looks 0)
 
 -- row k, by its plan
-unfoldable pub row_in : List ℕ → List ℕ → Shape → ℕ → RowPlan → ℕ → List ℕ → List ℕ → ℕ → Seen
+unfoldable pub row_in : List ℕ → List ℕ → Shape → ℕ → RowPlan → ℕ → List ℕ → List ℕ → ℕ → Option Bool
 row_in f s h k e risk v t m =
     let front = guard_in f v 0 e.front (line_of s h.implementation k + 3) 32 in
     cond front.holds (looks_in f s h (row_for front e (place_from s h e.mark.at) risk) v t m) (seen true true)
 
 -- those after `first` others and before `end`
-unfoldable pub impl_between : List ℕ → List ℕ → Shape → List ℕ → ℕ → ℕ → List ℕ → List ℕ → ℕ → Seen
+unfoldable pub impl_between : List ℕ → List ℕ → Shape → List ℕ → ℕ → ℕ → List ℕ → List ℕ → ℕ → Option Bool
 impl_between f s h p first end v t m =
-    let row : ℕ → Seen = λ i. row_in f s h (i + 1) (row_plan_at p i) (risk_at p 64) v t m in
-    seen (all_in_range (λ i. (row i).holds) (end - first) first) (all_in_range (λ i. (row i).quiet) (end - first) first)
+    let row : ℕ → Option Bool = λ i. row_in f s h (i + 1) (row_plan_at p i) (risk_at p 64) v t m in
+    seen (all_in_range (λ i. is_some (row i)) (end - first) first) (all_in_range (λ i. quiet (row i)) (end - first) first)
 
 -- of all rows
-abbrev pub impl_in : List ℕ → List ℕ → Shape → List ℕ → List ℕ → List ℕ → ℕ → Seen
+abbrev pub impl_in : List ℕ → List ℕ → Shape → List ℕ → List ℕ → List ℕ → ℕ → Option Bool
 impl_in f s h p v t m = impl_between f s h p 0 h.implementation.rows.count v t m
 
 -- ---- the rows of the specification
@@ -143,4 +147,4 @@ spec_in f s h p v t = spec_between f s h p 0 h.specification.rows.count v t
 unfoldable pub passes_in : List ℕ → List ℕ → Shape → List ℕ → List ℕ → List ℕ → Bool
 passes_in f s h p v t =
     let rows = impl_in f s h p v t (measure_in f s h v) in
-    below_in f s h.specification t && (rows.holds && (rows.quiet ⇒ spec_in f s h p v t))
+    below_in f s h.specification t && (is_some rows && (quiet rows ⇒ spec_in f s h p v t))

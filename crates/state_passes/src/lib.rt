@@ -13,14 +13,8 @@ ghost use Rattle.state_passes.specs.Passes.{known_in, known_mark, visible_look, 
 use conjuncts::Guarded;
 use design::{Process, Shape};
 use eval::Held;
+use layout::Lines;
 use row_plan::RowPlan;
-
-// What was seen of rows: whether each holds, and, if so, whether none has a marked step.
-#[derive(Clone, Copy)]
-pub struct Seen {
-    pub holds: bool,
-    pub quiet: bool,
-}
 
 // A row that is looked at.
 #[derive(Clone, Copy)]
@@ -89,9 +83,8 @@ fn marked_at(fields: &limits::Fields, row: Row, v: &limits::Values, first: bool,
 // ---- the looks at a visible row
 
 // One look: whether criteria 3, 6, 8 and 9 hold for a sum value.
-fn visible_look<'a>(
-    fields: &'a limits::Fields,
-    starts: &'a limits::Starts,
+fn visible_look(
+    lines: &Lines,
     shape: Shape,
     row: Row,
     first: Held,
@@ -99,53 +92,39 @@ fn visible_look<'a>(
     t: &limits::Values,
     sum: u16,
 ) -> bool
-    ensures { result ≡ visible_look fields.now starts.now shape row first v.now t.now sum }
+    ensures { result ≡ visible_look lines.now.fields lines.now.starts shape row first v.now t.now sum }
 {
-    let on = on_at(fields, row, v, first, sum);
+    let on = on_at(&lines.fields, row, v, first, sum);
     if !on.holds {
         return true;
     }
-    step_passes::visible_holds(
-        fields,
-        starts,
-        shape,
-        row.risk,
-        on.next,
-        row.partner,
-        v,
-        t,
-        sum,
-    )
+    step_passes::visible_holds(lines, shape, row.risk, on.next, row.partner, v, t, sum)
 }
 
 // Whether they all do.
-fn visible_looks<'a>(
-    fields: &'a limits::Fields,
-    starts: &'a limits::Starts,
+fn visible_looks(
+    lines: &Lines,
     shape: Shape,
     row: Row,
     first: Held,
     v: &limits::Values,
     t: &limits::Values,
 ) -> bool
-    ensures { result ≡ visible_looks fields.now starts.now shape row first v.now t.now }
+    ensures { result ≡ visible_looks lines.now.fields lines.now.starts shape row first v.now t.now }
 {
-    let mut sum = 0;
-    while sum < row.looks {
-        if !visible_look(fields, starts, shape, row, first, v, t, sum) {
+    for sum in 0..row.looks {
+        if !visible_look(lines, shape, row, first, v, t, sum) {
             return false;
         }
-        sum += 1;
     }
     true
 }
 
 // ---- the looks at an internal row
 
-// One look: whether criteria 3, 4 and 5 hold for a sum value, and whether there is no marked step.
-fn internal_look<'a>(
-    fields: &'a limits::Fields,
-    starts: &'a limits::Starts,
+// One look: where criteria 3, 4 and 5 hold for a sum value, whether there is no marked step.
+fn internal_look(
+    lines: &Lines,
     shape: Shape,
     row: Row,
     first: First,
@@ -153,130 +132,97 @@ fn internal_look<'a>(
     t: &limits::Values,
     m: u16,
     sum: u16,
-) -> Seen
-    ensures { result ≡ internal_look fields.now starts.now shape row first v.now t.now m sum }
+) -> Option<bool>
+    ensures { result ≡ internal_look lines.now.fields lines.now.starts shape row first v.now t.now m sum }
 {
-    let on = on_at(fields, row, v, first.on, sum);
+    let on = on_at(&lines.fields, row, v, first.on, sum);
     if !on.holds {
-        return Seen {
-            holds: true,
-            quiet: true,
-        };
+        return Some(true);
     }
-    let marked = marked_at(fields, row, v, first.marked, sum);
-    Seen {
-        holds: step_passes::internal_holds(
-            fields, starts, shape, row.risk, on.next, marked, v, t, m, sum,
-        ),
-        quiet: !marked,
-    }
+    let marked = marked_at(&lines.fields, row, v, first.marked, sum);
+    let holds = step_passes::internal_holds(lines, shape, row.risk, on.next, marked, v, t, m, sum);
+    holds.then_some(!marked)
 }
 
-// What they all see.
-fn internal_looks<'a>(
-    fields: &'a limits::Fields,
-    starts: &'a limits::Starts,
+// The same of them all: nothing where one fails.
+fn internal_looks(
+    lines: &Lines,
     shape: Shape,
     row: Row,
     first: First,
     v: &limits::Values,
     t: &limits::Values,
     m: u16,
-) -> Seen
-    ensures { result ≡ internal_looks fields.now starts.now shape row first v.now t.now m }
+) -> Option<bool>
+    ensures { result ≡ internal_looks lines.now.fields lines.now.starts shape row first v.now t.now m }
 {
     let mut quiet = true;
-    let mut sum = 0;
-    while sum < row.looks {
-        let seen = internal_look(fields, starts, shape, row, first, v, t, m, sum);
-        if !seen.holds {
-            return Seen {
-                holds: false,
-                quiet: false,
-            };
-        }
-        quiet = quiet & seen.quiet;
-        sum += 1;
+    for sum in 0..row.looks {
+        quiet = quiet & internal_look(lines, shape, row, first, v, t, m, sum)?;
     }
-    Seen {
-        holds: true,
-        quiet: quiet,
-    }
+    Some(quiet)
 }
 
 // ---- the rows of the implementation
 
-// What a row's looks see. A condition or a mark that does not read the sum value is evaluated once.
-fn row_looks<'a>(
-    fields: &'a limits::Fields,
-    starts: &'a limits::Starts,
+// What a row's looks see: where it holds, whether it has no marked step. A condition or a mark that does not read the sum value is evaluated once.
+fn row_looks(
+    lines: &Lines,
     shape: Shape,
     row: Row,
     v: &limits::Values,
     t: &limits::Values,
     m: u16,
-) -> Seen
-    ensures { result ≡ looks_in fields.now starts.now shape row v.now t.now m }
+) -> Option<bool>
+    ensures { result ≡ looks_in lines.now.fields lines.now.starts shape row v.now t.now m }
 {
-    let on = eval::formula(fields, row.at, v, 0, row.depth);
+    let on = eval::formula(&lines.fields, row.at, v, 0, row.depth);
     if row.free & !on.holds {
-        return Seen {
-            holds: true,
-            quiet: true,
-        };
+        return Some(true);
     }
     if row.internal {
         let first = First {
             on: on,
-            marked: marks::holds(fields, row.mark, v, 0),
+            marked: marks::holds(&lines.fields, row.mark, v, 0),
         };
-        return internal_looks(fields, starts, shape, row, first, v, t, m);
+        return internal_looks(lines, shape, row, first, v, t, m);
     }
-    let holds = visible_looks(fields, starts, shape, row, on, v, t);
-    Seen {
-        holds: holds,
-        quiet: holds,
-    }
+    visible_looks(lines, shape, row, on, v, t).then_some(true)
 }
 
 // What is seen of the row after i others: the conjuncts in front of its condition, and if they hold its looks at what is left.
-fn row_seen<'a>(
-    fields: &'a limits::Fields,
-    starts: &'a limits::Starts,
+fn row_seen(
+    lines: &Lines,
     shape: Shape,
     plan: &[u16; row_plan::LENGTH],
     i: u8,
     v: &limits::Values,
     t: &limits::Values,
     m: u16,
-) -> Seen
+) -> Option<bool>
     requires { i < 64 }
-    ensures { result ≡ row_in fields.now starts.now shape (i + 1) (row_plan_at plan.now i) (risk_at plan.now 64) v.now t.now m }
+    ensures { result ≡ row_in lines.now.fields lines.now.starts shape (i + 1) (row_plan_at plan.now i) (risk_at plan.now 64) v.now t.now m }
 {
-    let line = steps::line_of(starts, shape.implementation, i as u16 + 1);
+    let line = steps::line_of(lines, shape.implementation, i as u16 + 1);
     let conjuncts = row_plan::front(plan, i as usize);
-    let front = conjuncts::guard(fields, line as usize + 3, v, 0, conjuncts);
+    let front = conjuncts::guard(&lines.fields, line as usize + 3, v, 0, conjuncts);
     if !front.holds {
-        return Seen {
-            holds: true,
-            quiet: true,
-        };
+        return Some(true);
     }
     let planned = row_plan::planned(plan, i as usize);
-    let mark = marks::place_from(starts, shape, planned.mark.at);
+    let mark = marks::place_from(lines, shape, planned.mark.at);
     let row = row_for(
         front,
         planned,
         mark,
         row_plan::risk(plan, row_plan::KINDS_RISK),
     );
-    row_looks(fields, starts, shape, row, v, t, m)
+    row_looks(lines, shape, row, v, t, m)
 }
 
 // What is seen of the rows after `first` others and before `end`.
-pub fn rows_seen_between<'a>(
-    fields: &'a limits::Fields,
-    starts: &'a limits::Starts,
+pub fn rows_seen_between(
+    lines: &Lines,
     shape: Shape,
     plan: &[u16; row_plan::LENGTH],
     first: u8,
@@ -284,53 +230,39 @@ pub fn rows_seen_between<'a>(
     v: &limits::Values,
     t: &limits::Values,
     m: u16,
-) -> Seen
+) -> Option<bool>
     requires { end ≤ 64 }
-    ensures { result ≡ impl_between fields.now starts.now shape plan.now first end v.now t.now m }
+    ensures { result ≡ impl_between lines.now.fields lines.now.starts shape plan.now first end v.now t.now m }
 {
     let mut quiet = true;
-    let mut i = first;
-    while i < end {
-        let seen = row_seen(fields, starts, shape, plan, i, v, t, m);
-        if !seen.holds {
-            return Seen {
-                holds: false,
-                quiet: false,
-            };
-        }
-        quiet = quiet & seen.quiet;
-        i += 1;
+    for i in first..end {
+        quiet = quiet & row_seen(lines, shape, plan, i, v, t, m)?;
     }
-    Seen {
-        holds: true,
-        quiet: quiet,
-    }
+    Some(quiet)
 }
 
 // What is seen of all rows.
-fn rows_seen<'a>(
-    fields: &'a limits::Fields,
-    starts: &'a limits::Starts,
+fn rows_seen(
+    lines: &Lines,
     shape: Shape,
     plan: &[u16; row_plan::LENGTH],
     v: &limits::Values,
     t: &limits::Values,
     m: u16,
-) -> Seen
+) -> Option<bool>
     requires { Fits shape }
-    ensures { result ≡ impl_in fields.now starts.now shape plan.now v.now t.now m }
+    ensures { result ≡ impl_in lines.now.fields lines.now.starts shape plan.now v.now t.now m }
 {
     let implementation = shape.implementation;
     let count = implementation.rows.count;
-    rows_seen_between(fields, starts, shape, plan, 0, count, v, t, m)
+    rows_seen_between(lines, shape, plan, 0, count, v, t, m)
 }
 
 // ---- the rows of the specification, at a focus point
 
 // One look at a row: whether criterion 7 holds.
-fn replied<'a>(
-    fields: &'a limits::Fields,
-    starts: &'a limits::Starts,
+fn replied(
+    lines: &Lines,
     implementation: Process,
     row: Row,
     first: Held,
@@ -338,48 +270,44 @@ fn replied<'a>(
     t: &limits::Values,
     sum: u16,
 ) -> bool
-    ensures { result ≡ replied_in fields.now starts.now implementation row first v.now t.now sum }
+    ensures { result ≡ replied_in lines.now.fields lines.now.starts implementation row first v.now t.now sum }
 {
-    let on = on_at(fields, row, t, first, sum);
+    let on = on_at(&lines.fields, row, t, first, sum);
     if !on.holds {
         return true;
     }
     if row.partner == 0 {
         return false;
     }
-    let line = steps::line_of(starts, implementation, row.partner);
-    conjuncts::holds(fields, line as usize + 3, v, sum)
+    let line = steps::line_of(lines, implementation, row.partner);
+    conjuncts::holds(&lines.fields, line as usize + 3, v, sum)
 }
 
 // Whether it holds at its looks.
-fn reply_looks<'a>(
-    fields: &'a limits::Fields,
-    starts: &'a limits::Starts,
+fn reply_looks(
+    lines: &Lines,
     implementation: Process,
     row: Row,
     v: &limits::Values,
     t: &limits::Values,
 ) -> bool
-    ensures { result ≡ reply_looks fields.now starts.now implementation row v.now t.now }
+    ensures { result ≡ reply_looks lines.now.fields lines.now.starts implementation row v.now t.now }
 {
-    let first = eval::formula(fields, row.at, t, 0, row.depth);
+    let first = eval::formula(&lines.fields, row.at, t, 0, row.depth);
     if row.free & !first.holds {
         return true;
     }
-    let mut sum = 0;
-    while sum < row.looks {
-        if !replied(fields, starts, implementation, row, first, v, t, sum) {
+    for sum in 0..row.looks {
+        if !replied(lines, implementation, row, first, v, t, sum) {
             return false;
         }
-        sum += 1;
     }
     true
 }
 
 // Whether it holds of the row after i others.
-fn row_replied<'a>(
-    fields: &'a limits::Fields,
-    starts: &'a limits::Starts,
+fn row_replied(
+    lines: &Lines,
     shape: Shape,
     plan: &[u16; row_plan::LENGTH],
     i: u8,
@@ -387,23 +315,22 @@ fn row_replied<'a>(
     t: &limits::Values,
 ) -> bool
     requires { 32 + i < 64 }
-    ensures { result ≡ reply_in fields.now starts.now shape (i + 1) (row_plan_at plan.now (32 + i)) v.now t.now }
+    ensures { result ≡ reply_in lines.now.fields lines.now.starts shape (i + 1) (row_plan_at plan.now (32 + i)) v.now t.now }
 {
-    let line = steps::line_of(starts, shape.specification, i as u16 + 1);
+    let line = steps::line_of(lines, shape.specification, i as u16 + 1);
     let conjuncts = row_plan::front(plan, row_plan::ROWS + i as usize);
-    let front = conjuncts::guard(fields, line as usize + 3, t, 0, conjuncts);
+    let front = conjuncts::guard(&lines.fields, line as usize + 3, t, 0, conjuncts);
     if !front.holds {
         return true;
     }
     let planned = row_plan::planned(plan, row_plan::ROWS + i as usize);
     let row = row_for(front, planned, 0, 0);
-    reply_looks(fields, starts, shape.implementation, row, v, t)
+    reply_looks(lines, shape.implementation, row, v, t)
 }
 
 // Whether it holds of the rows after `first` others and before `end`.
-pub fn rows_replied_between<'a>(
-    fields: &'a limits::Fields,
-    starts: &'a limits::Starts,
+pub fn rows_replied_between(
+    lines: &Lines,
     shape: Shape,
     plan: &[u16; row_plan::LENGTH],
     first: u8,
@@ -412,59 +339,54 @@ pub fn rows_replied_between<'a>(
     t: &limits::Values,
 ) -> bool
     requires { end ≤ 32 }
-    ensures { result ≡ spec_between fields.now starts.now shape plan.now first end v.now t.now }
+    ensures { result ≡ spec_between lines.now.fields lines.now.starts shape plan.now first end v.now t.now }
 {
-    let mut i = first;
-    while i < end {
-        if !row_replied(fields, starts, shape, plan, i, v, t) {
+    for i in first..end {
+        if !row_replied(lines, shape, plan, i, v, t) {
             return false;
         }
-        i += 1;
     }
     true
 }
 
 // Whether it holds of each row.
-fn rows_replied<'a>(
-    fields: &'a limits::Fields,
-    starts: &'a limits::Starts,
+fn rows_replied(
+    lines: &Lines,
     shape: Shape,
     plan: &[u16; row_plan::LENGTH],
     v: &limits::Values,
     t: &limits::Values,
 ) -> bool
     requires { Fits shape }
-    ensures { result ≡ spec_in fields.now starts.now shape plan.now v.now t.now }
+    ensures { result ≡ spec_in lines.now.fields lines.now.starts shape plan.now v.now t.now }
 {
     let specification = shape.specification;
     let count = specification.rows.count;
-    rows_replied_between(fields, starts, shape, plan, 0, count, v, t)
+    rows_replied_between(lines, shape, plan, 0, count, v, t)
 }
 
 // ---- the state
 
 // Whether the state v, whose mapped state is t, passes.
-pub fn passes<'a>(
-    fields: &'a limits::Fields,
-    starts: &'a limits::Starts,
+pub fn passes(
+    lines: &Lines,
     shape: Shape,
     plan: &[u16; row_plan::LENGTH],
     v: &limits::Values,
     t: &limits::Values,
 ) -> bool
     requires { Fits shape }
-    ensures { result ≡ passes_in fields.now starts.now shape plan.now v.now t.now }
+    ensures { result ≡ passes_in lines.now.fields lines.now.starts shape plan.now v.now t.now }
 {
-    if !steps::below(fields, starts, shape.specification, t) {
+    if !steps::below(lines, shape.specification, t) {
         return false;
     }
-    let m = steps::measure(fields, starts, shape, v);
-    let seen = rows_seen(fields, starts, shape, plan, v, t, m);
-    if !seen.holds {
+    let m = steps::measure(lines, shape, v);
+    let Some(quiet) = rows_seen(lines, shape, plan, v, t, m) else {
         return false;
-    }
-    if !seen.quiet {
+    };
+    if !quiet {
         return true;
     }
-    rows_replied(fields, starts, shape, plan, v, t)
+    rows_replied(lines, shape, plan, v, t)
 }

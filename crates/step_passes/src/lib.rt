@@ -8,15 +8,15 @@ ghost use Rattle.std.specs.Prelude.{◌≡◌, false};
 ghost use Rattle.step_passes.specs.Steps.{asked_in, has_values_in, kept_in, answered_in, internal_step, visible_step};
 
 use design::{Process, Shape};
+use layout::Lines;
 
 // ---- where a step leads
 
 // Whether invariant and mapping have values at x, and so does the measure if it is asked for: by their risk, else by themselves. It takes
 // the three lines, and how many values the second has, and not the shape: with that lent in every step, the walk would read it again for
 // each row.
-fn asked<'a>(
-    fields: &'a limits::Fields,
-    starts: &'a limits::Starts,
+fn asked(
+    lines: &Lines,
     risk: u32,
     invariant: u8,
     mapping: u8,
@@ -25,34 +25,27 @@ fn asked<'a>(
     x: &limits::Values,
     measured: bool,
 ) -> bool
-    ensures { result ≡ asked_in fields.now starts.now risk invariant mapping n measure x.now measured }
+    ensures { result ≡ asked_in lines.now.fields lines.now.starts risk invariant mapping n measure x.now measured }
 {
     if divisors::safe_at(risk, x) {
         return true;
     }
-    if !defined::formula_in_line(fields, starts, invariant, x) {
+    if !defined::formula_in_line(lines, invariant, x) {
         return false;
     }
-    if !defined::values_in_line(fields, starts, mapping, n, x) {
+    if !defined::values_in_line(lines, mapping, n, x) {
         return false;
     }
     if !measured {
         return true;
     }
-    defined::value_in_line(fields, starts, measure, x)
+    defined::value_in_line(lines, measure, x)
 }
 
 // The same; where nothing could leave them without a value, as in most tables, nothing is asked. It stands here once for internal steps and
 // once for visible ones, so that the compiler puts it, and not what it asks, into each.
-fn has_values<'a>(
-    fields: &'a limits::Fields,
-    starts: &'a limits::Starts,
-    shape: Shape,
-    risk: u32,
-    x: &limits::Values,
-    measured: bool,
-) -> bool
-    ensures { result ≡ has_values_in fields.now starts.now shape risk x.now measured }
+fn has_values(lines: &Lines, shape: Shape, risk: u32, x: &limits::Values, measured: bool) -> bool
+    ensures { result ≡ has_values_in lines.now.fields lines.now.starts shape risk x.now measured }
 {
     if risk == 0 {
         return true;
@@ -61,19 +54,11 @@ fn has_values<'a>(
     let n = shape.specification.parameters.count;
     let mapping = shape.mapping;
     let measure = shape.measure;
-    asked(
-        fields, starts, risk, invariant, mapping, n, measure, x, measured,
-    )
+    asked(lines, risk, invariant, mapping, n, measure, x, measured)
 }
 
-fn has_mapping<'a>(
-    fields: &'a limits::Fields,
-    starts: &'a limits::Starts,
-    shape: Shape,
-    risk: u32,
-    x: &limits::Values,
-) -> bool
-    ensures { result ≡ has_values_in fields.now starts.now shape risk x.now false }
+fn has_mapping(lines: &Lines, shape: Shape, risk: u32, x: &limits::Values) -> bool
+    ensures { result ≡ has_values_in lines.now.fields lines.now.starts shape risk x.now false }
 {
     if risk == 0 {
         return true;
@@ -82,40 +67,36 @@ fn has_mapping<'a>(
     let n = shape.specification.parameters.count;
     let mapping = shape.mapping;
     let measure = shape.measure;
-    asked(
-        fields, starts, risk, invariant, mapping, n, measure, x, false,
-    )
+    asked(lines, risk, invariant, mapping, n, measure, x, false)
 }
 
 // ---- internal steps
 
 // Whether an internal step to x keeps the mapping t, and, if it is marked, lowers the measure m.
-fn kept<'a>(
-    fields: &'a limits::Fields,
-    starts: &'a limits::Starts,
+fn kept(
+    lines: &Lines,
     shape: Shape,
     x: &limits::Values,
     t: &limits::Values,
     m: u16,
     marked: bool,
 ) -> bool
-    ensures { result ≡ kept_in fields.now starts.now shape x.now t.now m marked }
+    ensures { result ≡ kept_in lines.now.fields lines.now.starts shape x.now t.now m marked }
 {
     let mut there = [0u16; limits::MAX_PARAMETERS];
-    steps::put_mapped(fields, starts, shape, x, &mut there);
+    steps::put_mapped(lines, shape, x, &mut there);
     if !steps::same(shape.specification.parameters.count, t, &there) {
         return false;
     }
     if !marked {
         return true;
     }
-    steps::measure(fields, starts, shape, x) < m
+    steps::measure(lines, shape, x) < m
 }
 
 // Whether criteria 3, 4 and 5 hold of the step of an internal row whose data stand at a place; the step is marked or not.
-pub fn internal_holds<'a>(
-    fields: &'a limits::Fields,
-    starts: &'a limits::Starts,
+pub fn internal_holds(
+    lines: &Lines,
     shape: Shape,
     risk: u32,
     at: usize,
@@ -125,27 +106,26 @@ pub fn internal_holds<'a>(
     m: u16,
     sum: u16,
 ) -> bool
-    ensures { result ≡ internal_step fields.now starts.now shape risk at marked v.now t.now m sum }
+    ensures { result ≡ internal_step lines.now.fields lines.now.starts shape risk at marked v.now t.now m sum }
 {
-    let data = eval::value(fields, at, v, sum, limits::MAX_DEPTH);
+    let data = eval::value(&lines.fields, at, v, sum, limits::MAX_DEPTH);
     let n = shape.implementation.parameters.count;
     let mut x = [0u16; limits::MAX_PARAMETERS];
-    steps::put_values(fields, data.next, n, v, sum, &mut x);
-    if !steps::inside(fields, starts, shape, &x) {
+    steps::put_values(&lines.fields, data.next, n, v, sum, &mut x);
+    if !steps::inside(lines, shape, &x) {
         return false;
     }
-    if !has_values(fields, starts, shape, risk, &x, marked) {
+    if !has_values(lines, shape, risk, &x, marked) {
         return false;
     }
-    kept(fields, starts, shape, &x, t, m, marked)
+    kept(lines, shape, &x, t, m, marked)
 }
 
 // ---- visible steps
 
 // Whether row j of the specification makes the same step at t: it is enabled, carries the same data and leads to `there`.
-fn answered<'a>(
-    fields: &'a limits::Fields,
-    starts: &'a limits::Starts,
+fn answered(
+    lines: &Lines,
     specification: Process,
     j: u16,
     carries: u16,
@@ -153,30 +133,29 @@ fn answered<'a>(
     t: &limits::Values,
     sum: u16,
 ) -> bool
-    ensures { result ≡ answered_in fields.now starts.now specification j carries there.now t.now sum }
+    ensures { result ≡ answered_in lines.now.fields lines.now.starts specification j carries there.now t.now sum }
 {
     if j == 0 {
         return false;
     }
-    let line = steps::line_of(starts, specification, j);
-    let condition = eval::formula(fields, line as usize + 3, t, sum, limits::MAX_DEPTH);
+    let line = steps::line_of(lines, specification, j);
+    let condition = eval::formula(&lines.fields, line as usize + 3, t, sum, limits::MAX_DEPTH);
     if !condition.holds {
         return false;
     }
-    let carried = eval::value(fields, condition.next, t, sum, limits::MAX_DEPTH);
+    let carried = eval::value(&lines.fields, condition.next, t, sum, limits::MAX_DEPTH);
     if carries != carried.value {
         return false;
     }
     let n = specification.parameters.count;
     let mut next = [0u16; limits::MAX_PARAMETERS];
-    steps::put_values(fields, carried.next, n, t, sum, &mut next);
+    steps::put_values(&lines.fields, carried.next, n, t, sum, &mut next);
     steps::same(n, there, &next)
 }
 
 // Whether criteria 3, 6, 8 and 9 hold of the step of a visible row whose data stand at a place; j is the number of its partner.
-pub fn visible_holds<'a>(
-    fields: &'a limits::Fields,
-    starts: &'a limits::Starts,
+pub fn visible_holds(
+    lines: &Lines,
     shape: Shape,
     risk: u32,
     at: usize,
@@ -185,20 +164,20 @@ pub fn visible_holds<'a>(
     t: &limits::Values,
     sum: u16,
 ) -> bool
-    ensures { result ≡ visible_step fields.now starts.now shape risk at j v.now t.now sum }
+    ensures { result ≡ visible_step lines.now.fields lines.now.starts shape risk at j v.now t.now sum }
 {
-    let data = eval::value(fields, at, v, sum, limits::MAX_DEPTH);
+    let data = eval::value(&lines.fields, at, v, sum, limits::MAX_DEPTH);
     let n = shape.implementation.parameters.count;
     let mut x = [0u16; limits::MAX_PARAMETERS];
-    steps::put_values(fields, data.next, n, v, sum, &mut x);
-    if !steps::inside(fields, starts, shape, &x) {
+    steps::put_values(&lines.fields, data.next, n, v, sum, &mut x);
+    if !steps::inside(lines, shape, &x) {
         return false;
     }
-    if !has_mapping(fields, starts, shape, risk, &x) {
+    if !has_mapping(lines, shape, risk, &x) {
         return false;
     }
     let mut next = [0u16; limits::MAX_PARAMETERS];
-    steps::put_mapped(fields, starts, shape, &x, &mut next);
+    steps::put_mapped(lines, shape, &x, &mut next);
     let specification = shape.specification;
-    answered(fields, starts, specification, j, data.value, &next, t, sum)
+    answered(lines, specification, j, data.value, &next, t, sum)
 }

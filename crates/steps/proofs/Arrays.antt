@@ -1,16 +1,18 @@
 -- What the functions of the code return, and the turns of their loops, as the definitions of specs/Arrays say it: what is left gives
 -- the whole. That these are the state, the steps and the tests of a design is in proofs/States.
 use mathlib.Core.Path.{◌≡◌, refl, sym, ◌∙◌, ap}
-use mathlib.Core.Bool.{Bool, true, false, cond}
+use mathlib.Core.Bool.{Bool, true, false}
 use mathlib.Core.List.{List, [], ◌∷◌}
 use Prim.Native.Nat.{ℕ, zero, suc, ◌+◌, ◌-◌, ◌*◌, ◌≤◌, ◌<◌, ◌%◌, ◌/◌, min}
 use native.Mathlib.Numerals.{add-one}
 use native.Mathlib.Decide.{dec_lt}
 use native.Mathlib.Omega.{arith}
-use borrow.Author.Tests.{lt-ltb, le-ltb, eq-eqb, ne_eqb}
-use lib.Dec.{eqb}
+use borrow.Author.Tests.{eq-eqb, ne_eqb}
+use lib.Dec.{eqb, ltb}
 use lib.ListN.{length, get_or, drop, set, replicate, get_or-eq_default}
 use lib.Seq.{sets, set_comm, set_out}
+use Rattle.std.specs.Prelude.{Option, Some, None, MatchOption}
+use Rattle.foundation.specs.First.{all_in_range}
 use Rattle.foundation.specs.Radix.{below_b, same_b, product, number_of, number_from, split_of}
 use Rattle.terms.specs.Tree.{eval_v, eval_f}
 use Rattle.terms.specs.Read.{read_v, read_f}
@@ -173,39 +175,25 @@ module _ (f s : List ℕ) (p : Process) where
 -- ---- values below their sizes, and the same values
 
 module _ (f s v : List ℕ) (p : Process) where
-  abbrev from : ℕ
-  from = p.parameters.first
+  belows : (n i : ℕ) → all_in_range (λ k. ltb (get_or v k 0) (get_or (line_from f s (p.parameters.first + k)) 1 0)) n i
+      ≡ below_b (sizes_of (parameters_from f s n (p.parameters.first + i))) (first_values n i v)
+  unfolding all_in_range first_values each_line_of
+  belows zero i = refl
+  belows (suc n) i = let k : suc (p.parameters.first + i) ≡ p.parameters.first + suc i = omega arith in rw (belows n (suc i), k)
 
-  abbrev some : ℕ
-  some = p.parameters.count
+  pub below_is : all_in_range (λ k. ltb (get_or v k 0) (get_or (line_from f s (p.parameters.first + k)) 1 0)) p.parameters.count 0 ≡ below_in f s p v
+  unfolding below_in
+  below_is = let m : p.parameters.first + 0 ≡ p.parameters.first = omega arith in rw (belows p.parameters.count 0, m)
 
-  unfoldable pub below_left : ℕ → Bool
-  below_left i = below_b (sizes_of (parameters_from f s (some - i) (from + i))) (first_values (some - i) i v)
+module _ (v w : List ℕ) where
+  sames : (n i : ℕ) → all_in_range (λ k. eqb (get_or v k 0) (get_or w k 0)) n i ≡ same_b (first_values n i v) (first_values n i w)
+  unfolding all_in_range first_values
+  sames zero i = refl
+  sames (suc n) i = rw (sames n (suc i))
 
-  belows : (i z : ℕ) → i < some → z ≡ get_or (line_from f s (from + i)) 1 0
-      → below_left i ≡ below_b (z ∷ sizes_of (parameters_from f s (some - (i + 1)) (from + (i + 1)))) (get_or v i 0 ∷ first_values (some - (i + 1)) (i + 1) v)
-  unfolding below_left first_values
-  belows i z l ez =
-      let k : some - i ≡ suc (some - (i + 1)) = omega arith in
-      rw (each_on parameter_of (line_from f s) from some i l, ez, add-one i, k, add-one i)
-
-  pub below_start : below_left 0 ≡ below_in f s p v
-  unfolding below_left below_in
-  below_start = let k : some - 0 ≡ some = omega arith in let m : from + 0 ≡ from = omega arith in rw (k, m)
-
-  pub below_fails : (i z x : ℕ) → below_left i ≡ below_in f s p v → i < some → z ≤ x → x ≡ get_or v i 0 → z ≡ get_or (line_from f s (from + i)) 1 0 → false ≡ below_in f s p v
-  below_fails i z x inv l h ex ez = sym (belows i z l ez ∙ rw (← ex, le-ltb x z h)) ∙ inv
-
-  pub below_turn : (i z x : ℕ) → i < some → z ≡ get_or (line_from f s (from + i)) 1 0 → x ≡ get_or v i 0 → x < z → below_left i ≡ below_in f s p v → below_left (i + 1) ≡ below_in f s p v
-  unfolding below_left
-  below_turn i z x l ez ex h inv = sym (belows i z l ez ∙ rw (← ex, lt-ltb x z h)) ∙ inv
-
-  pub below_end : (i : ℕ) → some ≤ i → below_left i ≡ below_in f s p v → true ≡ below_in f s p v
-  unfolding below_left first_values
-  below_end i l inv = go ∙ inv
-    where
-      go : true ≡ below_left i
-      go = let k : some - i ≡ 0 = omega arith in rw (each_none parameter_of (line_from f s) (from + i) some i l, k)
+  pub same_is : (n : ℕ) → all_in_range (λ k. eqb (get_or v k 0) (get_or w k 0)) n 0 ≡ same_in n v w
+  unfolding same_in
+  same_is n = sames n 0
 
 -- a number counted up from the first value on
 counted : (f s v : List ℕ) (n i j a : ℕ)
@@ -249,32 +237,6 @@ module _ (f s v : List ℕ) (p : Process) where
     where
       end : k ≡ number_left i k
       end = rw (each_none parameter_of (line_from f s) (onset + i) places i l) (omega arith)
-
-module _ (v w : List ℕ) (n i : ℕ) where
-  unfoldable pub same_left : Bool
-  same_left = same_b (first_values (n - i) i v) (first_values (n - i) i w)
-
-  sames : i < n → same_left ≡ same_b (get_or v i 0 ∷ first_values (n - (i + 1)) (i + 1) v) (get_or w i 0 ∷ first_values (n - (i + 1)) (i + 1) w)
-  unfolding same_left first_values
-  sames l = let k : n - i ≡ suc (n - (i + 1)) = omega arith in rw (k, add-one i)
-
-  pub same_fails : (x y : ℕ) → i < n → x ≡ get_or v i 0 → y ≡ get_or w i 0 → (x ≡ y → ⊥) → same_left ≡ same_in n v w → false ≡ same_in n v w
-  same_fails x y l ex ey h inv = sym (sames l ∙ rw (← ex, ← ey, ne_eqb x y h)) ∙ inv
-
-pub same_start : (v w : List ℕ) (n : ℕ) → same_left v w n 0 ≡ same_in n v w
-unfolding same_left same_in
-same_start v w n = let k : n - 0 ≡ n = omega arith in rw k
-
-pub same_turn : (v w : List ℕ) (n i x y : ℕ) → i < n → x ≡ get_or v i 0 → y ≡ get_or w i 0 → x ≡ y → same_left v w n i ≡ same_in n v w → same_left v w n (i + 1) ≡ same_in n v w
-unfolding same_left
-same_turn v w n i x y l ex ey h inv = sym (sames v w n i l ∙ rw (← ex, ← ey, eq-eqb x y h)) ∙ inv
-
-pub same_end : (v w : List ℕ) (n i : ℕ) → n ≤ i → same_left v w n i ≡ same_in n v w → true ≡ same_in n v w
-unfolding same_left first_values
-same_end v w n i l inv = go ∙ inv
-  where
-    go : true ≡ same_left v w n i
-    go = let k : n - i ≡ 0 = omega arith in rw k
 
 -- ---- a row's step
 
@@ -352,31 +314,36 @@ module _ (f s : List ℕ) (p : Process) (a : ℕ) where
   abbrev many : ℕ
   many = p.rows.count
 
-  unfoldable pub with_left : ℕ → ℕ
-  with_left i = row_from (each_line_of says (line_from f s) (many - i) (top + i)) a (i + 1)
+  abbrev pub action_in : ℕ → ℕ
+  action_in k = get_or (line_from f s (top + k)) 1 0
 
-  withs : (i x : ℕ) (line : ℕ) → i < many → line ≡ get_or s (top + i) 0 → x ≡ get_or (drop line f) 1 0
-      → with_left i ≡ cond (eqb x a) (i + 1) (row_from (each_line_of says (line_from f s) (many - (i + 1)) (top + (i + 1))) a (i + 1 + 1))
-  unfolding with_left row_from
-  withs i x line l el ex = rw (each_on says (line_from f s) top many i l, ex, el, add-one (i + 1))
+  none_with : (n i : ℕ) → ((k : ℕ) → i ≤ k → k < i + n → action_in k ≡ a → ⊥) → row_from (each_line_of says (line_from f s) n (top + i)) a (suc i) ≡ 0
+  unfolding row_from each_line_of
+  none_with zero i h = refl
+  none_with (suc n) i h =
+      let k : suc (top + i) ≡ top + suc i = omega arith in
+      rw (ne_eqb (action_in i) a (h i (omega arith) (omega arith)), k) (none_with n (suc i) (λ j l u. h j (omega arith) (omega arith)))
 
-  pub with_start : with_left 0 ≡ row_with f s p a
-  unfolding with_left row_with
-  with_start = let e : many - 0 ≡ many = omega arith in let k : top + 0 ≡ top = omega arith in rw (e, k)
+  one_with : (n i j : ℕ) → i + j < i + n → action_in (i + j) ≡ a → ((k : ℕ) → i ≤ k → k < i + j → action_in k ≡ a → ⊥)
+      → row_from (each_line_of says (line_from f s) n (top + i)) a (suc i) ≡ i + j + 1
+  unfolding row_from each_line_of
+  one_with zero i j l e h = absurd (omega arith)
+  one_with (suc n) i zero l e h = let m : i + 0 ≡ i = omega arith in rw (eq-eqb (action_in i) a (rw m at e)) (omega arith)
+  one_with (suc n) i (suc j) l e h =
+      let k : suc (top + i) ≡ top + suc i = omega arith in
+      let m : i + suc j ≡ suc i + j = omega arith in
+      rw (ne_eqb (action_in i) a (h i (omega arith) (omega arith)), k) (one_with n (suc i) j (omega arith) (rw m at e) (λ x g u. h x (omega arith) (omega arith)) ∙ omega arith)
 
-  pub with_found : (i x line : ℕ) → i < many → line ≡ get_or s (top + i) 0 → x ≡ get_or (drop line f) 1 0 → x ≡ a → with_left i ≡ row_with f s p a → i + 1 ≡ row_with f s p a
-  with_found i x line l el ex h inv = sym (withs i x line l el ex ∙ rw (eq-eqb x a h)) ∙ inv
-
-  pub with_turn : (i x line : ℕ) → i < many → line ≡ get_or s (top + i) 0 → x ≡ get_or (drop line f) 1 0 → (x ≡ a → ⊥) → with_left i ≡ row_with f s p a → with_left (i + 1) ≡ row_with f s p a
-  unfolding with_left
-  with_turn i x line l el ex h inv = sym (withs i x line l el ex ∙ rw (ne_eqb x a h)) ∙ inv
-
-  pub with_end : (i : ℕ) → many ≤ i → with_left i ≡ row_with f s p a → 0 ≡ row_with f s p a
-  unfolding with_left row_from
-  with_end i l inv = go ∙ inv
-    where
-      go : 0 ≡ with_left i
-      go = rw (each_none says (line_from f s) (top + i) many i l)
+  -- the first that is found, counted from 1
+  pub with_is : (r : Option ℕ) (x : ℕ)
+      → MatchOption r ((k : ℕ) → 0 ≤ k → k < many → action_in k ≡ a → ⊥) (λ i. (0 ≤ i) × (i < many) × (action_in i ≡ a) × ((k : ℕ) → 0 ≤ k → k < i → action_in k ≡ a → ⊥))
+      → MatchOption r (x ≡ 0) (λ i. x ≡ i + 1) → x ≡ row_with f s p a
+  unfolding row_with
+  with_is None x none e = let k : top + 0 ≡ top = omega arith in e ∙ sym (rw k at (none_with many 0 (λ i l u. none i l (omega arith))))
+  with_is (Some i) x (from, below, is, before) e =
+      let k : top + 0 ≡ top = omega arith in
+      let z : 0 + i ≡ i = omega arith in
+      e ∙ sym (rw (k, z) at (one_with many 0 i (omega arith) (rw z is) (λ j l u. before j l (omega arith))))
 
 -- ---- invariant, mapping, measure
 

@@ -13,6 +13,7 @@ ghost use Rattle.design.specs.Loaded.{design_at};
 ghost use Rattle.steps.specs.Arrays.{padded, values_at, step_of, no_step_there, line_of, row_step, row_span, row_with, state_values, state_in, number_in, initial_in, below_in, same_in, invariant_in, inside_in, mapped_in, measure_in};
 
 use design::{Process, Shape};
+use layout::Lines;
 
 // What a row does at a state for a sum value: its action, whether it is enabled, the data number, and the state that it leads to.
 #[derive(Clone, Copy)]
@@ -32,11 +33,7 @@ pub const NOWHERE: u32 = limits::MAX_STATES as u32;
 pub fn few(n: u8) -> usize
     ensures { result ≡ min n 8 }
 {
-    if (n as usize) < limits::MAX_PARAMETERS {
-        n as usize
-    } else {
-        limits::MAX_PARAMETERS
-    }
+    (n as usize).min(limits::MAX_PARAMETERS)
 }
 
 // Stores the values of n terms that stand one after the other from a place on. Where steps are many, they go straight to where they are used:
@@ -54,12 +51,10 @@ pub fn put_values(
 {
     let m = few(n);
     let mut place = at;
-    let mut i = 0;
-    while i < m {
+    for i in 0..m {
         let x = eval::value(fields, place, v, sum, limits::MAX_DEPTH);
         out[i] = x.value;
         place = x.next;
-        i += 1;
     }
 }
 
@@ -78,122 +73,67 @@ pub fn values(
     out
 }
 
-// Remainder and quotient; by 0 the dividend and 0.
-fn remainder(x: u16, y: u16) -> u16
-    ensures { result ≡ x % y }
-{
-    if y == 0 { x } else { x % y }
-}
-
-fn quotient(x: u16, y: u16) -> u16
-    ensures { result ≡ x / y }
-{
-    if y == 0 { 0 } else { x / y }
-}
-
-// Stores the state that has a number: each value is the remainder by its size of what is left, from the last parameter on.
-pub fn put_state<'a>(
-    fields: &'a limits::Fields,
-    starts: &'a limits::Starts,
-    process: Process,
-    number: u16,
-    out: &mut limits::Values,
-)
-    ensures { out.new ≡ sets out.old 0 (state_values fields.now starts.now process number) }
+// Stores the state that has a number: each value is the remainder by its size of what is left, from the last parameter on. By a size of 0
+// the remainder is all that is left, and nothing is.
+pub fn put_state(lines: &Lines, process: Process, number: u16, out: &mut limits::Values)
+    ensures { out.new ≡ sets out.old 0 (state_values lines.now.fields lines.now.starts process number) }
 {
     let mut left = number;
-    let mut i = few(process.parameters.count);
-    while 0 < i {
-        i -= 1;
-        let z = layout::size(fields, starts, process.parameters.first as usize + i);
-        out[i] = remainder(left, z);
-        left = quotient(left, z);
+    for i in (0..few(process.parameters.count)).rev() {
+        let z = lines.size(process.parameters.first as usize + i);
+        out[i] = left.checked_rem(z).unwrap_or(left);
+        left = left.checked_div(z).unwrap_or(0);
     }
 }
 
 // That state.
-pub fn state<'a>(
-    fields: &'a limits::Fields,
-    starts: &'a limits::Starts,
-    process: Process,
-    number: u16,
-) -> limits::Values
-    ensures { result ≡ state_in fields.now starts.now process number }
+pub fn state(lines: &Lines, process: Process, number: u16) -> limits::Values
+    ensures { result ≡ state_in lines.now.fields lines.now.starts process number }
 {
     let mut out = [0u16; limits::MAX_PARAMETERS];
-    put_state(fields, starts, process, number, &mut out);
+    put_state(lines, process, number, &mut out);
     out
 }
 
 // The number of a state, and `NOWHERE` for all that are larger than the number of any.
-pub fn number<'a>(
-    fields: &'a limits::Fields,
-    starts: &'a limits::Starts,
-    process: Process,
-    v: &limits::Values,
-) -> usize
-    ensures { result ≡ number_in fields.now starts.now process v.now }
+pub fn number(lines: &Lines, process: Process, v: &limits::Values) -> usize
+    ensures { result ≡ number_in lines.now.fields lines.now.starts process v.now }
 {
     let mut k = 0;
-    let mut i = 0;
-    while i < process.parameters.count as usize {
-        let z = layout::size(fields, starts, process.parameters.first as usize + i);
+    for i in 0..process.parameters.count as usize {
+        let z = lines.size(process.parameters.first as usize + i);
         k = layout::onward(k, z, terms::field(v, i), NOWHERE);
-        i += 1;
     }
     k as usize
 }
 
 // The initial state.
-pub fn initial_state<'a>(
-    fields: &'a limits::Fields,
-    starts: &'a limits::Starts,
-    process: Process,
-) -> limits::Values
-    ensures { result ≡ initial_in fields.now starts.now process }
+pub fn initial_state(lines: &Lines, process: Process) -> limits::Values
+    ensures { result ≡ initial_in lines.now.fields lines.now.starts process }
 {
     let m = few(process.parameters.count);
     let mut out = [0u16; limits::MAX_PARAMETERS];
-    let mut i = 0;
-    while i < m {
-        out[i] = layout::initial(fields, starts, process.parameters.first as usize + i);
-        i += 1;
+    for i in 0..m {
+        out[i] = lines.initial(process.parameters.first as usize + i);
     }
     out
 }
 
 // Whether the values are below the sizes.
-pub fn below<'a>(
-    fields: &'a limits::Fields,
-    starts: &'a limits::Starts,
-    process: Process,
-    v: &limits::Values,
-) -> bool
-    ensures { result ≡ below_in fields.now starts.now process v.now }
+pub fn below(lines: &Lines, process: Process, v: &limits::Values) -> bool
+    ensures { result ≡ below_in lines.now.fields lines.now.starts process v.now }
 {
-    let mut i = 0;
-    while i < process.parameters.count as usize {
-        let z = layout::size(fields, starts, process.parameters.first as usize + i);
-        if z <= terms::field(v, i) {
-            return false;
-        }
-        i += 1;
-    }
-    true
+    (0..process.parameters.count as usize).all(|i| {
+        let z = lines.size(process.parameters.first as usize + i);
+        terms::field(v, i) < z
+    })
 }
 
 // Whether the first n values are the same.
 pub fn same(n: u8, v: &limits::Values, w: &limits::Values) -> bool
     ensures { result ≡ same_in n v.now w.now }
 {
-    let mut i = 0;
-    while i < n as usize {
-        if terms::field(v, i) != terms::field(w, i) {
-            return false;
-        }
-        i += 1;
-    }
-    true
+    (0..n as usize).all(|i| terms::field(v, i) == terms::field(w, i))
 }
 
 // ---- rows
@@ -209,7 +149,7 @@ fn step_by(fields: &limits::Fields, line: u16, n: u8, v: &limits::Values, sum: u
         action: layout::field_of(fields, line, 1),
         enabled: condition.holds,
         carries: data.value,
-        next: next,
+        next,
     }
 }
 
@@ -226,29 +166,16 @@ fn no_step() -> Step
 }
 
 // Where the line of row k of a process starts, rows being counted from 1.
-pub fn line_of(starts: &limits::Starts, process: Process, k: u16) -> u16
-    ensures { result ≡ line_of starts.now process k }
+pub fn line_of(lines: &Lines, process: Process, k: u16) -> u16
+    ensures { result ≡ line_of lines.now.starts process k }
 {
-    layout::line(starts, before(process.rows.first as usize + k as usize))
-}
-
-// One less, and 0 for 0.
-fn before(i: usize) -> usize
-    ensures { result ≡ i - 1 }
-{
-    if i == 0 { 0 } else { i - 1 }
+    let before = (process.rows.first as usize + k as usize).saturating_sub(1);
+    lines.line(before)
 }
 
 // What row k of a process does.
-pub fn row_step<'a>(
-    fields: &'a limits::Fields,
-    starts: &'a limits::Starts,
-    process: Process,
-    k: u16,
-    v: &limits::Values,
-    sum: u16,
-) -> Step
-    ensures { result ≡ row_step fields.now starts.now process k v.now sum }
+pub fn row_step(lines: &Lines, process: Process, k: u16, v: &limits::Values, sum: u16) -> Step
+    ensures { result ≡ row_step lines.now.fields lines.now.starts process k v.now sum }
 {
     if k == 0 {
         return no_step();
@@ -256,18 +183,13 @@ pub fn row_step<'a>(
     if (process.rows.count as u16) < k {
         return no_step();
     }
-    let line = line_of(starts, process, k);
-    step_by(fields, line, process.parameters.count, v, sum)
+    let line = line_of(lines, process, k);
+    step_by(&lines.fields, line, process.parameters.count, v, sum)
 }
 
 // Its span, and 0 where there is no row k.
-pub fn row_span<'a>(
-    fields: &'a limits::Fields,
-    starts: &'a limits::Starts,
-    process: Process,
-    k: u16,
-) -> u16
-    ensures { result ≡ row_span fields.now starts.now process k }
+pub fn row_span(lines: &Lines, process: Process, k: u16) -> u16
+    ensures { result ≡ row_span lines.now.fields lines.now.starts process k }
 {
     if k == 0 {
         return 0;
@@ -275,75 +197,47 @@ pub fn row_span<'a>(
     if (process.rows.count as u16) < k {
         return 0;
     }
-    layout::field_of(fields, line_of(starts, process, k), 2)
+    layout::field_of(&lines.fields, line_of(lines, process, k), 2)
 }
 
 // The number of the first row of an action, and 0 if there is none.
-pub fn row_with<'a>(
-    fields: &'a limits::Fields,
-    starts: &'a limits::Starts,
-    process: Process,
-    action: u16,
-) -> u16
-    ensures { result ≡ row_with fields.now starts.now process action }
+pub fn row_with(lines: &Lines, process: Process, action: u16) -> u16
+    ensures { result ≡ row_with lines.now.fields lines.now.starts process action }
 {
-    let mut i = 0;
-    while i < process.rows.count as usize {
-        let line = layout::line(starts, process.rows.first as usize + i);
-        let a = layout::field_of(fields, line, 1);
-        if a == action {
-            return i as u16 + 1;
-        }
-        i += 1;
-    }
-    0
+    (0..process.rows.count as u16)
+        .find(|i| lines.field(process.rows.first as usize + *i as usize, 1) == action)
+        .map_or(0, |i| i + 1)
 }
 
 // ---- the design
 
 // Whether the invariant holds.
-pub fn invariant<'a>(
-    fields: &'a limits::Fields,
-    starts: &'a limits::Starts,
-    shape: Shape,
-    v: &limits::Values,
-) -> bool
-    ensures { result ≡ invariant_in fields.now starts.now shape v.now }
+pub fn invariant(lines: &Lines, shape: Shape, v: &limits::Values) -> bool
+    ensures { result ≡ invariant_in lines.now.fields lines.now.starts shape v.now }
 {
-    let line = layout::line(starts, shape.invariant as usize);
-    conjuncts::holds(fields, line as usize + 1, v, 0)
+    let line = lines.line(shape.invariant as usize);
+    conjuncts::holds(&lines.fields, line as usize + 1, v, 0)
 }
 
 // Whether the values are those of a state of the implementation in which the invariant holds.
-pub fn inside<'a>(
-    fields: &'a limits::Fields,
-    starts: &'a limits::Starts,
-    shape: Shape,
-    v: &limits::Values,
-) -> bool
-    ensures { result ≡ inside_in fields.now starts.now shape v.now }
+pub fn inside(lines: &Lines, shape: Shape, v: &limits::Values) -> bool
+    ensures { result ≡ inside_in lines.now.fields lines.now.starts shape v.now }
 {
-    if below(fields, starts, shape.implementation, v) {
-        invariant(fields, starts, shape, v)
+    if below(lines, shape.implementation, v) {
+        invariant(lines, shape, v)
     } else {
         false
     }
 }
 
 // Stores the mapped values.
-pub fn put_mapped<'a>(
-    fields: &'a limits::Fields,
-    starts: &'a limits::Starts,
-    shape: Shape,
-    v: &limits::Values,
-    out: &mut limits::Values,
-)
+pub fn put_mapped(lines: &Lines, shape: Shape, v: &limits::Values, out: &mut limits::Values)
     requires { length out.old ≡ 8 }
-    ensures { out.new ≡ sets out.old 0 (mapped (design_at fields.now starts.now shape) v.now) }
+    ensures { out.new ≡ sets out.old 0 (mapped (design_at lines.now.fields lines.now.starts shape) v.now) }
 {
-    let line = layout::line(starts, shape.mapping as usize);
+    let line = lines.line(shape.mapping as usize);
     put_values(
-        fields,
+        &lines.fields,
         line as usize + 1,
         shape.specification.parameters.count,
         v,
@@ -353,29 +247,19 @@ pub fn put_mapped<'a>(
 }
 
 // The mapped state.
-pub fn mapped<'a>(
-    fields: &'a limits::Fields,
-    starts: &'a limits::Starts,
-    shape: Shape,
-    v: &limits::Values,
-) -> limits::Values
-    ensures { result ≡ mapped_in fields.now starts.now shape v.now }
+pub fn mapped(lines: &Lines, shape: Shape, v: &limits::Values) -> limits::Values
+    ensures { result ≡ mapped_in lines.now.fields lines.now.starts shape v.now }
 {
     let mut out = [0u16; limits::MAX_PARAMETERS];
-    put_mapped(fields, starts, shape, v, &mut out);
+    put_mapped(lines, shape, v, &mut out);
     out
 }
 
 // The measure.
-pub fn measure<'a>(
-    fields: &'a limits::Fields,
-    starts: &'a limits::Starts,
-    shape: Shape,
-    v: &limits::Values,
-) -> u16
-    ensures { result ≡ measure_in fields.now starts.now shape v.now }
+pub fn measure(lines: &Lines, shape: Shape, v: &limits::Values) -> u16
+    ensures { result ≡ measure_in lines.now.fields lines.now.starts shape v.now }
 {
-    let line = layout::line(starts, shape.measure as usize);
-    let m = eval::value(fields, line as usize + 1, v, 0, limits::MAX_DEPTH);
+    let line = lines.line(shape.measure as usize);
+    let m = eval::value(&lines.fields, line as usize + 1, v, 0, limits::MAX_DEPTH);
     m.value
 }

@@ -35,21 +35,8 @@ module _ (fields starts : List ℕ) (i : ℕ) where
   pub no_line : length starts ≤ i → 0 ≡ length (line_at fields starts i)
   no_line h = let e : get_or starts (i + 1) 0 ≡ 0 = get_or-eq_default starts 0 {n = i + 1} (omega arith) in rw (length_at, e) (omega arith)
 
-  module _ (start end : ℕ) (es : start ≡ get_or starts i 0) (ee : end ≡ get_or starts (i + 1) 0) where
-    line_length_lem : length (line_at fields starts i) ≡ min (end - start) (length fields - start)
-    line_length_lem = rw (es, ee) length_at
-
-    pub ends_first : end ≤ start → 0 ≡ length (line_at fields starts i)
-    ends_first h = rw line_length_lem (omega arith)
-
-    pub starts_past : length fields ≤ start → 0 ≡ length (line_at fields starts i)
-    starts_past h = rw line_length_lem (omega arith)
-
-    pub ends_within : start < end → end ≤ length fields → end - start ≡ length (line_at fields starts i)
-    ends_within g h = rw line_length_lem (omega arith)
-
-    pub ends_past : start < length fields → length fields < end → length fields - start ≡ length (line_at fields starts i)
-    ends_past g h = rw line_length_lem (omega arith)
+  pub line_there : (start end r : ℕ) → start ≡ get_or starts i 0 → end ≡ get_or starts (i + 1) 0 → r ≡ min end (length fields) - start → r ≡ length (line_at fields starts i)
+  line_there start end r es ee er = er ∙ rw (length_at, es, ee) (omega arith)
 
   -- ---- a field of it
   module _ (j n : ℕ) (en : n ≡ length (line_at fields starts i)) where
@@ -179,42 +166,12 @@ module _ (fields starts : List ℕ) (n : ℕ) where
 
 -- ---- each line passes a test
 
-module _ (test : List ℕ → Bool) (fields starts : List ℕ) (n i : ℕ) (inv : each_line_is test (lines_from fields starts n i) ≡ each_line_is test (held_lines fields starts n)) where
-  module _ (h : i < n) (r : Bool) (er : r ≡ test (line_at fields starts i)) where
-    pub each_stop : r ≡ false → false ≡ each_line_is test (held_lines fields starts n)
-    unfolding each_line_is
-    each_stop e = rw (next_line fields starts n i h, ← er, e) at inv
-
-    pub each_turn : r ≡ true → each_line_is test (lines_from fields starts n (i + 1)) ≡ each_line_is test (held_lines fields starts n)
-    unfolding each_line_is
-    each_turn e = rw (next_line fields starts n i h, ← er, e) at inv
-
-  pub each_end : n ≤ i → true ≡ each_line_is test (held_lines fields starts n)
-  unfolding each_line_is
-  each_end h = rw (no_lines fields starts n i h) at inv
+pub each_number : (test : List ℕ → Bool) (fields starts : List ℕ) (n i : ℕ) → all_in_range (λ j. test (line_at fields starts j)) n i ≡ each_line_is test (each_line_of (λ line. line) (line_at fields starts) n i)
+unfolding all_in_range each_line_is each_line_of
+each_number test fields starts zero i = refl
+each_number test fields starts (suc n) i = rw (each_number test fields starts n (suc i))
 
 -- ---- each kind
-
-module _ (tally : List ℕ) (k : ℕ) (inv : all_in_range (kind_fits tally) (suc last_kind - k) k ≡ tally_fits tally) where
-  module _ (h : k ≤ last_kind) (r : Bool) (er : r ≡ kind_fits tally k) where
-    one_more : suc last_kind - k ≡ suc (suc last_kind - (k + 1))
-    one_more = omega arith
-
-    pub kind_stop : r ≡ false → false ≡ tally_fits tally
-    unfolding all_in_range
-    kind_stop e = rw (one_more, ← er, e) at inv
-
-    pub kind_turn : r ≡ true → all_in_range (kind_fits tally) (suc last_kind - (k + 1)) (k + 1) ≡ tally_fits tally
-    unfolding all_in_range
-    kind_turn e = rw (one_more, ← er, e, ← add-one k) at inv
-
-  pub kind_end : last_kind < k → true ≡ tally_fits tally
-  unfolding all_in_range
-  kind_end h = let z : suc last_kind - k ≡ 0 = omega arith in rw z at inv
-
-pub kind_start : (tally : List ℕ) → all_in_range (kind_fits tally) (suc last_kind - 0) 0 ≡ tally_fits tally
-unfolding last_in
-kind_start tally = refl
 
 module _ (tally : List ℕ) (k : ℕ) (e : Entry) (ee : e ≡ entry_in whole_text k) where
   pub kind_none : e.most ≡ 0 → true ≡ kind_fits tally k

@@ -1,5 +1,6 @@
 // Faults 4 and 5 of the lines that a desk's arrays hold: kinds and counts, fields and their bounds, by the table of kinds (crate kinds).
 // Every function answers any arrays. What is tested is in design/specs/Tests; that it is the absence of the faults, in design/proofs.
+// All but `counts_of` take slices of any length: a `&Lines` would ask more of callers than is needed.
 // The product of sizes, the last of fault 5, is counted in the crate layout.
 #![tactic(auto)]
 
@@ -33,15 +34,7 @@ pub fn layout_fits<'a>(fields: &'a [u16], starts: &'a [u16], n: usize) -> bool
 pub fn numbers_fit<'a>(fields: &'a [u16], starts: &'a [u16], n: usize) -> bool
     ensures { result ≡ each_line_is numbers_fit (held_lines fields.now starts.now n) }
 {
-    let mut i = 0;
-    while i < n {
-        if line_numbers_fit(fields, starts, i) {
-            i += 1;
-        } else {
-            return false;
-        }
-    }
-    true
+    (0..n).all(|i| line_numbers_fit(fields, starts, i))
 }
 
 // How many of the first n lines are of kinds 1 to 4 and 8, whose ranks are their numbers.
@@ -64,8 +57,7 @@ fn kinds_climb<'a>(fields: &'a [u16], starts: &'a [u16], n: usize) -> bool
     ensures { result ≡ climbs whole_text 0 (held_lines fields.now starts.now n) }
 {
     let mut lowest = 0;
-    let mut i = 0;
-    while i < n {
+    for i in 0..n {
         let entry = kinds::entry_at(line_field(fields, starts, i, 0));
         if entry.most == 0 {
             return false;
@@ -74,7 +66,6 @@ fn kinds_climb<'a>(fields: &'a [u16], starts: &'a [u16], n: usize) -> bool
             return false;
         }
         lowest = entry.rank;
-        i += 1;
     }
     true
 }
@@ -93,12 +84,10 @@ fn count_ranks<'a>(fields: &'a [u16], starts: &'a [u16], n: usize, tally: &mut T
     requires { tally.old ≡ replicate ranks 0 }
     ensures { Tallied (held_lines fields.now starts.now n) tally.new }
 {
-    let mut i = 0;
-    while i < n {
+    for i in 0..n {
         let entry = kinds::entry_at(line_field(fields, starts, i, 0));
         let rank = entry.rank;
-        tally[rank] = tally[rank] + 1;
-        i += 1;
+        tally[rank] += 1;
     }
 }
 
@@ -106,15 +95,7 @@ fn count_ranks<'a>(fields: &'a [u16], starts: &'a [u16], n: usize, tally: &mut T
 fn tally_fits(tally: &Tally) -> bool
     ensures { result ≡ tally_fits tally.now }
 {
-    let mut kind = 0;
-    while kind <= kinds::LAST_KIND {
-        if kind_fits(tally, kind) {
-            kind += 1;
-        } else {
-            return false;
-        }
-    }
-    true
+    (0..kinds::LAST_KIND + 1).all(|kind| kind_fits(tally, kind))
 }
 
 // Whether there are no fewer and no more lines of a kind's rank; of what is no kind there are none.
@@ -134,15 +115,7 @@ fn kind_fits(tally: &Tally, kind: u16) -> bool
 fn lengths_fit<'a>(fields: &'a [u16], starts: &'a [u16], n: usize) -> bool
     ensures { result ≡ each_line_is (length_fits whole_text) (held_lines fields.now starts.now n) }
 {
-    let mut i = 0;
-    while i < n {
-        if length_fits(fields, starts, i) {
-            i += 1;
-        } else {
-            return false;
-        }
-    }
-    true
+    (0..n).all(|i| length_fits(fields, starts, i))
 }
 
 // Whether line i has exactly the fields of its kind, or at least those before its terms.
@@ -191,17 +164,7 @@ fn line_length<'a>(fields: &'a [u16], starts: &'a [u16], i: usize) -> usize
     }
     let start = terms::field(starts, i) as usize;
     let end = terms::field(starts, i + 1) as usize;
-    if end <= start {
-        return 0;
-    }
-    if fields.len() <= start {
-        return 0;
-    }
-    if end <= fields.len() {
-        end - start
-    } else {
-        fields.len() - start
-    }
+    end.min(fields.len()).saturating_sub(start)
 }
 
 // Field j of line i, and 0 past its end.

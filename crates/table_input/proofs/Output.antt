@@ -1,10 +1,11 @@
 -- The 31 bytes of a report are all of the output; a full room stands for every text that begins with it.
-use Prim.Native.Nat.{ℕ, ◌-◌, ◌≤◌}
+use Prim.Native.Nat.{ℕ, ◌≤◌, min}
+use Rattle.std.proofs.lemmas.List.{take_min}
 use mathlib.Core.Path.{◌≡◌, refl, sym, ap, ◌∙◌}
 use mathlib.Core.List.{List, [], append-nil}
 use native.Mathlib.Omega.{arith}
 use borrow.Author.Tests.{le-ltb}
-use lib.ListN.{length, take, drop, drop_of_length-le}
+use lib.ListN.{length, take, drop_of_length-le}
 use lib.Seq.{take_all}
 use Rattle.columns.specs.Columns.{columns_of}
 use Rattle.reader.specs.Line.{written}
@@ -13,6 +14,8 @@ use Rattle.writer.specs.Report.{report_bytes}
 use Rattle.verdicts.specs.declared.Report.{Report}
 use Rattle.checker.specs.OneCall.{judged_of, buffer_written}
 use Rattle.checker.proofs.Cut.{judged_cut}
+use Rattle.std.specs.Prelude.{Ok, Err}
+use Rattle.std.specs.declared.result.Result.{Result}
 use Rattle.std.specs.declared.io.Error.{Error}
 use Rattle.streams.specs.declared.Input.{Input}
 use Rattle.streams.specs.declared.Input.TheVariants as input
@@ -31,12 +34,9 @@ buffer_all text b h =
     let m : length b ≤ 31 = omega arith in
     rw (le-ltb (length b) 31 l, drop_of_length-le b m) (append-nil (report_bytes (judged_of text)))
 
-module _ (n : ℕ) (room b after : List ℕ) (h : length b ≡ 31) where
-  pub start_part : after ≡ buffer_written (take (n - 0) (drop 0 room)) b → after ≡ report_bytes (judged_of (take n room))
-  start_part e = let z : n - 0 ≡ n = omega arith in e ∙ (rw z (buffer_all (take n room) b h))
-
-  pub start_all : length room ≤ n → after ≡ buffer_written room b → after ≡ report_bytes (judged_of (take n room))
-  start_all l e = e ∙ (buffer_all room b h ∙ ap (λ t. report_bytes (judged_of t)) (sym (take_all n room l)))
+pub start_report : (n k : ℕ) (room b after : List ℕ) → length b ≡ 31 → k ≡ min n (length room) → after ≡ buffer_written (take k room) b
+    → after ≡ report_bytes (judged_of (take n room))
+start_report n k room b after h ek e = e ∙ (rw ek (buffer_all (take (min n (length room)) room) b h) ∙ ap (λ t. report_bytes (judged_of t)) (take_min n room))
 
 -- ---- the output
 
@@ -56,13 +56,13 @@ module _ (r : Report) (after : List ℕ) (k : ℕ) (z : k ≡ 31) (e : after ≡
   taken : take k after ≡ report_bytes r
   taken = all_taken ∙ e
 
-module _ (i : Input) (room after : List ℕ) (k : ℕ) (z : k ≡ 31) where
-  pub ended : (n : ℕ) → i ≡ input.Ended n → after ≡ report_bytes (judged_of (take n room)) → take k after ≡ output_of i room
+module _ (i : Result Input Error) (room after : List ℕ) (k : ℕ) (z : k ≡ 31) where
+  pub ended : (n : ℕ) → i ≡ Ok (input.Ended n) → after ≡ report_bytes (judged_of (take n room)) → take k after ≡ output_of i room
   unfolding output_of
   ended n ei e = rw ei (taken (judged_of (take n room)) after k z e)
 
   -- where the end was told the input is what was read
-  pub ended_input : (n : ℕ) → i ≡ input.Ended n → after ≡ report_bytes (judged_of (take n room))
+  pub ended_input : (n : ℕ) → i ≡ Ok (input.Ended n) → after ≡ report_bytes (judged_of (take n room))
       → (text : List ℕ) → IsInput i room text → take k after ≡ report_bytes (judged_of text)
   ended_input n ei e text s =
       let same : text ≡ take n room = rw ei at s in
@@ -71,12 +71,12 @@ module _ (i : Input) (room after : List ℕ) (k : ℕ) (z : k ≡ 31) where
   full_report : after ≡ report_bytes (judged_of (take 28673 room)) → after ≡ report_bytes (judged_of room)
   full_report e = e ∙ ap report_bytes (judged_cut room)
 
-  pub full : i ≡ input.Full → after ≡ report_bytes (judged_of (take 28673 room)) → take k after ≡ output_of i room
+  pub full : i ≡ Ok input.Full → after ≡ report_bytes (judged_of (take 28673 room)) → take k after ≡ output_of i room
   unfolding output_of
   full ei e = rw ei (taken (judged_of room) after k z (full_report e))
 
   -- a full room is the start of the input
-  pub full_input : i ≡ input.Full → length room ≡ 28673 → after ≡ report_bytes (judged_of (take 28673 room))
+  pub full_input : i ≡ Ok input.Full → length room ≡ 28673 → after ≡ report_bytes (judged_of (take 28673 room))
       → (text : List ℕ) → IsInput i room text → take k after ≡ report_bytes (judged_of text)
   full_input ei l e text s =
       let at_room : take (length room) text ≡ room = rw ei at s in
@@ -84,7 +84,7 @@ module _ (i : Input) (room after : List ℕ) (k : ℕ) (z : k ≡ 31) where
       taken (judged_of room) after k z (full_report e)
       ∙ (ap (λ t. report_bytes (judged_of t)) (sym start) ∙ ap report_bytes (judged_cut text))
 
-module _ (i : Input) (room : List ℕ) (error : Error) (ei : i ≡ input.Failed error) where
+module _ (i : Result Input Error) (room : List ℕ) (error : Error) (ei : i ≡ Err error) where
   pub failed : [] ≡ output_of i room
   unfolding output_of
   failed = rw ei

@@ -8,6 +8,7 @@ ghost use Rattle.writer.specs.Report.{report_bytes};
 ghost use Rattle.checker.specs.OneCall.{judged_of};
 ghost use Rattle.table_input.specs.Output.{IsInput, output_of};
 
+use std::io;
 use streams::Input;
 
 // The longest text that is not turned down for its length, and one byte: no report depends on more.
@@ -17,18 +18,17 @@ pub const ENOUGH: usize = limits::MAX_BYTES + 1;
 // read.
 pub fn put_output(
     room: &[u8; ENOUGH],
-    input: Input,
+    input: io::Result<Input>,
     output: &mut [u8; writer::REPORT_BYTES],
 ) -> usize
     ensures prefix_len { IsPrefixLen result output.new }
     ensures output_after { take result output.new ≡ output_of input room.now }
     ensures by_index { (text : List ℕ) → IsInput input room.now text → take result output.new ≡ report_bytes (judged_of text) }
 {
-    let bytes: &[u8] = room;
     match input {
-        Input::Ended(n) => put_start(bytes, n, output),
-        Input::Full => put_start(bytes, ENOUGH, output),
-        Input::Failed(_) => 0,
+        Ok(Input::Ended(n)) => put_start(room, n, output),
+        Ok(Input::Full) => put_start(room, ENOUGH, output),
+        Err(_) => 0,
     }
 }
 
@@ -37,11 +37,6 @@ fn put_start(bytes: &[u8], n: usize, output: &mut [u8; writer::REPORT_BYTES]) ->
     ensures value { result ≡ 31 }
     ensures output_after { output.new ≡ report_bytes (judged_of (take n bytes.now)) }
 {
-    let report: &mut [u8] = output;
-    if n < bytes.len() {
-        checker::check_design(&bytes[0..n], report);
-    } else {
-        checker::check_design(bytes, report);
-    }
+    checker::check_design(&bytes[..n.min(bytes.len())], output);
     writer::REPORT_BYTES
 }

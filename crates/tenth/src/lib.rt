@@ -10,6 +10,7 @@ ghost use Rattle.layout.specs.Sizes.{Fits};
 ghost use Rattle.tenth.specs.Tenth.{sure_by, row_by, rows_by, mapping_by, invariant_by, others_by, apart_as_read, asked_by, tenth_by};
 
 use design::{Process, Shape};
+use layout::Lines;
 
 // Whether nothing could lack a value.
 fn sure(plan: &[u16; row_plan::LENGTH]) -> bool
@@ -20,9 +21,8 @@ fn sure(plan: &[u16; row_plan::LENGTH]) -> bool
 
 // Of the row of a process after i others, which is number n of the plan: condition and mark, for each sum value, and, where it is enabled,
 // its data and next values. What is so at the state is found once for all rows (crate divisors).
-fn row<'a>(
-    fields: &'a limits::Fields,
-    starts: &'a limits::Starts,
+fn row(
+    lines: &Lines,
     shape: Shape,
     process: Process,
     plan: &[u16; row_plan::LENGTH],
@@ -33,22 +33,28 @@ fn row<'a>(
 ) -> bool
     requires n_bound { n < 64 }
     requires so_value { so ≡ so_at v.now }
-    ensures { result ≡ row_by fields.now starts.now shape process plan.now n (i + 1) v.now }
+    ensures { result ≡ row_by lines.now.fields lines.now.starts shape process plan.now n (i + 1) v.now }
 {
     if divisors::safe_where(row_plan::risk(plan, n), so, v) {
         return true;
     }
-    let line = steps::line_of(starts, process, i as u16 + 1);
+    let line = steps::line_of(lines, process, i as u16 + 1);
     let planned = row_plan::planned(plan, n);
-    let place = marks::place_from(starts, shape, planned.mark.at);
-    let span = layout::field_of(fields, line, 2);
-    defined::row(fields, line, process.parameters.count, place, span, v)
+    let place = marks::place_from(lines, shape, planned.mark.at);
+    let span = layout::field_of(&lines.fields, line, 2);
+    defined::row(
+        &lines.fields,
+        line,
+        process.parameters.count,
+        place,
+        span,
+        v,
+    )
 }
 
 // Of all rows of a process, whose first is number `from` of the plan.
-fn rows<'a>(
-    fields: &'a limits::Fields,
-    starts: &'a limits::Starts,
+fn rows(
+    lines: &Lines,
     shape: Shape,
     process: Process,
     plan: &[u16; row_plan::LENGTH],
@@ -58,84 +64,58 @@ fn rows<'a>(
 ) -> bool
     requires count_bound { from + process.rows.count ≤ 64 }
     requires so_value { so ≡ so_at v.now }
-    ensures { result ≡ rows_by fields.now starts.now shape process plan.now from v.now }
+    ensures { result ≡ rows_by lines.now.fields lines.now.starts shape process plan.now from v.now }
 {
-    let mut i = 0;
-    while i < process.rows.count {
-        if !row(
-            fields,
-            starts,
-            shape,
-            process,
-            plan,
-            from + i as usize,
-            i,
-            so,
-            v,
-        ) {
+    for i in 0..process.rows.count {
+        if !row(lines, shape, process, plan, from + i as usize, i, so, v) {
             return false;
         }
-        i += 1;
     }
     true
 }
 
 // Of the mapping, which may be known to be safe.
-fn mapping<'a>(
-    fields: &'a limits::Fields,
-    starts: &'a limits::Starts,
-    shape: Shape,
-    safe: bool,
-    v: &limits::Values,
-) -> bool
-    ensures { result ≡ mapping_by fields.now starts.now shape safe v.now }
+fn mapping(lines: &Lines, shape: Shape, safe: bool, v: &limits::Values) -> bool
+    ensures { result ≡ mapping_by lines.now.fields lines.now.starts shape safe v.now }
 {
     if safe {
         return true;
     }
-    defined::mapping(fields, starts, shape, v)
+    defined::mapping(lines, shape, v)
 }
 
 // Of the invariant.
-fn invariant<'a>(
-    fields: &'a limits::Fields,
-    starts: &'a limits::Starts,
-    shape: Shape,
-    safe: bool,
-    v: &limits::Values,
-) -> bool
-    ensures { result ≡ invariant_by fields.now starts.now shape safe v.now }
+fn invariant(lines: &Lines, shape: Shape, safe: bool, v: &limits::Values) -> bool
+    ensures { result ≡ invariant_by lines.now.fields lines.now.starts shape safe v.now }
 {
     if safe {
         return true;
     }
-    defined::invariant(fields, starts, shape, v)
+    defined::invariant(lines, shape, v)
 }
 
 // Of all but invariant and measure, where the invariant holds: the mapping, the rows, and those of the specification at the mapped state.
-fn others<'a>(
-    fields: &'a limits::Fields,
-    starts: &'a limits::Starts,
+fn others(
+    lines: &Lines,
     shape: Shape,
     plan: &[u16; row_plan::LENGTH],
     safe: bool,
     v: &limits::Values,
 ) -> bool
     requires { Fits shape }
-    ensures { result ≡ others_by fields.now starts.now shape plan.now safe v.now }
+    ensures { result ≡ others_by lines.now.fields lines.now.starts shape plan.now safe v.now }
 {
-    if !mapping(fields, starts, shape, safe, v) {
+    if !mapping(lines, shape, safe, v) {
         return false;
     }
     let implementation = shape.implementation;
     let so = divisors::so(v);
-    if !rows(fields, starts, shape, implementation, plan, 0, so, v) {
+    if !rows(lines, shape, implementation, plan, 0, so, v) {
         return false;
     }
-    let t = steps::mapped(fields, starts, shape, v);
+    let t = steps::mapped(lines, shape, v);
     rows(
-        fields,
-        starts,
+        lines,
         shape,
         shape.specification,
         plan,
@@ -146,65 +126,57 @@ fn others<'a>(
 }
 
 // Whether criterion 10 holds, the measure apart.
-pub fn apart<'a>(
-    fields: &'a limits::Fields,
-    starts: &'a limits::Starts,
+pub fn apart(
+    lines: &Lines,
     shape: Shape,
     plan: &[u16; row_plan::LENGTH],
     v: &limits::Values,
 ) -> bool
     requires { Fits shape }
-    ensures { result ≡ apart_as_read fields.now starts.now shape plan.now v.now }
+    ensures { result ≡ apart_as_read lines.now.fields lines.now.starts shape plan.now v.now }
 {
     if sure(plan) {
         return true;
     }
     let safe = divisors::safe_at(row_plan::risk(plan, row_plan::KINDS_RISK), v);
-    if !invariant(fields, starts, shape, safe, v) {
+    if !invariant(lines, shape, safe, v) {
         return false;
     }
-    if !steps::invariant(fields, starts, shape, v) {
+    if !steps::invariant(lines, shape, v) {
         return true;
     }
-    others(fields, starts, shape, plan, safe, v)
+    others(lines, shape, plan, safe, v)
 }
 
 // Whether criterion 10 holds, where it is asked.
-fn asked<'a>(
-    fields: &'a limits::Fields,
-    starts: &'a limits::Starts,
-    shape: Shape,
-    plan: &[u16; row_plan::LENGTH],
-    v: &limits::Values,
-) -> bool
+fn asked(lines: &Lines, shape: Shape, plan: &[u16; row_plan::LENGTH], v: &limits::Values) -> bool
     requires { Fits shape }
-    ensures { result ≡ asked_by fields.now starts.now shape plan.now v.now }
+    ensures { result ≡ asked_by lines.now.fields lines.now.starts shape plan.now v.now }
 {
-    if !apart(fields, starts, shape, plan, v) {
+    if !apart(lines, shape, plan, v) {
         return false;
     }
     if divisors::safe_at(row_plan::risk(plan, row_plan::KINDS_RISK), v) {
         return true;
     }
-    if !steps::invariant(fields, starts, shape, v) {
+    if !steps::invariant(lines, shape, v) {
         return true;
     }
-    defined::measure(fields, starts, shape, v)
+    defined::measure(lines, shape, v)
 }
 
 // Whether criterion 10 holds. It is small enough for the compiler to put it into the walk, so that a table that is sure pays no call.
-pub fn holds<'a>(
-    fields: &'a limits::Fields,
-    starts: &'a limits::Starts,
+pub fn holds(
+    lines: &Lines,
     shape: Shape,
     plan: &[u16; row_plan::LENGTH],
     v: &limits::Values,
 ) -> bool
     requires { Fits shape }
-    ensures { result ≡ tenth_by fields.now starts.now shape plan.now v.now }
+    ensures { result ≡ tenth_by lines.now.fields lines.now.starts shape plan.now v.now }
 {
     if sure(plan) {
         return true;
     }
-    asked(fields, starts, shape, plan, v)
+    asked(lines, shape, plan, v)
 }

@@ -1,10 +1,10 @@
 -- What it means that the check passed, for demands 1 and 2 alike:
---   passed   where the check answered Next k for a part, a well-formed tree within the depth is read from the part's fields; it took k of
+--   passed   where the check answered Some k for a part, a well-formed tree within the depth is read from the part's fields; it took k of
 --            them, and they are what it is printed as; and it is read so wherever these fields stand, whatever follows them (in the
 --            desk's copy too, where the evaluator reads it);
 --   passes   a part that begins with a well-formed term within the depth passes.
 -- Each stands once for values (-v) and once for formulas (-f).
-use mathlib.Core.Path.{◌≡◌, refl, ap, ◌∙◌}
+use mathlib.Core.Path.{◌≡◌, ap, ◌∙◌}
 use mathlib.Core.Bool.{Bool, true}
 use mathlib.Core.List.{List, ◌++◌}
 use Prim.Native.Nat.{ℕ, ◌≤◌, ◌*◌}
@@ -17,7 +17,7 @@ use Rattle.terms.proofs.Printing.{Printed, read_print_v, read_print_f, read_more
 use Rattle.reader.specs.Line.{fields_of}
 use Rattle.reader.proofs.Line.{rest_fields}
 use Rattle.term_check.specs.Checked.{checked_v, checked_f}
-use Rattle.term_check.specs.declared.Checked.TheVariants.{Next}
+use Rattle.std.specs.Prelude.{Some}
 use Rattle.term_check.proofs.Laws.{good_of, took_of}
 
 -- a part begins with a term of k fields, which is read by p as the tree
@@ -58,14 +58,14 @@ module _ (n : ℕ) (row : Bool) (d : ℕ) (part : List ℕ) where
   f_ok t = ok_f t n row
 
   module _ (k : ℕ) where
-    pub passed_v : checked_v n row (read_v d (fields_of part)) ≡ Next k → Begins v v_ok print_v depth_v d part k
+    pub passed_v : Some k ≡ checked_v n row (read_v d (fields_of part)) → Begins v v_ok print_v depth_v d part k
     passed_v e =
-        let good = good_of v v_ok (fields_of part) refl e in
-        begins v v_ok print_v depth_v d part k good (took_of v v_ok (fields_of part) refl e)
+        let good = good_of v v_ok (fields_of part) e in
+        begins v v_ok print_v depth_v d part k good (took_of v v_ok (fields_of part) e)
         (read_print_v n row d (fields_of part) good) (read_more_v n row d (fields_of part) good)
 
-    pub passed_f : checked_f n row (read_f d (fields_of part)) ≡ Next k → Begins f f_ok print_f depth_f d part k
+    pub passed_f : Some k ≡ checked_f n row (read_f d (fields_of part)) → Begins f f_ok print_f depth_f d part k
     passed_f e =
-        let good = good_of f f_ok (fields_of part) refl e in
-        begins f f_ok print_f depth_f d part k good (took_of f f_ok (fields_of part) refl e)
+        let good = good_of f f_ok (fields_of part) e in
+        begins f f_ok print_f depth_f d part k good (took_of f f_ok (fields_of part) e)
         (read_print_f n row d (fields_of part) good) (read_more_f n row d (fields_of part) good)

@@ -9,132 +9,77 @@ ghost use Rattle.terms.specs.Read.{read_v, read_f};
 ghost use Rattle.reader.specs.Line.{fields_of};
 ghost use Rattle.term_check.specs.Checked.{checked_v, checked_f};
 
-use columns::Field;
 use terms::{FormulaMark, ValueMark};
 
-// How many fields a well-formed term takes, so that what comes next starts after them; or that it is no such term (fault 6).
-#[derive(Clone, Copy)]
-pub enum Checked {
-    Next(usize),
-    Wrong,
-}
-
-// For the value that a part of a line begins with, over so many parameters, in a row or not, of at most this depth.
+// How many fields the value takes that a part of a line begins with, over so many parameters, in a row or not, of at most this depth, so that
+// what comes next starts after them; none where it is no such well-formed value (fault 6).
 #[cycle(formula_value)]
-pub fn value(part: &[u8], params: u16, row: bool, depth: usize) -> Checked
+pub fn value(part: &[u8], params: u16, row: bool, depth: usize) -> Option<usize>
     ensures { result ≡ checked_v params row (read_v depth (fields_of part.now)) }
 {
     if depth == 0 {
-        return Checked::Wrong; // a value here would be too deep
+        return None; // a value here would be too deep
     }
-    let first = reader::field_at(part, 0);
-    let Field::Number(m) = first else {
-        return Checked::Wrong;
-    };
-    let mark = terms::value_mark(m);
+    let mark = terms::value_mark(reader::field_at(part, 0)?);
     let body = reader::rest(part, 1);
     match mark {
         ValueMark::Number => {
-            let number = reader::field_at(body, 0);
-            let Field::Number(_) = number else {
-                return Checked::Wrong;
-            };
-            Checked::Next(2)
+            reader::field_at(body, 0)?;
+            Some(2)
         }
         ValueMark::Parameter => {
-            let number = reader::field_at(body, 0);
-            let Field::Number(i) = number else {
-                return Checked::Wrong;
-            };
-            if i < params {
-                Checked::Next(2)
-            } else {
-                Checked::Wrong
-            }
+            let i = reader::field_at(body, 0)?;
+            if i < params { Some(2) } else { None }
         }
         ValueMark::SumValue => {
             if row {
-                Checked::Next(1)
+                Some(1)
             } else {
-                Checked::Wrong // a sum value outside a row
+                None // a sum value outside a row
             }
         }
         ValueMark::Arithmetic(_) => {
-            let a = value(body, params, row, depth - 1);
-            let Checked::Next(n) = a else {
-                return Checked::Wrong;
-            };
-            let b = value(reader::rest(body, n), params, row, depth - 1);
-            let Checked::Next(k) = b else {
-                return Checked::Wrong;
-            };
-            Checked::Next(1 + n + k)
+            let a = value(body, params, row, depth - 1)?;
+            let b = value(reader::rest(body, a), params, row, depth - 1)?;
+            Some(1 + a + b)
         }
         ValueMark::Choice => {
-            let f = formula(body, params, row, depth - 1);
-            let Checked::Next(n) = f else {
-                return Checked::Wrong;
-            };
-            let second = reader::rest(body, n);
-            let a = value(second, params, row, depth - 1);
-            let Checked::Next(k) = a else {
-                return Checked::Wrong;
-            };
-            let b = value(reader::rest(second, k), params, row, depth - 1);
-            let Checked::Next(j) = b else {
-                return Checked::Wrong;
-            };
-            Checked::Next(1 + n + k + j)
+            let f = formula(body, params, row, depth - 1)?;
+            let second = reader::rest(body, f);
+            let a = value(second, params, row, depth - 1)?;
+            let b = value(reader::rest(second, a), params, row, depth - 1)?;
+            Some(1 + f + a + b)
         }
-        ValueMark::Wrong => Checked::Wrong,
+        ValueMark::Wrong => None,
     }
 }
 
-// For the formula that a part of a line begins with.
+// The same for the formula that a part of a line begins with.
 #[cycle(formula_value)]
-pub fn formula(part: &[u8], params: u16, row: bool, depth: usize) -> Checked
+pub fn formula(part: &[u8], params: u16, row: bool, depth: usize) -> Option<usize>
     ensures { result ≡ checked_f params row (read_f depth (fields_of part.now)) }
 {
     if depth == 0 {
-        return Checked::Wrong; // a formula here would be too deep
+        return None; // a formula here would be too deep
     }
-    let first = reader::field_at(part, 0);
-    let Field::Number(m) = first else {
-        return Checked::Wrong;
-    };
-    let mark = terms::formula_mark(m);
+    let mark = terms::formula_mark(reader::field_at(part, 0)?);
     let body = reader::rest(part, 1);
     match mark {
-        FormulaMark::Constant(_) => Checked::Next(1),
+        FormulaMark::Constant(_) => Some(1),
         FormulaMark::Comparison(_) => {
-            let a = value(body, params, row, depth - 1);
-            let Checked::Next(n) = a else {
-                return Checked::Wrong;
-            };
-            let b = value(reader::rest(body, n), params, row, depth - 1);
-            let Checked::Next(k) = b else {
-                return Checked::Wrong;
-            };
-            Checked::Next(1 + n + k)
+            let a = value(body, params, row, depth - 1)?;
+            let b = value(reader::rest(body, a), params, row, depth - 1)?;
+            Some(1 + a + b)
         }
         FormulaMark::Negation => {
-            let f = formula(body, params, row, depth - 1);
-            let Checked::Next(n) = f else {
-                return Checked::Wrong;
-            };
-            Checked::Next(1 + n)
+            let f = formula(body, params, row, depth - 1)?;
+            Some(1 + f)
         }
         FormulaMark::Connective(_) => {
-            let f = formula(body, params, row, depth - 1);
-            let Checked::Next(n) = f else {
-                return Checked::Wrong;
-            };
-            let g = formula(reader::rest(body, n), params, row, depth - 1);
-            let Checked::Next(k) = g else {
-                return Checked::Wrong;
-            };
-            Checked::Next(1 + n + k)
+            let f = formula(body, params, row, depth - 1)?;
+            let g = formula(reader::rest(body, f), params, row, depth - 1)?;
+            Some(1 + f + g)
         }
-        FormulaMark::Wrong => Checked::Wrong,
+        FormulaMark::Wrong => None,
     }
 }

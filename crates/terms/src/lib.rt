@@ -51,14 +51,25 @@ pub enum FormulaMark {
     Wrong,
 }
 
+// The marks of leaves.
+pub const NUMBER: u16 = 0;
+
+pub const PARAMETER: u16 = 1;
+
+pub const SUM_VALUE: u16 = 2;
+
+pub const TRUE: u16 = 10;
+
+pub const FALSE: u16 = 11;
+
 // The mark that a value's first field is.
 pub fn value_mark(m: u16) -> ValueMark
     ensures { result ≡ value_mark m }
 {
     match m {
-        0 => ValueMark::Number,
-        1 => ValueMark::Parameter,
-        2 => ValueMark::SumValue,
+        NUMBER => ValueMark::Number,
+        PARAMETER => ValueMark::Parameter,
+        SUM_VALUE => ValueMark::SumValue,
         3 => ValueMark::Arithmetic(Arith::Sum),
         4 => ValueMark::Arithmetic(Arith::Difference),
         5 => ValueMark::Arithmetic(Arith::Remainder),
@@ -72,8 +83,8 @@ pub fn formula_mark(m: u16) -> FormulaMark
     ensures { result ≡ formula_mark m }
 {
     match m {
-        10 => FormulaMark::Constant(true),
-        11 => FormulaMark::Constant(false),
+        TRUE => FormulaMark::Constant(true),
+        FALSE => FormulaMark::Constant(false),
         12 => FormulaMark::Comparison(Compare::Equal),
         13 => FormulaMark::Comparison(Compare::Less),
         14 => FormulaMark::Negation,

@@ -7,7 +7,6 @@
 
 ghost use Rattle.std.specs.Prelude.{◌≤◌, length};
 
-use columns::Field;
 use std::io;
 use std::io::Print;
 use streams::Input;
@@ -32,10 +31,9 @@ const ROOM: usize = 28680;
 
 fn main(rt: HostRuntime) -> io::Result<()> {
     let mut input = [0u8; CASES];
-    match streams::read_input(&mut rt.stdin(), &mut input) {
+    match streams::read_input(&mut rt.stdin(), &mut input)? {
         Input::Ended(n) => run_cases(&rt, &input[..n])?,
         Input::Full => run_cases(&rt, &input)?,
-        Input::Failed(error) => return Err(error),
     }
     run_limits(&rt)?;
     run_written(&rt)?;
@@ -44,6 +42,7 @@ fn main(rt: HostRuntime) -> io::Result<()> {
 
 // ---- the cases of standard input
 
+// The bytes of a case may be any, line ends too, so a split of the input is no plainer than the places of two brackets.
 fn run_cases<P: Print>(rt: &P, input: &[u8]) -> io::Result<()> {
     let mut at = 0;
     while at < input.len() {
@@ -60,22 +59,17 @@ fn find(input: &[u8], from: usize, byte: u8) -> usize
     requires { from ≤ length input.now }
     ensures { (from ≤ result) × (result ≤ length input.now) }
 {
-    let mut at = from;
-    while at < input.len() {
-        if input[at] == byte {
-            return at;
-        }
-        at += 1;
+    match input[from..].iter().position(|b| *b == byte) {
+        Some(i) => from + i,
+        None => input.len(),
     }
-    at
 }
 
 // The bytes are given with the bracket before them.
 fn run_case<P: Print>(rt: &P, words: &[u8], bytes: &[u8]) -> io::Result<()> {
-    let from = 1;
-    if from <= bytes.len() {
+    if let Some((_, bytes)) = bytes.split_first() {
         rt.write_all(words)?;
-        write_case(rt, &bytes[from..])?;
+        write_case(rt, bytes)?;
     }
     Ok(())
 }
@@ -182,10 +176,8 @@ fn run_written<P: Print>(rt: &P) -> io::Result<()> {
 }
 
 fn write_numbers<P: Print>(rt: &P, numbers: &[u16]) -> io::Result<()> {
-    let mut i = 0;
-    while i < numbers.len() {
-        write_number(rt, numbers[i])?;
-        i += 1;
+    for n in numbers {
+        write_number(rt, *n)?;
     }
     Ok(())
 }
@@ -197,26 +189,13 @@ fn write_number<P: Print>(rt: &P, n: u16) -> io::Result<()> {
     print!(rt; "{n} is written ")?;
     write_in_brackets(rt, &bytes)?;
     print!(rt; ", which")?;
-    let at = 3;
-    write_field(rt, reader::field_at(&bytes[at..], 0))?;
+    write_field(rt, reader::field_at(&bytes[3..], 0))?;
     write_end(rt)
 }
 
 // How many of all numbers are read back as they were written.
-fn count_read_back() -> u32 {
-    let mut count: u32 = 0;
-    let mut n: u32 = 0;
-    while n < 65536 {
-        count += one_if(is_read_back(n as u16));
-        n += 1;
-    }
-    count
-}
-
-fn one_if(b: bool) -> u32
-    ensures { result ≤ 1 }
-{
-    if b { 1 } else { 0 }
+fn count_read_back() -> usize {
+    (0..=u16::MAX).filter(|n| is_read_back(*n)).count()
 }
 
 // From six bytes, and from these with two more behind them.
@@ -225,19 +204,11 @@ fn is_read_back(n: u16) -> bool {
     writer::put_field(&mut six, 0, n);
     let mut eight = [DOT; FIELD + 2];
     writer::put_field(&mut eight, 0, n);
-    if is_first(&six, n) {
-        is_first(&eight, n)
-    } else {
-        false
-    }
+    is_first(&six, n) && is_first(&eight, n)
 }
 
 fn is_first(bytes: &[u8], n: u16) -> bool {
-    let field = reader::field_at(bytes, 0);
-    match field {
-        Field::Number(m) => m == n,
-        Field::Malformed => false,
-    }
+    reader::field_at(bytes, 0) == Some(n)
 }
 
 // ---- the report, among dots
@@ -279,22 +250,24 @@ fn report<P: Print>(
 // ---- writing to standard output
 
 fn write_fault<P: Print>(rt: &P, text: &[u8]) -> io::Result<()> {
-    print!(rt; ", fault {}", text_check::columns_fault(text))
+    match text_check::columns_fault(text) {
+        Ok(()) => print!(rt; ", fault 0"),
+        Err(fault) => print!(rt; ", fault {}", fault.number()),
+    }
 }
 
 // The fault of the text in the first n bytes.
 fn write_fault_of<P: Print>(rt: &P, bytes: &[u8], n: usize) -> io::Result<()> {
-    let from = 0;
     if n <= bytes.len() {
-        write_fault(rt, &bytes[from..n])?;
+        write_fault(rt, &bytes[..n])?;
     }
     Ok(())
 }
 
-fn write_field<P: Print>(rt: &P, field: Field) -> io::Result<()> {
+fn write_field<P: Print>(rt: &P, field: Option<u16>) -> io::Result<()> {
     match field {
-        Field::Number(n) => print!(rt; " is {n}"),
-        Field::Malformed => print!(rt; " is no field"),
+        Some(n) => print!(rt; " is {n}"),
+        None => print!(rt; " is no field"),
     }
 }
 
@@ -312,10 +285,8 @@ fn write_end<P: Print>(rt: &P) -> io::Result<()> {
 
 fn put_lines(buffer: &mut [u8], from: usize, lines: usize, each: usize) -> usize {
     let mut at = from;
-    let mut i = 0;
-    while i < lines {
+    for _ in 0..lines {
         at = put_line(buffer, at, each);
-        i += 1;
     }
     at
 }
@@ -326,20 +297,15 @@ fn put_line(buffer: &mut [u8], from: usize, n: usize) -> usize {
         return from;
     }
     let mut at = from;
-    let mut i = 0;
-    while i < n {
+    for _ in 0..n {
         at = put_one(buffer, at);
-        i += 1;
     }
     put_byte(buffer, at, LINE_END)
 }
 
 // The field 1.
 fn put_one(buffer: &mut [u8], at: usize) -> usize {
-    if buffer.len() < FIELD {
-        return at;
-    }
-    if buffer.len() - FIELD < at {
+    if buffer.len() < FIELD || buffer.len() - FIELD < at {
         return at;
     }
     writer::put_field(buffer, at, 1);
@@ -348,10 +314,8 @@ fn put_one(buffer: &mut [u8], at: usize) -> usize {
 
 fn put_bytes(buffer: &mut [u8], from: usize, byte: u8, times: usize) -> usize {
     let mut at = from;
-    let mut i = 0;
-    while i < times {
+    for _ in 0..times {
         at = put_byte(buffer, at, byte);
-        i += 1;
     }
     at
 }

@@ -4,7 +4,8 @@
 // The texts are in data/, with the expected output made by tools/loading_texts.py, which says what each is and which fault it has.
 #![tactic(auto)]
 
-use loader::Loaded;
+use design::Counts;
+use layout::Lines;
 use std::env::{Env, FillError};
 use std::fs::{File, Files};
 use std::io;
@@ -20,6 +21,15 @@ const TEXT: usize = 65536;
 const MODULUS: u32 = 65521;
 
 const FACTOR: u32 = 31;
+
+// What is told of a text that is turned down.
+const NOTHING: Counts = Counts {
+    kind1: 0,
+    kind2: 0,
+    kind3: 0,
+    kind4: 0,
+    kind8: 0,
+};
 
 fn main(rt: HostRuntime) -> io::Result<()> {
     for i in 1..usize::MAX {
@@ -49,65 +59,44 @@ fn run_case<R: Files + Print, W: Write>(rt: &R, errors: &mut W, name: &str) -> i
 
 fn run_text<P: Print, R: io::Read>(rt: &P, name: &str, file: &mut R) -> io::Result<()> {
     let mut text = [0u8; TEXT];
-    match streams::read_input(file, &mut text) {
+    match streams::read_input(file, &mut text)? {
         Input::Ended(n) => write_case(rt, name, &text[..n]),
         Input::Full => write_case(rt, name, &text),
-        Input::Failed(error) => Err(error),
     }
 }
 
 fn write_case<P: Print>(rt: &P, name: &str, text: &[u8]) -> io::Result<()> {
     print!(rt; "{name}")?;
-    write_loaded(rt, loader::load(text))
+    match loader::load(text) {
+        Ok(loaded) => write_loaded(rt, 0, loaded.lines, loaded.counts),
+        Err(fault) => write_loaded(rt, fault.number(), Lines::none(), NOTHING),
+    }
 }
 
-fn write_loaded<P: Print>(rt: &P, loaded: Loaded) -> io::Result<()> {
-    let fields = loaded.fields;
-    let starts = loaded.starts;
-    print!(rt; ": fault {}, lines ", loaded.fault)?;
+fn write_loaded<P: Print>(rt: &P, fault: u16, lines: Lines, counts: Counts) -> io::Result<()> {
+    print!(rt; ": fault {fault}, lines ")?;
     print!(rt;
         "{} {} {} {}",
-        loaded.counts.kind1, loaded.counts.kind2, loaded.counts.kind3, loaded.counts.kind4
+        counts.kind1, counts.kind2, counts.kind3, counts.kind4
     )?;
-    print!(rt;
-        " {}, fields {}",
-        loaded.counts.kind8,
-        check_number(&fields)
-    )?;
-    print!(rt; ", starts {}", check_number(&starts))?;
-    write_lines(rt, &fields, &starts)?;
+    print!(rt; " {}, fields {}", counts.kind8, check_number(&lines.fields))?;
+    print!(rt; ", starts {}", check_number(&lines.starts))?;
+    write_lines(rt, &lines)?;
     print!(rt; "\n")
 }
 
 // A number that tells lists apart.
 fn check_number(list: &[u16]) -> u32 {
-    let mut number = 0;
-    let mut i = 0;
-    while i < list.len() {
-        number = mixed(number, list[i]);
-        i += 1;
-    }
-    number
+    list.iter().fold(0, |number, n| mixed(number, *n))
 }
 
 fn mixed(number: u32, n: u16) -> u32 {
-    (number % MODULUS * FACTOR + n as u32) % MODULUS
+    (number % MODULUS * FACTOR + u32::from(n)) % MODULUS
 }
 
-fn write_lines<P: Print>(
-    rt: &P,
-    fields: &limits::Fields,
-    starts: &limits::Starts,
-) -> io::Result<()> {
-    let mut i = 0;
-    while i < limits::MAX_LINES {
-        write_line(
-            rt,
-            fields,
-            terms::field(starts, i),
-            terms::field(starts, i + 1),
-        )?;
-        i += 1;
+fn write_lines<P: Print>(rt: &P, lines: &Lines) -> io::Result<()> {
+    for i in 0..limits::MAX_LINES {
+        write_line(rt, &lines.fields, lines.line(i), lines.line(i + 1))?;
     }
     Ok(())
 }
@@ -117,7 +106,7 @@ fn write_line<P: Print>(rt: &P, fields: &limits::Fields, start: u16, end: u16) -
     if start < end {
         print!(rt;
             ", {} of {}",
-            terms::field(fields, start as usize),
+            terms::field(fields, usize::from(start)),
             end - start
         )?;
     }

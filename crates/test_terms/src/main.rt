@@ -10,13 +10,9 @@
 // small depths; 185 to 202 terms of 255 fields within depth 32, and what is just over.
 #![tactic(auto)]
 
-ghost use Rattle.std.specs.Prelude.{◌≤◌, length};
-
-use columns::Field;
 use std::io;
 use std::io::Print;
 use streams::Input;
-use term_check::Checked;
 
 // Room for the cases.
 const ROOM: usize = 65536;
@@ -28,59 +24,39 @@ const HEAD: usize = 8;
 
 fn main(rt: HostRuntime) -> io::Result<()> {
     let mut text = [0u8; ROOM];
-    match streams::read_input(&mut rt.stdin(), &mut text) {
+    match streams::read_input(&mut rt.stdin(), &mut text)? {
         Input::Ended(n) => run_lines(&rt, &text[..n]),
         Input::Full => run_lines(&rt, &text),
-        Input::Failed(error) => Err(error),
     }
 }
 
 fn run_lines<P: Print>(rt: &P, text: &[u8]) -> io::Result<()> {
-    let mut at = 0;
-    while at < text.len() {
-        let end = line_end(text, at);
-        run_case(rt, &text[at..end])?;
-        at = end + 1;
+    for line in text.split_inclusive(|byte| *byte == LINE_END) {
+        run_case(rt, line.strip_suffix(&[LINE_END]).unwrap_or(line))?;
     }
     Ok(())
 }
 
-// The place of the first byte 10 from a place on, or the text's end.
-fn line_end(text: &[u8], from: usize) -> usize
-    requires { from ≤ length text.now }
-    ensures { (from ≤ result) × (result ≤ length text.now) }
-{
-    let mut at = from;
-    while at < text.len() {
-        if text[at] == LINE_END {
-            return at;
-        }
-        at += 1;
-    }
-    at
-}
-
 fn run_case<P: Print>(rt: &P, line: &[u8]) -> io::Result<()> {
     print!(rt; "case {}", number(line, 0))?;
-    let checked = check(line);
-    match checked {
-        Checked::Next(n) => {
+    match check(line) {
+        Some(n) => {
             print!(rt; ": takes {n} of {}", count_after_head(line))?;
             evaluate(rt, line, ", at the start ", 0)?;
             evaluate(rt, line, ", at the end ", place_at_end(n))?;
         }
-        Checked::Wrong => {
+        None => {
             print!(rt; ": wrong")?;
         }
     }
     print!(rt; "\n")
 }
 
-fn check(line: &[u8]) -> Checked {
+fn check(line: &[u8]) -> Option<usize> {
     let part = reader::rest(line, HEAD);
     let params = number(line, 3);
     let row = number(line, 4) == 1;
-    let depth = number(line, 2) as usize;
+    let depth = usize::from(number(line, 2));
     if number(line, 1) == 0 {
         term_check::value(part, params, row, depth)
     } else {
@@ -94,7 +70,7 @@ fn evaluate<P: Print>(rt: &P, line: &[u8], words: &str, at: usize) -> io::Result
     copy(reader::rest(line, HEAD), &mut fields, at);
     let params = [number(line, 6), number(line, 7), 0, 0, 0, 0, 0, 0];
     let sum = number(line, 5);
-    let depth = number(line, 2) as usize;
+    let depth = usize::from(number(line, 2));
     print!(rt; "{words}")?;
     if number(line, 1) == 0 {
         let r = eval::value(&fields, at, &params, sum, depth);
@@ -102,7 +78,7 @@ fn evaluate<P: Print>(rt: &P, line: &[u8], words: &str, at: usize) -> io::Result
         write_after(rt, at, r.next)
     } else {
         let r = eval::formula(&fields, at, &params, sum, depth);
-        print!(rt; "{}", r.holds as u64)?;
+        print!(rt; "{}", u64::from(r.holds))?;
         write_after(rt, at, r.next)
     }
 }
@@ -122,10 +98,8 @@ fn place_at_end(n: usize) -> usize {
 
 // The part's fields from a place on, and zeros after them.
 fn copy(part: &[u8], fields: &mut limits::Fields, at: usize) {
-    let mut i = at;
-    while i < limits::MAX_FIELDS {
+    for i in at..limits::MAX_FIELDS {
         fields[i] = number(part, i - at);
-        i += 1;
     }
 }
 
@@ -135,9 +109,5 @@ fn count_after_head(line: &[u8]) -> usize {
 
 // The k-th field of a line, or 0 where there is none.
 fn number(line: &[u8], k: usize) -> u16 {
-    let field = reader::field_at(line, k);
-    match field {
-        Field::Number(n) => n,
-        Field::Malformed => 0,
-    }
+    reader::field_at(line, k).unwrap_or(0)
 }

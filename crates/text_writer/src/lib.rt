@@ -11,37 +11,32 @@ ghost use Rattle.writer.specs.Put.{put, put_length};
 ghost use Rattle.design.specs.Loaded.{held_lines};
 ghost use Rattle.text_writer.specs.Length.{line_text, between, line_bytes, bytes_in};
 
+use layout::Lines;
+
 const LINE_END: u8 = 10;
 
 // The text of the first n lines; its length, which is 0 for no lines, or 0 where the buffer is too short for it.
-pub fn put_text<'a>(
-    buffer: &mut [u8],
-    fields: &'a limits::Fields,
-    starts: &'a limits::Starts,
-    n: u16,
-) -> usize
-    ensures value { result ≡ put_length buffer.old 0 (text_of (held_lines fields.now starts.now n)) }
-    ensures buffer_after { buffer.new ≡ put buffer.old 0 (text_of (held_lines fields.now starts.now n)) }
+pub fn put_text(buffer: &mut [u8], lines: &Lines, n: u16) -> usize
+    ensures value { result ≡ put_length buffer.old 0 (text_of (held_lines lines.now.fields lines.now.starts n)) }
+    ensures buffer_after { buffer.new ≡ put buffer.old 0 (text_of (held_lines lines.now.fields lines.now.starts n)) }
 {
-    let all: &[u16] = fields; // lent as a slice: the proofs below then know its length
-    let bytes = text_bytes(starts, n);
+    let _all: &[u16] = &lines.fields; // for the proof: as a slice it has its length
+    let bytes = text_bytes(lines, n);
     if buffer.len() < bytes {
         return 0;
     }
-    put_lines(buffer, all, starts, n);
+    put_lines(buffer, lines, n);
     bytes
 }
 
 // How many bytes that text has.
-fn text_bytes(starts: &limits::Starts, n: u16) -> usize
-    ensures { result ≡ bytes_in starts.now n }
+fn text_bytes(lines: &Lines, n: u16) -> usize
+    ensures { result ≡ bytes_in lines.now.starts n }
 {
     let mut bytes = 0;
-    let mut i = 0;
-    while i < n {
+    for i in 0..n {
         let line = i as usize;
-        bytes += line_bytes(layout::line(starts, line), layout::line(starts, line + 1));
-        i += 1;
+        bytes += line_bytes(lines.line(line), lines.line(line + 1));
     }
     bytes
 }
@@ -57,31 +52,21 @@ fn line_bytes(from: u16, to: u16) -> usize
 fn fields_between(from: u16, to: u16) -> u16
     ensures { result ≡ between from to }
 {
-    let most = limits::MAX_FIELDS as u16;
-    if to < from {
-        return 0;
-    }
-    if most < from {
-        return 0;
-    }
-    if to < most { to - from } else { most - from }
+    to.min(limits::MAX_FIELDS as u16).saturating_sub(from)
 }
 
 // The lines one after the other, where there is room for them.
-fn put_lines<'a>(buffer: &mut [u8], fields: &'a [u16], starts: &'a limits::Starts, n: u16)
-    requires fields_len { length fields.now ≡ max_fields }
-    requires n_in_bounds { bytes_in starts.now n ≤ length buffer.old }
-    ensures { buffer.new ≡ sets buffer.old 0 (text_of (held_lines fields.now starts.now n)) }
+fn put_lines(buffer: &mut [u8], lines: &Lines, n: u16)
+    requires { bytes_in lines.now.starts n ≤ length buffer.old }
+    ensures { buffer.new ≡ sets buffer.old 0 (text_of (held_lines lines.now.fields lines.now.starts n)) }
 {
     let mut at = 0;
-    let mut i = 0;
-    while i < n {
+    for i in 0..n {
         let line = i as usize;
-        let from = layout::line(starts, line);
-        let to = layout::line(starts, line + 1);
-        put_line(buffer, at, fields, from, to);
+        let from = lines.line(line);
+        let to = lines.line(line + 1);
+        put_line(buffer, at, &lines.fields, from, to);
         at += line_bytes(from, to);
-        i += 1;
     }
 }
 
@@ -92,11 +77,9 @@ fn put_line(buffer: &mut [u8], at: usize, fields: &[u16], from: u16, to: u16)
     ensures { buffer.new ≡ sets buffer.old at (line_text fields.now from to) }
 {
     let count = fields_between(from, to) as usize;
-    let mut k = 0;
-    while k < count {
+    for k in 0..count {
         let n = terms::field(fields, from as usize + k);
         writer::put_field(buffer, at + columns::COLUMNS * k, n);
-        k += 1;
     }
     buffer[at + columns::COLUMNS * count] = LINE_END;
 }

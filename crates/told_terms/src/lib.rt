@@ -40,16 +40,19 @@ pub fn formula(fields: &limits::Fields, at: usize, values: &limits::Values, sum:
 pub fn number(x: Valued) -> u32
     ensures { result ≡ number_of x }
 {
-    if x.has { x.value as u32 } else { NO_VALUE }
+    match x.value {
+        Some(n) => n as u32,
+        None => NO_VALUE,
+    }
 }
 
 pub fn truth(x: Held) -> u32
     ensures { result ≡ truth_of x }
 {
-    if x.has {
-        if x.holds { HOLDS } else { FAILS }
-    } else {
-        NO_TRUTH
+    match x.holds {
+        Some(true) => HOLDS,
+        Some(false) => FAILS,
+        None => NO_TRUTH,
     }
 }
 
@@ -66,12 +69,10 @@ pub fn values(
     let m = steps::few(n);
     let mut told = [0u32; limits::MAX_PARAMETERS];
     let mut place = at;
-    let mut i = 0;
-    while i < m {
+    for i in 0..m {
         let x = has_value::value(fields, place, values, sum, limits::MAX_DEPTH);
         told[i] = number(x);
         place = x.next;
-        i += 1;
     }
     told
 }

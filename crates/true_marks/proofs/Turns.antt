@@ -1,58 +1,38 @@
--- What a turn of each loop keeps: storing formulas that are true, and looking whether fields are.
-use Prim.Native.Nat.{ℕ, suc, ◌+◌, ◌-◌, ◌≤◌, ◌<◌}
-use mathlib.Core.Path.{◌≡◌, ◌∙◌}
+-- Formulas that are true, stored and looked for.
+use Prim.Native.Nat.{ℕ, zero, suc, ◌+◌, ◌≤◌}
+use mathlib.Core.Path.{◌≡◌, refl, sym, ◌∙◌}
 use mathlib.Core.Logic.{◌≢◌}
-use mathlib.Core.Bool.{Bool, true, false}
-use mathlib.Core.List.{List, ◌∷◌}
-use native.Mathlib.Omega.{arith}
+use mathlib.Core.Bool.{Bool, true}
+use mathlib.Core.List.{List, ◌∷◌, append_assoc}
 use native.Mathlib.Numerals.{add-one}
 use borrow.Author.Tests.{eq-eqb, ne_eqb}
-use lib.ListN.{get_or, set, replicate}
-use lib.Seq.{sets}
+use borrow.Rule.Slice.PartMut.{put_mid}
+use lib.ListN.{length, get_or, set, take, drop, replicate, length-replicate}
+use lib.Seq.{drop-drop, sets}
+use Rattle.std.proofs.lemmas.List.Edits.{sets-eq}
+use lib.Dec.{eqb}
+use Rattle.foundation.specs.First.{all_in_range}
 use Rattle.design.specs.declared.Shape.{Shape}
 use Rattle.true_marks.specs.Tens.{tens, tens_from, tens_in}
 
--- ---- formulas that are true: i of n are stored
+-- ---- formulas that are true, stored in a part
 
-module _ (into whole : List ℕ) (at n : ℕ) where
-  abbrev pub Stored : ℕ → Type 0
-  Stored i = sets into (at + i) (replicate (n - i) 10) ≡ whole
-
-  pub stored_all : (i : ℕ) → n ≤ i → Stored i → into ≡ whole
-  stored_all i h e = let z : n - i ≡ 0 = omega arith in rw z at e
-
-pub stored_start : (into : List ℕ) (at n : ℕ) → Stored into (sets into at (replicate n 10)) at n 0
-stored_start into at n = let e : at + 0 ≡ at = omega arith in let f : n - 0 ≡ n = omega arith in rw (e, f)
-
-pub stored_turn : (into whole : List ℕ) (at n i : ℕ) → i < n → Stored into whole at n i → Stored (set into (at + i) 10) whole at n (i + 1)
-stored_turn into whole at n i h e =
-    let left : n - i ≡ suc (n - (i + 1)) = omega arith in
-    let next : at + (i + 1) ≡ suc (at + i) = omega arith in
-    rw next (rw left at e)
+pub filled : (l ys : List ℕ) (at n k m : ℕ) → k ≡ n → at + n ≤ length l → ys ≡ replicate m 10 → m ≡ n → put_mid at k l ys ≡ sets l at (replicate n 10)
+filled l ys at n k m ek h ey em =
+    let long = length-replicate {A = ℕ} n 10 in
+    rw (ek, ey, em, drop-drop n at l) (sym (rw long at (sets-eq (replicate n 10) l at (rw long h)) ∙ append_assoc (take at l) (replicate n 10) (drop (at + n) l)))
 
 -- behind the line's kind
 pub kind_stored : (into after : List ℕ) (at n : ℕ) → after ≡ sets (set into at 8) (at + 1) (replicate n 10)
     → after ≡ sets into at (8 ∷ replicate n 10)
 kind_stored into after at n e = rw (add-one at) at e
 
--- ---- fields that are looked at: those before the place are 10
+-- ---- fields that are looked at
 
-module _ (fields : List ℕ) (to at : ℕ) (whole : Bool) (e : tens fields at (to - at) ≡ whole) where
-  pub looked_all : to ≤ at → true ≡ whole
-  unfolding tens
-  looked_all h = let z : to - at ≡ 0 = omega arith in rw z at e
-
-  module _ (inside : at < to) (n : ℕ) (is : n ≡ get_or fields at 0) where
-    left : to - at ≡ suc (to - (at + 1))
-    left = omega arith
-
-    pub looked_other : n ≢ 10 → false ≡ whole
-    unfolding tens
-    looked_other h = rw (left, ← is, ne_eqb n 10 h) at e
-
-    pub looked_turn : n ≡ 10 → tens fields (at + 1) (to - (at + 1)) ≡ whole
-    unfolding tens
-    looked_turn h = rw (add-one at) (rw (add-one at) at (rw (left, ← is, eq-eqb n 10 h) at e))
+pub tens_is : (fields : List ℕ) (n at : ℕ) → all_in_range (λ i. eqb (get_or fields i 0) 10) n at ≡ tens fields at n
+unfolding all_in_range tens
+tens_is fields zero at = refl
+tens_is fields (suc n) at = rw (tens_is fields n (suc at))
 
 -- ---- those of the line of marks, if there is one
 

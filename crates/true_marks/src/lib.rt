@@ -7,6 +7,7 @@ ghost use Rattle.limits.specs.Limits.{max_fields};
 ghost use Rattle.true_marks.specs.Tens.{tens_from, tens_in};
 
 use design::Shape;
+use layout::Lines;
 
 // The kind of the line of marks, and the mark of a formula that is true.
 const MARKS: u16 = 8;
@@ -27,37 +28,25 @@ fn put_true(fields: &mut limits::Fields, at: usize, n: u16)
     requires { at + n ≤ max_fields }
     ensures { fields.new ≡ sets fields.old at (replicate n 10) }
 {
-    let mut i = 0;
-    while i < n {
-        fields[at + i as usize] = TRUE;
-        i += 1;
-    }
+    fields[at..at + n as usize].fill(TRUE);
 }
 
 // Whether each formula of the line of marks is `10`, by its fields; true where there is no such line.
-pub fn all<'a>(fields: &'a limits::Fields, starts: &'a limits::Starts, shape: Shape) -> bool
-    ensures { result ≡ tens_in fields.now starts.now shape }
+pub fn all(lines: &Lines, shape: Shape) -> bool
+    ensures { result ≡ tens_in lines.now.fields lines.now.starts shape }
 {
     if shape.marks.count == 0 {
         return true;
     }
     let line = shape.marks.first as usize;
-    let from = layout::line(starts, line);
-    let to = layout::line(starts, line + 1);
-    all_true(fields, from as usize + 1, to as usize)
+    let from = lines.line(line);
+    let to = lines.line(line + 1);
+    all_true(&lines.fields, from as usize + 1, to as usize)
 }
 
 // Whether each field from one place to another is `10`.
 fn all_true(fields: &limits::Fields, from: usize, to: usize) -> bool
     ensures { result ≡ tens_from fields.now from to }
 {
-    let mut at = from;
-    while at < to {
-        if terms::field(fields, at) == TRUE {
-            at += 1;
-        } else {
-            return false;
-        }
-    }
-    true
+    (from..to).all(|at| terms::field(fields, at) == TRUE)
 }

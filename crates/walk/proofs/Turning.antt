@@ -1,12 +1,12 @@
 -- What a turn returns and leaves known, and the loop of turns: where every state before a number passes, the walk goes on from there.
 use mathlib.Core.Path.{◌≡◌, refl, sym, subst, ap, ◌∙◌}
-use mathlib.Core.Bool.{Bool, true, false, not, cond, false≢true}
-use mathlib.Core.List.{List, [], ◌∷◌}
+use mathlib.Core.Bool.{Bool, true, false, not, cond}
+use mathlib.Core.List.{List}
 use Prim.Native.Nat.{ℕ, suc, ◌+◌, ◌-◌, ◌≤◌, ◌<◌, min}
 use native.Mathlib.Omega.{arith}
 use native.Mathlib.Decide.{dec_lt}
 use borrow.Author.Tests.{eq-eqb, not-true, not-false}
-use lib.ListN.{length, get_or, replicate}
+use lib.ListN.{replicate}
 use lib.Seq.{sets}
 use Rattle.foundation.specs.First.{pass}
 use Rattle.foundation.proofs.First.{pass≢fail, FirstAt}
@@ -131,9 +131,6 @@ module _ (f s : List ℕ) (h : Shape) (watch t : List ℕ) where
   pub ready_forgets : (p sets' last : List ℕ) → Ready f s h p sets' → Forgets watch → Knows f s h watch t last
   ready_forgets p sets' last ready none = knows_nothing last ready.fits none
 
-  pub knows_long : (last : List ℕ) → Knows f s h watch t last → length watch ≡ 97
-  knows_long last k = k.long
-
   pub knows_recalls : (last : List ℕ) → Knows f s h watch t last → Recalls f s h watch t last
   knows_recalls last k = k.recalls
 
@@ -198,9 +195,6 @@ long_planned f s p h u ep few eu z = record { few = few; planned = ep; unsure = 
 pub walk_fits : (f s : List ℕ) (h : Shape) (n from : ℕ) → states (design_at f s h) ≤ 65536 → from + n ≤ states (design_at f s h) → from + n ≤ 65536
 walk_fits f s h n from few l = omega arith
 
-pub plan_same : (f s p own : List ℕ) (h : Shape) (b : Bool) → When b (p ≡ own) → own ≡ plan_in f s h → not b ≡ false → p ≡ plan_in f s h
-plan_same f s p own h b w e y = w.so (not-false b y) ∙ e
-
 module _ (f s : List ℕ) (c : Counts) (h : Shape) (m n from there : ℕ) (most : m ≡ min (state_count_in f s c) 65536) (l : from ≤ m) (k : n ≤ m - from) (long : 256 ≤ n)
     (et : there ≡ state_count_in f s c) (few : there ≤ 65536) (eh : h ≡ shape_of c) where
   counted : (counts_fit c ≡ true) × (there ≡ min (states (design_in f s c)) 65537)
@@ -219,37 +213,6 @@ module _ (f s : List ℕ) (c : Counts) (h : Shape) (m n from there : ℕ) (most 
 
   pub long_within : from + n ≤ states (design_at f s h)
   long_within = let e = counted.1 in rw same_states (omega arith)
-
--- ---- two plans, number by number
-
-pub same_none : (P : Type 0) → When false P
-same_none P = record { so = λ y. absurd (false≢true y) }
-
--- the first i numbers are the same
-pub record SameTo (a b : List ℕ) (i : ℕ) : Type 0 where
-  pub each : (j : ℕ) → j < i → get_or a j 0 ≡ get_or b j 0
-
-pub same_begin : (a b : List ℕ) → SameTo a b 0
-same_begin a b = record { each = λ j l. absurd (omega arith) }
-
-pub same_turn : (a b : List ℕ) (i : ℕ) → get_or a i 0 ≡ get_or b i 0 → SameTo a b i → SameTo a b (i + 1)
-same_turn a b i e inv = record { each = λ j l. go j l (dec_lt j i) }
-  where
-    go : (j : ℕ) → j < i + 1 → Dec (j < i) → get_or a j 0 ≡ get_or b j 0
-    go j l (yes m) = inv.each j m
-    go j l (no m) = let q : i ≡ j = omega arith in subst (λ k. get_or a k 0 ≡ get_or b k 0) q e
-
-same_lists : (a b : List ℕ) → length a ≡ length b → ((j : ℕ) → j < length a → get_or a j 0 ≡ get_or b j 0) → a ≡ b
-same_lists [] [] e h = refl
-same_lists [] (y ∷ b) e h = absurd (omega arith)
-same_lists (x ∷ a) [] e h = absurd (omega arith)
-same_lists (x ∷ a) (y ∷ b) e h =
-    let p : x ≡ y = h 0 (omega arith) in
-    let q : a ≡ b = same_lists a b (omega arith) (λ j l. h (suc j) (omega arith)) in
-    (λ i. p i ∷ q i)
-
-pub same_end : (a b : List ℕ) (i : ℕ) → length a ≡ length b → length a ≤ i → SameTo a b i → When true (a ≡ b)
-same_end a b i e l inv = record { so = λ y. same_lists a b e (λ j m. inv.each j (omega arith)) }
 
 pub pays_asks : (h : Shape) → Fits h → h.implementation.rows.count ≤ 32
 pays_asks h fits = fits.implementation.rows

@@ -30,8 +30,7 @@ use Rattle.steps.proofs.Arrays.{state_is, mapped_is}
 use Rattle.steps.proofs.States as held
 use Rattle.lowest_failure.specs.Search.{told_place}
 use Rattle.verdicts.specs.declared.Place.{Place}
-use Rattle.lowest_failure.specs.declared.Finding.{Finding}
-use Rattle.lowest_failure.specs.declared.Finding.TheVariants.{Nothing, Found}
+use Rattle.std.specs.Prelude.{Option, Some, None}
 use Rattle.plan.specs.Plan.{plan_in}
 use Rattle.tenth.specs.Tenth.{tenth_by}
 use Rattle.tenth.proofs.Decided.{tenth_held}
@@ -48,11 +47,11 @@ use Rattle.verdicts.specs.declared.Walked.{Walked as WalkAnswer}
 
 -- ---- one state
 
-pub named_none : (n : ℕ) (r : Finding) → r ≡ Nothing → told Pass ≡ named_by n r
+pub named_none : (n : ℕ) (r : Option Place) → r ≡ None → told Pass ≡ named_by n r
 unfolding named_by
 named_none n r h = rw h
 
-pub named_found : (n : ℕ) (r : Finding) (x : Place) → r ≡ Found x
+pub named_found : (n : ℕ) (r : Option Place) (x : Place) → r ≡ Some x
     → told (Fail (record { criterion = x.criterion; state = n; row = x.row; sum = x.sum })) ≡ named_by n r
 unfolding named_by
 named_found n r x h = rw h
@@ -90,7 +89,7 @@ module _ (f s p v t : List ℕ) (h : Shape) (k : ℕ) (q : Bool) (em : t ≡ set
   unfolding inside_at
   inside_passes z = rw (← et, ← eq, z)
 
-  pub inside_finds : (r : Finding) (o : Answer) → q ≡ false → told_place r ≡ first_failing (design_at f s h) v → told o ≡ named_by k r → told o ≡ inside_at f s h p k v
+  pub inside_finds : (r : Option Place) (o : Answer) → q ≡ false → told_place r ≡ first_failing (design_at f s h) v → told o ≡ named_by k r → told o ≡ inside_at f s h p k v
   unfolding inside_at named_by
   inside_finds r o z er eo = eo ∙ ap (named k) er ∙ rw (← et, ← eq, z)
 

@@ -1,11 +1,11 @@
 -- What the code's answers say, in the words of the crates foundation and criteria, and back.
-use Rattle.std.specs.Prelude.{ℕ}
+use Rattle.std.specs.Prelude.{ℕ, Option}
 use Rattle.foundation.specs.First.{Outcome, pass, fail}
 use Rattle.foundation.specs.Walk.{Walked}
 use Rattle.criteria.specs.Failure.{Failure, failure_at, missing}
 use Rattle.decision.specs.Examine.{named}
 use Rattle.lowest_failure.specs.Search.{told_place}
-use Rattle.lowest_failure.specs.declared.Finding.{Finding}
+use Rattle.verdicts.specs.declared.Place.{Place}
 use Rattle.verdicts.specs.declared.Outcome.{Outcome as Answer}
 use Rattle.verdicts.specs.declared.Outcome.TheVariants.{Pass, Fail}
 use Rattle.verdicts.specs.declared.Walked.{Walked as WalkAnswer}
@@ -22,7 +22,7 @@ abbrev pub no_walk : Walked Failure
 no_walk = record { outcome = pass; count = 0 }
 
 -- what was found at the state with a number
-unfoldable pub named_by : ℕ → Finding → Outcome Failure
+unfoldable pub named_by : ℕ → Option Place → Outcome Failure
 named_by n r = named n (told_place r)
 
 -- a value is missing at the state with a number

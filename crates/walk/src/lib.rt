@@ -11,39 +11,33 @@ ghost use Rattle.criteria.specs.Design.{states};
 ghost use Rattle.design.specs.Loaded.{design_at};
 ghost use Rattle.walk.specs.Examine.{inside_at, examine_in, walk_on};
 ghost use Rattle.plan.specs.Plan.{plan_in};
-ghost use Rattle.recall.specs.Recall.{When};
 ghost use Rattle.walk.specs.Turns.{Planned, Ready, Knows, TurnIs};
 
 use design::{Counts, Shape};
-use lowest_failure::Finding;
-use verdicts::{Failure, Outcome, Walked};
+use layout::Lines;
+use verdicts::{Failure, Outcome, Place, Walked};
 
 // How many numbers a plan has.
 pub const PLAN_LENGTH: usize = plan::LENGTH;
 
 // The plan for a walk: what does not change from state to state.
-pub fn plan<'a>(
-    fields: &'a limits::Fields,
-    starts: &'a limits::Starts,
-    counts: Counts,
-) -> [u16; PLAN_LENGTH]
-    ensures { result ≡ plan_of fields.now starts.now counts }
+pub fn plan(lines: &Lines, counts: Counts) -> [u16; PLAN_LENGTH]
+    ensures { result ≡ plan_of lines.now.fields lines.now.starts counts }
 {
-    plan::plan(fields, starts, layout::shape_of(counts))
+    plan::plan(lines, layout::shape_of(counts))
 }
 
 // The walk by a plan over n states from number `from` on, where there are so many; else no state is walked.
-pub fn walk<'a>(
-    fields: &'a limits::Fields,
-    starts: &'a limits::Starts,
+pub fn walk(
+    lines: &Lines,
     counts: Counts,
-    plan: &'a [u16; PLAN_LENGTH],
+    plan: &[u16; PLAN_LENGTH],
     from: usize,
     n: usize,
 ) -> Walked
-    ensures { result ≡ walked_under fields.now starts.now counts plan.now n from }
+    ensures { result ≡ walked_under lines.now.fields lines.now.starts counts plan.now n from }
 {
-    let most = walkable(fields, starts, counts);
+    let most = walkable(lines, counts);
     if most < from {
         return no_walk();
     }
@@ -52,82 +46,59 @@ pub fn walk<'a>(
     }
     let shape = layout::shape_of(counts);
     if n < LONG {
-        return walk_on(fields, starts, shape, plan, from, n);
+        return walk_on(lines, shape, plan, from, n);
     }
-    if limits::MAX_STATES < layout::state_count(fields, starts, counts) {
-        return walk_on(fields, starts, shape, plan, from, n);
+    if limits::MAX_STATES < lines.state_count(counts) {
+        return walk_on(lines, shape, plan, from, n);
     }
-    let own = plan::plan(fields, starts, shape);
-    if !same(plan, &own) {
-        return walk_on(fields, starts, shape, plan, from, n);
+    let own = plan::plan(lines, shape);
+    if *plan != own {
+        return walk_on(lines, shape, plan, from, n);
     }
-    long_walk(fields, starts, shape, plan, from, n)
+    long_walk(lines, shape, plan, from, n)
 }
 
 // The whole check: criterion 1, then all states.
-pub fn check<'a>(fields: &'a limits::Fields, starts: &'a limits::Starts, counts: Counts) -> Outcome
-    ensures { result ≡ checked_in fields.now starts.now counts }
+pub fn check(lines: &Lines, counts: Counts) -> Outcome
+    ensures { result ≡ checked_in lines.now.fields lines.now.starts counts }
 {
-    if !start::holds(fields, starts, counts) {
-        return Outcome::Fail(start::failure(fields, starts, counts));
+    if !start::holds(lines, counts) {
+        return Outcome::Fail(start::failure(lines, counts));
     }
-    let plan = plan(fields, starts, counts);
-    let total = layout::state_count(fields, starts, counts);
-    let walked = walk(fields, starts, counts, &plan, 0, total);
+    let plan = plan(lines, counts);
+    let total = lines.state_count(counts);
+    let walked = walk(lines, counts, &plan, 0, total);
     walked.outcome
 }
 
 // So many states are a long walk: less would not pay for what is worked out before.
 const LONG: usize = 256;
 
-// Whether two plans are the same.
-fn same(a: &[u16], b: &[u16]) -> bool
-    ensures { When result (a.now ≡ b.now) }
-{
-    if a.len() != b.len() {
-        return false;
-    }
-    let mut i = 0;
-    while i < a.len() {
-        if a[i] != b[i] {
-            return false;
-        }
-        i += 1;
-    }
-    true
-}
-
 // A long walk by the plan of the arrays, by turns if nothing could lack a value.
-fn long_walk<'a>(
-    fields: &'a limits::Fields,
-    starts: &'a limits::Starts,
+fn long_walk(
+    lines: &Lines,
     shape: Shape,
     plan: &[u16; PLAN_LENGTH],
     from: usize,
     n: usize,
 ) -> Walked
     requires fits { Fits shape }
-    requires plan_value { plan.now ≡ plan_in fields.now starts.now shape }
-    requires shape_bound { states (design_at fields.now starts.now shape) ≤ 65536 }
-    requires n_bound { from + n ≤ states (design_at fields.now starts.now shape) }
-    ensures { told_walked result ≡ walk_on fields.now starts.now shape plan.now n from }
+    requires plan_value { plan.now ≡ plan_in lines.now.fields lines.now.starts shape }
+    requires shape_bound { states (design_at lines.now.fields lines.now.starts shape) ≤ 65536 }
+    requires n_bound { from + n ≤ states (design_at lines.now.fields lines.now.starts shape) }
+    ensures { told_walked result ≡ walk_on lines.now.fields lines.now.starts shape plan.now n from }
 {
     if row_plan::unsure(plan) != 0 {
-        return walk_on(fields, starts, shape, plan, from, n);
+        return walk_on(lines, shape, plan, from, n);
     }
-    walk_by_turns(fields, starts, shape, plan, from, n)
+    walk_by_turns(lines, shape, plan, from, n)
 }
 
 // How many states may be walked.
-fn walkable<'a>(fields: &'a limits::Fields, starts: &'a limits::Starts, counts: Counts) -> usize
-    ensures { result ≡ min (state_count_in fields.now starts.now counts) 65536 }
+fn walkable(lines: &Lines, counts: Counts) -> usize
+    ensures { result ≡ min (state_count_in lines.now.fields lines.now.starts counts) 65536 }
 {
-    let there = layout::state_count(fields, starts, counts);
-    if there < limits::MAX_STATES {
-        there
-    } else {
-        limits::MAX_STATES
-    }
+    lines.state_count(counts).min(limits::MAX_STATES)
 }
 
 // A walk over no state.
@@ -141,28 +112,19 @@ fn no_walk() -> Walked
 }
 
 // The states from number `from` on, n of them, up to the first that fails.
-fn walk_on<'a>(
-    fields: &'a limits::Fields,
-    starts: &'a limits::Starts,
-    shape: Shape,
-    plan: &[u16; PLAN_LENGTH],
-    from: usize,
-    n: usize,
-) -> Walked
+fn walk_on(lines: &Lines, shape: Shape, plan: &[u16; PLAN_LENGTH], from: usize, n: usize) -> Walked
     requires fits { Fits shape }
     requires n_bound { from + n ≤ 65536 }
-    ensures { told_walked result ≡ walk_on fields.now starts.now shape plan.now n from }
+    ensures { told_walked result ≡ walk_on lines.now.fields lines.now.starts shape plan.now n from }
 {
-    let mut i = 0;
-    while i < n {
-        let o = examine(fields, starts, shape, plan, (from + i) as u16);
+    for i in 0..n {
+        let o = examine(lines, shape, plan, (from + i) as u16);
         if let Outcome::Fail(_) = o {
             return Walked {
                 outcome: o,
                 count: i + 1,
             };
         }
-        i += 1;
     }
     Walked {
         outcome: Outcome::Pass,
@@ -184,9 +146,8 @@ pub struct Turn {
 // One turn, from the state with a number: outside the invariant it goes past the block of states that the same part of it rules out, if that is
 // to be sought. Inside, if what is known is to be kept, a state that passes by it needs no examination; every other is examined, and nothing
 // is known after it.
-fn take_turn<'a>(
-    fields: &'a limits::Fields,
-    starts: &'a limits::Starts,
+fn take_turn(
+    lines: &Lines,
     shape: Shape,
     plan: &[u16; PLAN_LENGTH],
     sets: &[u16; recall::SETS],
@@ -197,15 +158,15 @@ fn take_turn<'a>(
     t: &mut limits::Values,
     watch: &mut [u16; recall::WATCH],
 ) -> Turn
-    requires ready { Ready fields.now starts.now shape plan.now sets.now }
-    requires number_bound { number < states (design_at fields.now starts.now shape) }
-    requires knows { Knows fields.now starts.now shape watch.old t.old last.old }
-    ensures turn_is { TurnIs fields.now starts.now shape plan.now number result }
-    ensures knows_2 { Knows fields.now starts.now shape watch.new t.new last.new }
+    requires ready { Ready lines.now.fields lines.now.starts shape plan.now sets.now }
+    requires number_bound { number < states (design_at lines.now.fields lines.now.starts shape) }
+    requires knows { Knows lines.now.fields lines.now.starts shape watch.old t.old last.old }
+    ensures turn_is { TurnIs lines.now.fields lines.now.starts shape plan.now number result }
+    ensures knows_2 { Knows lines.now.fields lines.now.starts shape watch.new t.new last.new }
 {
     let mut v = [0u16; limits::MAX_PARAMETERS];
-    steps::put_state(fields, starts, shape.implementation, number, &mut v);
-    let inside = steps::invariant(fields, starts, shape, &v);
+    steps::put_state(lines, shape.implementation, number, &mut v);
+    let inside = steps::invariant(lines, shape, &v);
     let next = number as usize + 1;
     if !inside {
         if !seek {
@@ -215,7 +176,7 @@ fn take_turn<'a>(
                 vain: false,
             };
         }
-        let past = blocks::past(fields, starts, shape, number, &v);
+        let past = blocks::past(lines, shape, number, &v);
         return Turn {
             outcome: Outcome::Pass,
             next: past,
@@ -224,12 +185,12 @@ fn take_turn<'a>(
     }
     if !keep {
         return Turn {
-            outcome: examine_inside(fields, starts, shape, plan, number, &v),
+            outcome: examine_inside(lines, shape, plan, number, &v),
             next: next,
             vain: false,
         };
     }
-    if recall::passes(fields, starts, shape, plan, sets, last, &v, t, watch) {
+    if recall::passes(lines, shape, plan, sets, last, &v, t, watch) {
         *last = v;
         return Turn {
             outcome: Outcome::Pass,
@@ -239,7 +200,7 @@ fn take_turn<'a>(
     }
     *watch = recall::forgotten();
     Turn {
-        outcome: examine_inside(fields, starts, shape, plan, number, &v),
+        outcome: examine_inside(lines, shape, plan, number, &v),
         next: next,
         vain: false,
     }
@@ -249,26 +210,20 @@ fn take_turn<'a>(
 // block is a state alone, and to look for one costs more than to evaluate the invariant.
 const PAUSE: usize = 64;
 
-// The first number if so, else the other.
-fn one_of(so: bool, first: usize, other: usize) -> usize {
-    if so { first } else { other }
-}
-
 // The states from number `from` on, n of them, up to the first that fails, by turns.
-fn walk_by_turns<'a>(
-    fields: &'a limits::Fields,
-    starts: &'a limits::Starts,
+fn walk_by_turns(
+    lines: &Lines,
     shape: Shape,
     plan: &[u16; PLAN_LENGTH],
     from: usize,
     n: usize,
 ) -> Walked
     requires fits { Fits shape }
-    requires planned { Planned fields.now starts.now shape plan.now }
-    requires n_bound { from + n ≤ states (design_at fields.now starts.now shape) }
-    ensures { told_walked result ≡ walk_on fields.now starts.now shape plan.now n from }
+    requires planned { Planned lines.now.fields lines.now.starts shape plan.now }
+    requires n_bound { from + n ≤ states (design_at lines.now.fields lines.now.starts shape) }
+    ensures { told_walked result ≡ walk_on lines.now.fields lines.now.starts shape plan.now n from }
 {
-    let sets = recall::sets(fields, starts, shape);
+    let sets = recall::sets(lines, shape);
     let keep = recall::pays(&sets, shape.implementation);
     let mut watch = recall::forgotten();
     let mut last = [0u16; limits::MAX_PARAMETERS];
@@ -276,10 +231,10 @@ fn walk_by_turns<'a>(
     let end = from + n;
     let mut at = from;
     let mut wait = from;
+    // no range: each turn says which number is the next
     while at < end {
         let step = take_turn(
-            fields,
-            starts,
+            lines,
             shape,
             plan,
             &sets,
@@ -297,7 +252,9 @@ fn walk_by_turns<'a>(
                 count: at - from + 1,
             };
         }
-        wait = one_of(step.vain, at + PAUSE, wait);
+        if step.vain {
+            wait = at + PAUSE;
+        }
         at = step.next;
     }
     Walked {
@@ -308,45 +265,38 @@ fn walk_by_turns<'a>(
 
 // One state examined: no failure, or its lowest: criterion 10 first, and of the rest only a state that `state_passes` doesn't let pass is
 // searched. Outside the invariant nothing more is tried.
-fn examine<'a>(
-    fields: &'a limits::Fields,
-    starts: &'a limits::Starts,
-    shape: Shape,
-    plan: &[u16; PLAN_LENGTH],
-    number: u16,
-) -> Outcome
+fn examine(lines: &Lines, shape: Shape, plan: &[u16; PLAN_LENGTH], number: u16) -> Outcome
     requires { Fits shape }
-    ensures { told result ≡ examine_in fields.now starts.now shape plan.now number }
+    ensures { told result ≡ examine_in lines.now.fields lines.now.starts shape plan.now number }
 {
     let mut v = [0u16; limits::MAX_PARAMETERS];
-    steps::put_state(fields, starts, shape.implementation, number, &mut v);
-    if !tenth::holds(fields, starts, shape, plan, &v) {
+    steps::put_state(lines, shape.implementation, number, &mut v);
+    if !tenth::holds(lines, shape, plan, &v) {
         return lacking(number);
     }
-    if !steps::invariant(fields, starts, shape, &v) {
+    if !steps::invariant(lines, shape, &v) {
         return Outcome::Pass;
     }
-    examine_inside(fields, starts, shape, plan, number, &v)
+    examine_inside(lines, shape, plan, number, &v)
 }
 
 // The same of a state v of the invariant where all have values.
-fn examine_inside<'a>(
-    fields: &'a limits::Fields,
-    starts: &'a limits::Starts,
+fn examine_inside(
+    lines: &Lines,
     shape: Shape,
     plan: &[u16; PLAN_LENGTH],
     number: u16,
     v: &limits::Values,
 ) -> Outcome
     requires { Fits shape }
-    ensures { told result ≡ inside_at fields.now starts.now shape plan.now number v.now }
+    ensures { told result ≡ inside_at lines.now.fields lines.now.starts shape plan.now number v.now }
 {
     let mut t = [0u16; limits::MAX_PARAMETERS];
-    steps::put_mapped(fields, starts, shape, v, &mut t);
-    if state_passes::passes(fields, starts, shape, plan, v, &t) {
+    steps::put_mapped(lines, shape, v, &mut t);
+    if state_passes::passes(lines, shape, plan, v, &t) {
         return Outcome::Pass;
     }
-    named(number, lowest_failure::lowest(fields, starts, shape, *v))
+    named(number, lowest_failure::lowest(lines, shape, *v))
 }
 
 // The failure of criterion 10 at the state with a number.
@@ -362,12 +312,12 @@ fn lacking(number: u16) -> Outcome
 }
 
 // The place of failure with the number of the state.
-fn named(number: u16, found: Finding) -> Outcome
+fn named(number: u16, found: Option<Place>) -> Outcome
     ensures { told result ≡ named_by number found }
 {
     match found {
-        Finding::Nothing => Outcome::Pass,
-        Finding::Found(place) => Outcome::Fail(Failure {
+        None => Outcome::Pass,
+        Some(place) => Outcome::Fail(Failure {
             criterion: place.criterion,
             state: number,
             row: place.row,

@@ -17,6 +17,7 @@ ghost use Rattle.watched.specs.Watched.{all_of, meeting, after_f, map_reads, thr
 ghost use Rattle.watches.specs.Watches.{no_parts, PartsOf, changed_of, after_seen};
 
 use design::{Process, Shape};
+use layout::Lines;
 use reads::Seen;
 
 // The mark of a conjunction.
@@ -58,13 +59,8 @@ fn meeting(changed: u16, set: u16) -> u16
 // ---- a step
 
 // Row k of a process; where there is none it reads nothing, and has no next values.
-fn row<'a>(
-    fields: &'a limits::Fields,
-    starts: &'a limits::Starts,
-    process: Process,
-    k: u16,
-) -> Parts
-    ensures { PartsOf fields.now process.parameters.count (row_at (process_in fields.now starts.now process).rows k) result }
+fn row(lines: &Lines, process: Process, k: u16) -> Parts
+    ensures { PartsOf lines.now.fields process.parameters.count (row_at (process_in lines.now.fields lines.now.starts process).rows k) result }
 {
     if k == 0 {
         return no_row();
@@ -72,11 +68,11 @@ fn row<'a>(
     if (process.rows.count as u16) < k {
         return no_row();
     }
-    let line = steps::line_of(starts, process, k);
-    let condition = reads::formula_reads(fields, line as usize + 3, limits::MAX_DEPTH);
-    let data = reads::value_reads(fields, condition.next, limits::MAX_DEPTH);
+    let line = steps::line_of(lines, process, k);
+    let condition = reads::formula_reads(&lines.fields, line as usize + 3, limits::MAX_DEPTH);
+    let data = reads::value_reads(&lines.fields, condition.next, limits::MAX_DEPTH);
     Parts {
-        action: layout::field_of(fields, line, 1),
+        action: layout::field_of(&lines.fields, line, 1),
         condition: condition.reads,
         carries: data.reads,
         next: data.next,
@@ -103,15 +99,13 @@ fn changing(fields: &limits::Fields, at: usize, n: u8) -> Changed
     let mut changes = 0;
     let mut by = 0;
     let mut place = at;
-    let mut i = 0;
-    while i < n {
+    for i in 0..n {
         let j = i as u16;
         let same = reads::is_parameter(fields, place, j);
         let x = reads::value_reads(fields, place, limits::MAX_DEPTH);
         changes = changes | reads::unless(same, reads::only(j));
         by = by | reads::unless(same, x.reads);
         place = x.next;
-        i += 1;
     }
     Changed {
         changes: changes,
@@ -154,27 +148,21 @@ fn values_reads(fields: &limits::Fields, at: usize, n: u8) -> limits::Values
     let m = steps::few(n);
     let mut out = [0u16; limits::MAX_PARAMETERS];
     let mut place = at;
-    let mut i = 0;
-    while i < m {
+    for i in 0..m {
         let x = reads::value_reads(fields, place, limits::MAX_DEPTH);
         out[i] = x.reads;
         place = x.next;
-        i += 1;
     }
     out
 }
 
 // What each mapped value reads.
-pub fn mapping_reads<'a>(
-    fields: &'a limits::Fields,
-    starts: &'a limits::Starts,
-    shape: Shape,
-) -> limits::Values
-    ensures { result ≡ padded (map_reads (design_at fields.now starts.now shape)) }
+pub fn mapping_reads(lines: &Lines, shape: Shape) -> limits::Values
+    ensures { result ≡ padded (map_reads (design_at lines.now.fields lines.now.starts shape)) }
 {
-    let line = layout::line(starts, shape.mapping as usize);
+    let line = lines.line(shape.mapping as usize);
     values_reads(
-        fields,
+        &lines.fields,
         line as usize + 1,
         shape.specification.parameters.count,
     )
@@ -185,24 +173,17 @@ fn all_of(mapping: &limits::Values, n: u8) -> u16
     ensures { result ≡ all_of (first_values n 0 mapping.now) }
 {
     let mut found = 0;
-    let mut i = 0;
-    while i < n {
+    for i in 0..n {
         found = found | terms::parameter(mapping, i as u16);
-        i += 1;
     }
     found
 }
 
 // What the mapping reads.
-pub fn mapping_watched<'a>(
-    fields: &'a limits::Fields,
-    starts: &'a limits::Starts,
-    shape: Shape,
-    mapping: &limits::Values,
-) -> u16
+pub fn mapping_watched(lines: &Lines, shape: Shape, mapping: &limits::Values) -> u16
     requires fits { Fits shape }
-    requires mapping_value { mapping.now ≡ padded (map_reads (design_at fields.now starts.now shape)) }
-    ensures { result ≡ all_of (map_reads (design_at fields.now starts.now shape)) }
+    requires mapping_value { mapping.now ≡ padded (map_reads (design_at lines.now.fields lines.now.starts shape)) }
+    ensures { result ≡ all_of (map_reads (design_at lines.now.fields lines.now.starts shape)) }
 {
     all_of(mapping, shape.specification.parameters.count)
 }
@@ -212,11 +193,9 @@ fn through(mapping: &limits::Values, n: u8, read: u16) -> u16
     ensures { result ≡ through_from 0 (first_values n 0 mapping.now) read }
 {
     let mut found = 0;
-    let mut i = 0;
-    while i < n {
+    for i in 0..n {
         let j = i as u16;
         found = found | reads::unless(read & reads::only(j) == 0, terms::parameter(mapping, j));
-        i += 1;
     }
     found
 }
@@ -226,10 +205,8 @@ fn stays(mapping: &limits::Values, n: u8, changed: u16) -> u16
     ensures { result ≡ stays changed (first_values n 0 mapping.now) }
 {
     let mut found = 0;
-    let mut i = 0;
-    while i < n {
+    for i in 0..n {
         found = found | meeting(changed, terms::parameter(mapping, i as u16));
-        i += 1;
     }
     found
 }
@@ -268,12 +245,10 @@ fn follows(
 {
     let mut found = 0;
     let mut place = at;
-    let mut i = 0;
-    while i < count {
+    for i in 0..count {
         let x = reads::value_reads(fields, place, limits::MAX_DEPTH);
         found = found | follows_at(fields, place, x.reads, mapping, n, i as u16, changed);
         place = x.next;
-        i += 1;
     }
     found
 }
@@ -281,79 +256,56 @@ fn follows(
 // ---- the rows of the implementation
 
 // What decides whether row k is enabled.
-pub fn enabling<'a>(
-    fields: &'a limits::Fields,
-    starts: &'a limits::Starts,
-    shape: Shape,
-    k: u16,
-) -> u16
-    ensures { result ≡ enabling (design_at fields.now starts.now shape) k }
+pub fn enabling(lines: &Lines, shape: Shape, k: u16) -> u16
+    ensures { result ≡ enabling (design_at lines.now.fields lines.now.starts shape) k }
 {
-    let x = row(fields, starts, shape.implementation, k);
+    let x = row(lines, shape.implementation, k);
     x.condition
 }
 
 // What decides whether the invariant, which held before the step, holds after it.
-fn invariant_after<'a>(
-    fields: &'a limits::Fields,
-    starts: &'a limits::Starts,
-    shape: Shape,
-    changed: u16,
-) -> u16
-    ensures { result ≡ after_f changed (design_at fields.now starts.now shape).invariant }
+fn invariant_after(lines: &Lines, shape: Shape, changed: u16) -> u16
+    ensures { result ≡ after_f changed (design_at lines.now.fields lines.now.starts shape).invariant }
 {
-    let line = layout::line(starts, shape.invariant as usize);
-    let x = after(fields, line as usize + 1, limits::MAX_DEPTH, changed);
+    let line = lines.line(shape.invariant as usize);
+    let x = after(&lines.fields, line as usize + 1, limits::MAX_DEPTH, changed);
     x.reads
 }
 
 // What the mark of the internal row k reads; without a line of marks each step is marked.
-fn mark_reads<'a>(
-    fields: &'a limits::Fields,
-    starts: &'a limits::Starts,
-    shape: Shape,
-    k: u16,
-) -> u16
+fn mark_reads(lines: &Lines, shape: Shape, k: u16) -> u16
     requires k_nonzero { 0 < k }
     requires k_le_count { k ≤ shape.implementation.rows.count }
-    requires k_value { (row_at (process_in fields.now starts.now shape.implementation).rows k).action ≡ 0 }
-    ensures { result ≡ reads_f (mark_of (design_at fields.now starts.now shape) k) }
+    requires k_value { (row_at (process_in lines.now.fields lines.now.starts shape.implementation).rows k).action ≡ 0 }
+    ensures { result ≡ reads_f (mark_of (design_at lines.now.fields lines.now.starts shape) k) }
 {
     if shape.marks.count == 0 {
         return 0;
     }
-    let place = marks::place(fields, starts, shape, k);
-    let mark = reads::formula_reads(fields, place, limits::MAX_DEPTH);
+    let place = marks::place(lines, shape, k);
+    let mark = reads::formula_reads(&lines.fields, place, limits::MAX_DEPTH);
     mark.reads
 }
 
 // Criteria 4 and 5 of the internal row k.
-fn internal<'a>(
-    fields: &'a limits::Fields,
-    starts: &'a limits::Starts,
-    shape: Shape,
-    mapping: &limits::Values,
-    k: u16,
-    changed: u16,
-) -> u16
+fn internal(lines: &Lines, shape: Shape, mapping: &limits::Values, k: u16, changed: u16) -> u16
     requires fits { Fits shape }
-    requires mapping_value { mapping.now ≡ padded (map_reads (design_at fields.now starts.now shape)) }
+    requires mapping_value { mapping.now ≡ padded (map_reads (design_at lines.now.fields lines.now.starts shape)) }
     requires k_nonzero { 0 < k }
     requires k_le_count { k ≤ shape.implementation.rows.count }
-    requires k_value { (row_at (process_in fields.now starts.now shape.implementation).rows k).action ≡ 0 }
-    ensures { result ≡ internal_watched (design_at fields.now starts.now shape) k changed }
+    requires k_value { (row_at (process_in lines.now.fields lines.now.starts shape.implementation).rows k).action ≡ 0 }
+    ensures { result ≡ internal_watched (design_at lines.now.fields lines.now.starts shape) k changed }
 {
-    let mark = mark_reads(fields, starts, shape, k);
+    let mark = mark_reads(lines, shape, k);
     let same = stays(mapping, shape.specification.parameters.count, changed);
-    let line = layout::line(starts, shape.measure as usize);
-    let measure = reads::value_reads(fields, line as usize + 1, limits::MAX_DEPTH);
+    let line = lines.line(shape.measure as usize);
+    let measure = reads::value_reads(&lines.fields, line as usize + 1, limits::MAX_DEPTH);
     mark | (same | measure.reads)
 }
 
 // Criteria 6, 8 and 9 of the visible row k, with this action and data that read the given set.
-fn visible<'a>(
-    fields: &'a limits::Fields,
-    starts: &'a limits::Starts,
+fn visible(
+    lines: &Lines,
     shape: Shape,
     mapping: &limits::Values,
     k: u16,
@@ -362,69 +314,48 @@ fn visible<'a>(
     changed: u16,
 ) -> u16
     requires fits { Fits shape }
-    requires mapping_value { mapping.now ≡ padded (map_reads (design_at fields.now starts.now shape)) }
-    requires carries_value { carries ≡ reads_v (row_at (process_in fields.now starts.now shape.implementation).rows k).carries }
-    ensures { result ≡ visible_watched (design_at fields.now starts.now shape) (row_at (process_in fields.now starts.now shape.implementation).rows k) (partner (process_in fields.now starts.now shape.specification) action) changed }
+    requires mapping_value { mapping.now ≡ padded (map_reads (design_at lines.now.fields lines.now.starts shape)) }
+    requires carries_value { carries ≡ reads_v (row_at (process_in lines.now.fields lines.now.starts shape.implementation).rows k).carries }
+    ensures { result ≡ visible_watched (design_at lines.now.fields lines.now.starts shape) (row_at (process_in lines.now.fields lines.now.starts shape.implementation).rows k) (partner (process_in lines.now.fields lines.now.starts shape.specification) action) changed }
 {
     let n = shape.specification.parameters.count;
-    let reply = steps::row_with(fields, starts, shape.specification, action);
-    let q = row(fields, starts, shape.specification, reply);
+    let reply = steps::row_with(lines, shape.specification, action);
+    let q = row(lines, shape.specification, reply);
     let answer = through(mapping, n, q.condition | q.carries);
-    let next = follows(fields, q.next, q.count, mapping, n, changed);
+    let next = follows(&lines.fields, q.next, q.count, mapping, n, changed);
     carries | (answer | next)
 }
 
 // What decides whether row k keeps all its criteria.
-pub fn watched<'a>(
-    fields: &'a limits::Fields,
-    starts: &'a limits::Starts,
-    shape: Shape,
-    mapping: &limits::Values,
-    k: u16,
-) -> u16
+pub fn watched(lines: &Lines, shape: Shape, mapping: &limits::Values, k: u16) -> u16
     requires fits { Fits shape }
-    requires mapping_value { mapping.now ≡ padded (map_reads (design_at fields.now starts.now shape)) }
+    requires mapping_value { mapping.now ≡ padded (map_reads (design_at lines.now.fields lines.now.starts shape)) }
     requires k_nonzero { 0 < k }
     requires k_le_count { k ≤ shape.implementation.rows.count }
-    ensures { result ≡ watched (design_at fields.now starts.now shape) k }
+    ensures { result ≡ watched (design_at lines.now.fields lines.now.starts shape) k }
 {
-    let x = row(fields, starts, shape.implementation, k);
-    let step = changing(fields, x.next, x.count);
-    let kept = invariant_after(fields, starts, shape, step.changes);
+    let x = row(lines, shape.implementation, k);
+    let step = changing(&lines.fields, x.next, x.count);
+    let kept = invariant_after(lines, shape, step.changes);
     if x.action == 0 {
-        let rest = internal(fields, starts, shape, mapping, k, step.changes);
+        let rest = internal(lines, shape, mapping, k, step.changes);
         return x.condition | (step.by | (kept | rest));
     }
-    let rest = visible(
-        fields,
-        starts,
-        shape,
-        mapping,
-        k,
-        x.action,
-        x.carries,
-        step.changes,
-    );
+    let rest = visible(lines, shape, mapping, k, x.action, x.carries, step.changes);
     x.condition | (step.by | (kept | rest))
 }
 
 // ---- the rows of the specification
 
 // What decides whether row k, at the mapped state, and its partner are enabled: criterion 7.
-pub fn reply_watched<'a>(
-    fields: &'a limits::Fields,
-    starts: &'a limits::Starts,
-    shape: Shape,
-    mapping: &limits::Values,
-    k: u16,
-) -> u16
+pub fn reply_watched(lines: &Lines, shape: Shape, mapping: &limits::Values, k: u16) -> u16
     requires fits { Fits shape }
-    requires mapping_value { mapping.now ≡ padded (map_reads (design_at fields.now starts.now shape)) }
-    ensures { result ≡ reply_watched (design_at fields.now starts.now shape) k }
+    requires mapping_value { mapping.now ≡ padded (map_reads (design_at lines.now.fields lines.now.starts shape)) }
+    ensures { result ≡ reply_watched (design_at lines.now.fields lines.now.starts shape) k }
 {
-    let q = row(fields, starts, shape.specification, k);
+    let q = row(lines, shape.specification, k);
     let asked = through(mapping, shape.specification.parameters.count, q.condition);
-    let reply = steps::row_with(fields, starts, shape.implementation, q.action);
-    let x = row(fields, starts, shape.implementation, reply);
+    let reply = steps::row_with(lines, shape.implementation, q.action);
+    let x = row(lines, shape.implementation, reply);
     asked | x.condition
 }

@@ -1,15 +1,6 @@
-use mathlib.Core.Path.{refl}
-use Rattle.action_check.proofs.Lines as laws
+use Rattle.std.proofs.Common.{rules}
+use Rattle.foundation.proofs.Ranges.{all_over}
 use Rattle.action_check.proofs.all_bare.Goals as goal
 
-pub loop-i-init : goal.loop-i-init
-loop-i-init c = refl
-
-pub returns-then-not-is_bare : goal.returns-then-not-is_bare
-returns-then-not-is_bare c = search laws.stop
-
-pub loop-i-preserved : goal.loop-i-preserved
-loop-i-preserved c = search laws.turn
-
 pub returns : goal.returns
-returns c = search laws.done
+returns c = all_over _ _ _ _ _ _ (λ x b q k. (search rules, search rules)) c.all.ensures.ran

@@ -2,7 +2,7 @@
 use Prim.Native.Nat.{◌-◌, ◌*◌, ◌≤◌}
 use mathlib.Core.Path.{◌≡◌}
 use mathlib.Core.List.{◌++◌}
-use lib.ListN.{length, take, drop}
+use lib.ListN.{take, drop}
 use Rattle.io.specs.Counts.{IsPrefixLen}
 use Rattle.answer_lines.specs.Answers.{places_of}
 use Rattle.answer_lines.proofs.put_places.Given as goal
@@ -10,6 +10,3 @@ use Rattle.answer_lines.proofs.put_places.Given as goal
 abbrev pub invariant-loop-i : goal.invariant-loop-i
 invariant-loop-i l =
     (l.from ≤ l.i) × (l.at ≤ 21 * (l.i - l.from)) × IsPrefixLen l.at l.line × (take l.at l.line ++ places_of (drop l.i l.slice) ≡ places_of (drop l.from l.slice))
-
-abbrev pub decreases-loop-i : goal.decreases-loop-i
-decreases-loop-i l = length l.slice - l.i

@@ -2,6 +2,9 @@
 use Rattle.blocks.proofs.Laws as laws
 use Rattle.blocks.proofs.past.Goals as goal
 
+pub unwrap_err-requires : goal.unwrap_err-requires
+unwrap_err-requires c = search laws.part_fails
+
 pub next_block-requires-clause-w_nonzero : goal.next_block-requires-clause-w_nonzero
 next_block-requires-clause-w_nonzero c = search laws.block_some
 

@@ -1,10 +1,6 @@
 -- What is left of the set has all that it has from the i-th parameter on.
-use Prim.Native.Nat.{◌-◌, ◌≤◌}
 use Rattle.blocks.proofs.Laws as laws
 use Rattle.blocks.proofs.up_to_last.Given as goal
 
 abbrev pub invariant-loop-i : goal.invariant-loop-i
-invariant-loop-i l = (l.i ≤ l.n) × laws.Left l.set l.rest l.i
-
-abbrev pub decreases-loop-i : goal.decreases-loop-i
-decreases-loop-i l = l.n - l.i
+invariant-loop-i l = laws.Left l.set l.rest l.i

@@ -8,8 +8,4 @@ use Rattle.design.specs.Loaded.{process_in}
 use Rattle.blocks.proofs.width.Given as goal
 
 abbrev pub invariant-loop-i : goal.invariant-loop-i
-invariant-loop-i l =
-    (l.n ≤ l.i) × ((l.i ≤ l.process.parameters.count) × (l.w ≡ product (drop l.i (sizes (process_in l.fields l.starts l.process)))))
-
-abbrev pub decreases-loop-i : goal.decreases-loop-i
-decreases-loop-i l = l.i
+invariant-loop-i l = (l.n ≤ l.i) × (l.w ≡ product (drop l.i (sizes (process_in l.lines.fields l.lines.starts l.process))))

@@ -1,9 +1,8 @@
--- `read_kept` is safe and ends: it reads as many bytes as are due.
-use Rattle.std.proofs.Common.{◌≤◌, ◌-◌}
+-- `read_kept` puts one byte after the other: those put so far are the first of what was left.
+use Rattle.std.proofs.Common.{take}
+use Rattle.std.specs.Io.KnownBytes.{Consumes}
+use Rattle.streams.specs.Ahead.{left_of}
 use Rattle.call_input.proofs.read_kept.Given as goal
 
-abbrev pub invariant-loop-i : goal.invariant-loop-i
-invariant-loop-i g l = l.i ≤ l.n
-
-abbrev pub decreases-loop-i : goal.decreases-loop-i
-decreases-loop-i g l = l.n - l.i
+abbrev pub invariant-loop-byte : goal.invariant-loop-byte
+invariant-loop-byte g l = Consumes (left_of g.R.Read.remaining l.initial.input) (left_of g.R.Read.remaining l.input) (take l.byte-index l.room)

@@ -1,21 +1,22 @@
 -- `call_of` tries the five calls.
+use Rattle.std.proofs.Common.{rules, ◌∙◌}
 use Rattle.call_lines.proofs.Calls as calls
 use Rattle.call_lines.proofs.call_of.Goals as goal
 
-pub returns-then-same : goal.returns-then-same
-returns-then-same c = search calls.says_verdict
+pub returns-then-eq : goal.returns-then-eq
+returns-then-eq c = search (rules, calls.says_verdict)
 
-pub returns-then-same-2 : goal.returns-then-same-2
-returns-then-same-2 c = search calls.says_drop
+pub returns-then-eq-2 : goal.returns-then-eq-2
+returns-then-eq-2 c = search (rules, calls.says_drop)
 
-pub returns-in-Is : goal.returns-in-Is
-returns-in-Is c = search calls.says_load
+pub returns-in-Some : goal.returns-in-Some
+returns-in-Some c = search (rules, calls.says_load)
 
-pub returns-in-Is-advance : goal.returns-in-Is-advance
-returns-in-Is-advance c = search calls.says_advance
+pub returns-in-Some-number_after : goal.returns-in-Some-number_after
+returns-in-Some-number_after c = search (rules, calls.says_advance)
 
-pub returns-in-Is-measure : goal.returns-in-Is-measure
-returns-in-Is-measure c = search calls.says_measure
+pub returns-in_err-n : goal.returns-in_err-n
+returns-in_err-n c = c.from_residual.ensures ∙ search (rules, calls.says_none)
 
-pub returns-in-None : goal.returns-in-None
-returns-in-None c = search calls.says_none
+pub returns : goal.returns
+returns c = search (rules, calls.says_measure)

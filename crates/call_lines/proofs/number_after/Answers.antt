@@ -1,12 +1,10 @@
 -- `number_after` looks for the word, then at what is after it.
+use Rattle.std.proofs.Common.{rules, ◌∙◌}
 use Rattle.call_lines.proofs.Calls as calls
 use Rattle.call_lines.proofs.number_after.Goals as goal
 
-pub returns-then-line-word : goal.returns-then-line-word
-returns-then-line-word c = search calls.too_short
+pub returns-in_err-strip_prefix : goal.returns-in_err-strip_prefix
+returns-in_err-strip_prefix c = search (rules, calls.another_word, ◌∙◌)
 
-pub returns-then-same : goal.returns-then-same
-returns-then-same c = search calls.number_after_lem
-
-pub returns-else-same : goal.returns-else-same
-returns-else-same c = search calls.another_word
+pub returns : goal.returns
+returns c = search (rules, calls.number_after_lem)

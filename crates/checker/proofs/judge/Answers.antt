@@ -2,8 +2,8 @@
 use Rattle.checker.proofs.Judging as judging
 use Rattle.checker.proofs.judge.Goals as goal
 
-pub returns-then-fault-ne0 : goal.returns-then-fault-ne0
-returns-then-fault-ne0 c = search judging.judge_refused
+pub returns-in-Ok : goal.returns-in-Ok
+returns-in-Ok c = search judging.judge_loaded
 
-pub returns : goal.returns
-returns c = search judging.judge_loaded
+pub returns-in-Err : goal.returns-in-Err
+returns-in-Err c = search judging.judge_refused

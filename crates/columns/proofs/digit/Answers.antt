@@ -2,11 +2,8 @@
 use Rattle.columns.proofs.Weights as weights
 use Rattle.columns.proofs.digit.Goals as goal
 
-pub returns-then-b-lt-DIGIT_0 : goal.returns-then-b-lt-DIGIT_0
-returns-then-b-lt-DIGIT_0 c = search weights.too_low
+pub returns-then-is_ascii_digit : goal.returns-then-is_ascii_digit
+returns-then-is_ascii_digit c = search (weights.one_digit, c.if-is_ascii_digit.ensures.cases)
 
-pub returns-then-b-gt-DIGIT_9 : goal.returns-then-b-gt-DIGIT_9
-returns-then-b-gt-DIGIT_9 c = search weights.too_high
-
-pub returns : goal.returns
-returns c = search weights.one_digit
+pub returns-else-is_ascii_digit : goal.returns-else-is_ascii_digit
+returns-else-is_ascii_digit c = weights.not_one c.args.b c.if-is_ascii_digit.ensures.cases

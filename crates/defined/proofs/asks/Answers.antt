@@ -1,4 +1,5 @@
 -- All of them, or one.
+use Rattle.std.proofs.Common.{rules}
 use Rattle.defined.proofs.Laws as laws
 use Rattle.defined.proofs.asks.Goals as goal
 
@@ -11,8 +12,5 @@ returns-then-not-free c = search laws.asks_reading
 pub returns-then-not-mark_free : goal.returns-then-not-mark_free
 returns-then-not-mark_free c = search laws.asks_mark
 
-pub returns-then-span-eq0 : goal.returns-then-span-eq0
-returns-then-span-eq0 c = search laws.asks_none
-
-pub returns-else-span-eq0 : goal.returns-else-span-eq0
-returns-else-span-eq0 c = search laws.asks_one
+pub returns : goal.returns
+returns c = search (laws.asks_one, rules)

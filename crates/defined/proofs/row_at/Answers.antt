@@ -2,14 +2,14 @@
 use Rattle.defined.proofs.Laws as laws
 use Rattle.defined.proofs.row_at.Goals as goal
 
-pub returns-then-not-condition : goal.returns-then-not-condition
-returns-then-not-condition c = search laws.condition_lacks
+pub returns-in-None : goal.returns-in-None
+returns-in-None c = search laws.condition_lacks
 
-pub returns-then-not-condition-2 : goal.returns-then-not-condition-2
-returns-then-not-condition-2 c = search laws.condition_fails
+pub returns-then-not-holds : goal.returns-then-not-holds
+returns-then-not-holds c = search laws.condition_fails
 
-pub returns-then-not-data : goal.returns-then-not-data
-returns-then-not-data c = search laws.data_lacks
+pub returns-then-is_none : goal.returns-then-is_none
+returns-then-is_none c = search laws.data_lacks
 
 pub returns : goal.returns
 returns c = search laws.row_has

@@ -2,11 +2,11 @@
 use Rattle.duty.proofs.Told as told
 use Rattle.duty.proofs.same_duty.Goals as goal
 
-pub returns-then-own-ne0 : goal.returns-then-own-ne0
-returns-then-own-ne0 c = search told.no_design
+pub returns-in_default : goal.returns-in_default
+returns-in_default c = search told.no_design
 
-pub returns-then-due-ne0 : goal.returns-then-due-ne0
-returns-then-due-ne0 c = search told.no_duty
+pub returns-in_default-load : goal.returns-in_default-load
+returns-in_default-load c = search told.no_duty
 
 pub returns-then-same_specification : goal.returns-then-same_specification
 returns-then-same_specification c = search told.duty_same

@@ -9,8 +9,8 @@ loop-k-init c = (omega arith, laws.fields_begin _ _ _ _ _)
 pub loop-k-preserved : goal.loop-k-preserved
 loop-k-preserved c = (search rules, search laws.field_turn)
 
-pub returns-else-x-y : goal.returns-else-x-y
-returns-else-x-y c = search laws.field_stop
+pub returns-then-field_of : goal.returns-then-field_of
+returns-then-field_of c = search laws.field_stop
 
 pub returns : goal.returns
 returns c = search laws.fields_end

@@ -1,5 +1,5 @@
 -- `duty::same_fields` compares one field after the other.
-use Prim.Native.Nat.{◌-◌, ◌≤◌}
+use Prim.Native.Nat.{◌≤◌}
 use mathlib.Core.Path.{◌≡◌}
 use Rattle.duty.specs.Arrays.{same_from}
 use Rattle.duty.proofs.Laws as laws
@@ -8,6 +8,3 @@ use Rattle.duty.proofs.same_fields.Given as goal
 abbrev pub invariant-loop-k : goal.invariant-loop-k
 invariant-loop-k l =
     (l.k ≤ l.n) × (laws.fields_left l.fields l.from l.due l.at l.n l.k ≡ same_from l.fields l.from l.due l.at l.n)
-
-abbrev pub decreases-loop-k : goal.decreases-loop-k
-decreases-loop-k l = l.n - l.k

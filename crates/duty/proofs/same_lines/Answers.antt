@@ -9,8 +9,8 @@ loop-k-init c = (omega arith, laws.lines_begin _ _ _ _ _ _ _)
 pub loop-k-preserved : goal.loop-k-preserved
 loop-k-preserved c = (search rules, search laws.line_turn)
 
-pub returns-else-same_nth : goal.returns-else-same_nth
-returns-else-same_nth c = search laws.line_stop
+pub returns-then-not-same_nth : goal.returns-then-not-same_nth
+returns-then-not-same_nth c = search laws.line_stop
 
 pub returns : goal.returns
 returns c = search laws.lines_end

@@ -1,16 +1,11 @@
-use native.Mathlib.Omega.{arith}
-use borrow.Author.Rules.{rules}
 use Rattle.line_check.proofs.Laws as laws
 use Rattle.line_check.proofs.after_fields.Goals as goal
 
-pub loop-i-init : goal.loop-i-init
-loop-i-init c = (omega arith, search rules)
-
-pub returns-in_default : goal.returns-in_default
-returns-in_default c = search laws.after_none
+pub returns-then-is_none : goal.returns-then-is_none
+returns-then-is_none c = search laws.after_none
 
 pub loop-i-preserved : goal.loop-i-preserved
-loop-i-preserved c = (search rules, search laws.after_turn)
+loop-i-preserved c = search laws.after_turn
 
 pub returns : goal.returns
 returns c = search laws.after_end

@@ -2,8 +2,5 @@
 use Rattle.line_check.proofs.Laws as laws
 use Rattle.line_check.proofs.ended.Goals as goal
 
-pub returns-in_default : goal.returns-in_default
-returns-in_default c = search laws.ended_yes
-
 pub returns : goal.returns
-returns c = search laws.ended_no
+returns c = search laws.ended_by

@@ -1,16 +1,9 @@
-use native.Mathlib.Omega.{arith}
+-- `line_check::formulas_fit`: each is checked where it starts.
+use mathlib.Core.Path.{◌∙◌}
 use borrow.Author.Rules.{rules}
 use Rattle.line_check.proofs.Laws as laws
 use Rattle.line_check.proofs.formulas_fit.Goals as goal
 
-pub loop-done-init : goal.loop-done-init
-loop-done-init c = (omega arith, search laws.formulas_start)
-
-pub returns-in_default : goal.returns-in_default
-returns-in_default c = search laws.formulas_stop
-
-pub loop-done-preserved : goal.loop-done-preserved
-loop-done-preserved c = (search rules, search laws.formulas_turn)
-
 pub returns : goal.returns
-returns c = search laws.formulas_end
+returns c =
+    c.each_fits.ensures (laws.next_formula c.args.params c.args.row) (λ bytes r e. search rules) ∙ laws.formulas_each c.args.params c.args.row c.args.count c.args.part.now

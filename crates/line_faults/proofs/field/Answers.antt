@@ -5,8 +5,5 @@ use Rattle.line_faults.proofs.field.Goals as goal
 pub returns-then-count-k : goal.returns-then-count-k
 returns-then-count-k c = search laws.field_past
 
-pub returns-in_default : goal.returns-in_default
-returns-in_default c = search laws.field_none
-
 pub returns : goal.returns
-returns c = search laws.field_some
+returns c = search laws.field_is

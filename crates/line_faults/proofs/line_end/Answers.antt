@@ -12,4 +12,4 @@ pub loop-i-preserved : goal.loop-i-preserved
 loop-i-preserved c = search turns.end_on
 
 pub returns : goal.returns
-returns c = search turns.end_last
+returns c = search turns.end_most

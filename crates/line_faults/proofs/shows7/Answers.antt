@@ -11,8 +11,8 @@ returns-then-kind-eq3 c = search laws.seventh_impl
 pub returns-then-action-eq0-2 : goal.returns-then-action-eq0-2
 returns-then-action-eq0-2 c = search laws.seventh_internal
 
-pub returns-then-gathered-gt0 : goal.returns-then-gathered-gt0
-returns-then-gathered-gt0 c = search laws.seventh_spec
+pub returns-then-row_count-gt0 : goal.returns-then-row_count-gt0
+returns-then-row_count-gt0 c = search laws.seventh_spec
 
 pub returns-then-kind-eq4 : goal.returns-then-kind-eq4
 returns-then-kind-eq4 c = search laws.seventh_span

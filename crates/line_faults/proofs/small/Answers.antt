@@ -1,9 +1,7 @@
 -- `line_faults::small` is a count where it fits.
+use mathlib.Core.Path.{◌∙◌}
 use Rattle.line_faults.proofs.Laws as laws
 use Rattle.line_faults.proofs.small.Goals as goal
 
-pub returns-then-n-lt65536 : goal.returns-then-n-lt65536
-returns-then-n-lt65536 c = search laws.small_fits
-
 pub returns : goal.returns
-returns c = search laws.small_none
+returns c = c.unwrap_or.ensures ∙ search laws.small_is

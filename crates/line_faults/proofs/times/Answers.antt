@@ -2,8 +2,8 @@
 use Rattle.line_faults.proofs.Laws as laws
 use Rattle.line_faults.proofs.times.Goals as goal
 
-pub overflow_mul-at_most : goal.overflow_mul-at_most
-overflow_mul-at_most c = search laws.product_fits
+pub overflow_mul-min : goal.overflow_mul-min
+overflow_mul-min c = search laws.product_fits
 
 pub returns : goal.returns
 returns c = search laws.product_is

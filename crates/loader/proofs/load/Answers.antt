@@ -2,20 +2,21 @@
 use Rattle.loader.proofs.Loading as loading
 use Rattle.loader.proofs.load.Goals as goal
 
-pub returns-then-fault-ne0 : goal.returns-then-fault-ne0
-returns-then-fault-ne0 c = search loading.load_columns
+pub returns-in_err-columns_fault : goal.returns-in_err-columns_fault
+returns-in_err-columns_fault c = loading.load_columns _ _ c.columns_fault.ensures _ c.in_err-columns_fault.was _ c.from_residual.ensures.1
 
-pub fill-lines-requires : goal.fill-lines-requires
-fill-lines-requires c = search loading.free
+pub returns-then-n-gt-MAX_LINES : goal.returns-then-n-gt-MAX_LINES
+returns-then-n-gt-MAX_LINES c = loading.load_many _ _ c.columns_fault.ensures _ c.in_ok-columns_fault.was _ _ _ _ c.none-lines.ensures c.fill-n.ensures c.if-n-gt-MAX_LINES.true
 
-pub returns-then-lines-gt-MAX_LINES : goal.returns-then-lines-gt-MAX_LINES
-returns-then-lines-gt-MAX_LINES c = search loading.load_many
+pub table_fault-requires : goal.table_fault-requires
+table_fault-requires c = loading.holds _ _ c.columns_fault.ensures _ c.in_ok-columns_fault.was _ _ _ _ c.none-lines.ensures c.fill-n.ensures c.if-n-gt-MAX_LINES.false _ c.counts_of-counts.ensures
 
-pub table_fault-fault-requires : goal.table_fault-fault-requires
-table_fault-fault-requires c = search loading.holds
-
-pub returns-then-fault-ne0-2 : goal.returns-then-fault-ne0-2
-returns-then-fault-ne0-2 c = search loading.load_table
+pub returns-in_err-table_fault : goal.returns-in_err-table_fault
+returns-in_err-table_fault c =
+    loading.load_table _ _ c.columns_fault.ensures _ c.in_ok-columns_fault.was _ _ _ _ c.none-lines.ensures c.fill-n.ensures c.if-n-gt-MAX_LINES.false _ c.counts_of-counts.ensures _ c.table_fault.ensures
+    _ c.in_err-table_fault.was _ c.from_residual-in_err-table_fault.ensures.1
 
 pub returns : goal.returns
-returns c = search loading.load_done
+returns c =
+    loading.load_done _ _ c.columns_fault.ensures _ c.in_ok-columns_fault.was _ _ _ _ c.none-lines.ensures c.fill-n.ensures c.if-n-gt-MAX_LINES.false _ c.counts_of-counts.ensures _ c.table_fault.ensures
+    _ c.in_ok-table_fault.was

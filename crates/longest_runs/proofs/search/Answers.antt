@@ -1,3 +1,4 @@
+use Rattle.longest_runs.proofs.Looks as looks
 use Rattle.longest_runs.proofs.Turns as laws
 use Rattle.longest_runs.proofs.search.Goals as goal
 
@@ -34,26 +35,26 @@ offset_bounds-mark-s c = search laws.last_scaled
 pub bounds-mark-s : goal.bounds-mark-s
 bounds-mark-s c = search laws.last_small
 
-pub loop-depth-smaller-then-edge-eq-EDGES : goal.loop-depth-smaller-then-edge-eq-EDGES
-loop-depth-smaller-then-edge-eq-EDGES c = search laws.finish_less
-
-pub loop-depth-preserved-then-edge-eq-EDGES : goal.loop-depth-preserved-then-edge-eq-EDGES
-loop-depth-preserved-then-edge-eq-EDGES c = search laws.search_finishes
-
 pub clear-requires : goal.clear-requires
 clear-requires c = search laws.set_fits
 
 pub shape_of-out-then-mark-to-ne0 : goal.shape_of-out-then-mark-to-ne0
-shape_of-out-then-mark-to-ne0 c = search laws.cleared_long
+shape_of-out-then-mark-to-ne0 c = search (laws.cleared_long, looks.left_step _ _ _ _ _ _ _ _ _ c.look-seen.ensures c.in-Some.is)
 
 pub returns-then-mark-to-ne0 : goal.returns-then-mark-to-ne0
-returns-then-mark-to-ne0 c = search laws.search_loops
+returns-then-mark-to-ne0 c = search (laws.search_loops, looks.left_step _ _ _ _ _ _ _ _ _ c.look-seen.ensures c.in-Some.is)
 
-pub bounds-path-depth-else-edge-eq-EDGES : goal.bounds-path-depth-else-edge-eq-EDGES
-bounds-path-depth-else-edge-eq-EDGES c = search laws.way_room
+pub bounds-path-depth-in-Some : goal.bounds-path-depth-in-Some
+bounds-path-depth-in-Some c = search (laws.way_room, looks.left_step _ _ _ _ _ _ _ _ _ c.look-seen.ensures c.in-Some.is)
+
+pub loop-depth-smaller-in-Some : goal.loop-depth-smaller-in-Some
+loop-depth-smaller-in-Some c = search (laws.push_less, looks.left_step _ _ _ _ _ _ _ _ _ c.look-seen.ensures c.in-Some.is)
+
+pub loop-depth-preserved-in-Some : goal.loop-depth-preserved-in-Some
+loop-depth-preserved-in-Some c = search (laws.search_enters, looks.left_step _ _ _ _ _ _ _ _ _ c.look-seen.ensures c.in-Some.is)
 
 pub loop-depth-smaller : goal.loop-depth-smaller
-loop-depth-smaller c = search laws.push_less
+loop-depth-smaller c = search (laws.all_less, looks.no_step _ _ _ _ _ _ _ _ c.look-seen.ensures c.in_default.is)
 
 pub loop-depth-preserved : goal.loop-depth-preserved
-loop-depth-preserved c = search laws.search_enters
+loop-depth-preserved c = search (laws.all_finished, looks.no_step _ _ _ _ _ _ _ _ c.look-seen.ensures c.in_default.is)

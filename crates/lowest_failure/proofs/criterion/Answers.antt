@@ -2,14 +2,8 @@
 use Rattle.lowest_failure.proofs.Search as laws
 use Rattle.lowest_failure.proofs.criterion.Goals as goal
 
-pub holds2-requires : goal.holds2-requires
-holds2-requires c = search laws.knows
-
 pub returns-then-n-eq2 : goal.returns-then-n-eq2
 returns-then-n-eq2 c = search laws.arm2
-
-pub holds-requires : goal.holds-requires
-holds-requires c = search laws.knows
 
 pub returns : goal.returns
 returns c = search laws.arm_others

@@ -1,14 +1,9 @@
+use Rattle.std.proofs.Common.{rules, ◌∙◌}
+use Rattle.foundation.proofs.Ranges.{all_below}
 use Rattle.lowest_failure.proofs.Tests as laws
 use Rattle.lowest_failure.proofs.focus.Goals as goal
 
-pub loop-k-init : goal.loop-k-init
-loop-k-init c = search laws.focus_begin
-
-pub returns-then-not-row_quiet : goal.returns-then-not-row_quiet
-returns-then-not-row_quiet c = search laws.focus_fail
-
-pub loop-k-preserved : goal.loop-k-preserved
-loop-k-preserved c = search laws.focus_turn
-
 pub returns : goal.returns
-returns c = search laws.focus_end
+returns c =
+    all_below _ _ _ _ _ (λ x b q k. (search rules, search rules)) c.all.ensures.ran
+    ∙ laws.focus_is c.args.lines.now.fields c.args.lines.now.starts c.args.shape c.args.v.now

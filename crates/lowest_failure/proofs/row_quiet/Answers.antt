@@ -1,14 +1,11 @@
+use Rattle.std.proofs.Common.{rules, ◌∙◌}
+use Rattle.foundation.proofs.Ranges.{all_below}
 use Rattle.lowest_failure.proofs.Tests as laws
 use Rattle.lowest_failure.proofs.row_quiet.Goals as goal
 
-pub loop-sum-init : goal.loop-sum-init
-loop-sum-init c = search laws.quiet_begin
-
-pub returns-then-step-marked : goal.returns-then-step-marked
-returns-then-step-marked c = search laws.quiet_fail
-
-pub loop-sum-preserved : goal.loop-sum-preserved
-loop-sum-preserved c = search laws.quiet_turn
-
 pub returns : goal.returns
-returns c = search laws.quiet_end
+returns c =
+    let f = c.args.lines.now.fields in
+    let s = c.args.lines.now.starts in
+    all_below (laws.quiet_at f s c.args.shape c.args.v.now c.args.k) _ _ _ _ (λ x b q k. (search rules, search (laws.quiet_says, rules))) c.all.ensures.ran
+    ∙ laws.quiet_is f s c.args.shape c.args.v.now c.args.k _ (search rules)

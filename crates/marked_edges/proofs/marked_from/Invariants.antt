@@ -3,8 +3,8 @@ use Prim.Native.Nat.{◌-◌}
 use Rattle.marked_edges.proofs.Edges as laws
 use Rattle.marked_edges.proofs.marked_from.Given as goal
 
-abbrev pub invariant-loop-sum : goal.invariant-loop-sum
-invariant-loop-sum l = laws.NoneTo l.fields l.row l.v l.from l.sum
+abbrev pub invariant-loop-look : goal.invariant-loop-look
+invariant-loop-look l = laws.NoneTo l.fields l.row l.v l.from l.sum
 
-abbrev pub decreases-loop-sum : goal.decreases-loop-sum
-decreases-loop-sum l = l.row.looks - l.sum
+abbrev pub decreases-loop-look : goal.decreases-loop-look
+decreases-loop-look l = l.row.looks - l.sum

@@ -4,11 +4,11 @@ use Rattle.marked_edges.proofs.next.Goals as goal
 pub loop-i-init : goal.loop-i-init
 loop-i-init c = laws.passed_starts _ _ _ _ _
 
-pub returns-then-has_step : goal.returns-then-has_step
-returns-then-has_step c = search laws.row_found
+pub returns-in-Some : goal.returns-in-Some
+returns-in-Some c = search (laws.row_found, c.in-Some.ensures)
 
 pub loop-i-preserved : goal.loop-i-preserved
-loop-i-preserved c = search laws.row_turns
+loop-i-preserved c = search (laws.row_none, c.in_default.ensures)
 
 pub returns : goal.returns
 returns c = search laws.passed_ends

@@ -6,6 +6,3 @@ use Rattle.marks.proofs.after_formulas.Given as goal
 
 abbrev pub invariant-loop-i : goal.invariant-loop-i
 invariant-loop-i l = after_formulas l.fields l.next (l.n - l.i) ≡ after_formulas l.fields l.at l.n
-
-abbrev pub decreases-loop-i : goal.decreases-loop-i
-decreases-loop-i l = l.n - l.i

@@ -1,21 +1,15 @@
+use Rattle.std.proofs.Common.{rules, tests, ◌∙◌}
 use native.Mathlib.Omega.{arith}
+use Rattle.std.proofs.lemmas.Iterator.{YieldsList-from_range}
+use Rattle.std.proofs.lemmas.Iterator.Consumers.{YieldsList-from_filter, count_from_yields_List}
 use Rattle.marks.proofs.Marks as laws
 use Rattle.marks.proofs.internal_rows.Goals as goal
 
-pub loop-i-init : goal.loop-i-init
-loop-i-init c = (omega arith, laws.internal_starts _ _ _ _)
-
-pub counted-count-requires : goal.counted-count-requires
-counted-count-requires c = omega arith
-
-pub overflow_add-i : goal.overflow_add-i
-overflow_add-i c = omega arith
-
-pub loop-i-smaller : goal.loop-i-smaller
-loop-i-smaller c = omega arith
-
-pub loop-i-preserved : goal.loop-i-preserved
-loop-i-preserved c = (search laws.counted_few, search laws.internal_turns)
-
 pub returns : goal.returns
-returns c = search laws.internal_ends
+returns c =
+    let f = c.args.lines.now.fields in
+    let s = c.args.lines.now.starts in
+    let n = c.args.n in
+    count_from_yields_List c.filter-internal.result _ c.count.ensures.ran
+    (YieldsList-from_filter _ (laws.internal_at f s c.args.process) (YieldsList-from_range 0 n n (search rules) (omega arith)) c.filter-internal.ensures.closure (λ x b q k. search (rules, tests)))
+    ∙ laws.internal_is f s c.args.process n

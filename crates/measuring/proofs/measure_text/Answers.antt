@@ -2,8 +2,8 @@
 use Rattle.measuring.proofs.Laws as laws
 use Rattle.measuring.proofs.measure_text.Goals as goal
 
-pub returns-then-fault-ne0 : goal.returns-then-fault-ne0
-returns-then-fault-ne0 c = search laws.text_faulty
+pub returns-in-Ok : goal.returns-in-Ok
+returns-in-Ok c = search laws.text_measured
 
-pub returns : goal.returns
-returns c = search laws.text_measured
+pub returns-in-Err : goal.returns-in-Err
+returns-in-Err c = search laws.text_faulty

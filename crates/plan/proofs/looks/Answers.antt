@@ -1,12 +1,12 @@
 -- One look does where nothing reads the sum value.
-use Rattle.plan.proofs.Planned as laws
+use Rattle.std.proofs.Common.{rules}
+use Rattle.plan.specs.Plan.{looks_of}
 use Rattle.plan.proofs.looks.Goals as goal
 
-pub returns-then-not-free : goal.returns-then-not-free
-returns-then-not-free c = search laws.looks_all
+pub returns-then-free : goal.returns-then-free
+unfolding looks_of
+returns-then-free c = search rules
 
-pub returns-then-span-eq0 : goal.returns-then-span-eq0
-returns-then-span-eq0 c = search laws.looks_none
-
-pub returns : goal.returns
-returns c = search laws.looks_one
+pub returns-else-free : goal.returns-else-free
+unfolding looks_of
+returns-else-free c = search rules

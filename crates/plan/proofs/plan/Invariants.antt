@@ -1,7 +1,7 @@
 -- What is left to store gives the whole.
 use mathlib.Core.Path.{◌≡◌}
 use mathlib.Core.Bool.{◌&&◌}
-use Prim.Native.Nat.{◌-◌, ◌≤◌}
+use Prim.Native.Nat.{◌≤◌}
 use lib.ListN.{length}
 use Rattle.row_plan.specs.RowPlan.{Blank}
 use Rattle.plan.specs.Plan.{plan_in}
@@ -13,7 +13,4 @@ invariant-loop-i l =
     (l.i ≤ 64)
     × ((length l.out ≡ 387)
     × (Blank l.out l.i
-    × ((l.sure && laws.sure_left l.fields l.starts l.shape l.i ≡ laws.sure_left l.fields l.starts l.shape 0) × (laws.plan_left l.fields l.starts l.shape l.out l.i ≡ plan_in l.fields l.starts l.shape))))
-
-abbrev pub decreases-loop-i : goal.decreases-loop-i
-decreases-loop-i l = 64 - l.i
+    × ((l.sure && laws.sure_left l.lines.fields l.lines.starts l.shape l.i ≡ laws.sure_left l.lines.fields l.lines.starts l.shape 0) × (laws.plan_left l.lines.fields l.lines.starts l.shape l.out l.i ≡ plan_in l.lines.fields l.lines.starts l.shape))))

@@ -1,4 +1,4 @@
--- `reader::count` goes on until the reader stands still: k fields are passed, and those still ahead are the rest.
+-- `reader::count` goes on until there is no field: k fields are passed, and those still ahead are the rest.
 use Rattle.std.proofs.Common.{◌≡◌, ◌*◌, ◌+◌, ◌-◌, length, drop}
 use Rattle.reader.specs.Line.{fields_of}
 use Rattle.reader.proofs.count.Given as goal

@@ -1,12 +1,9 @@
 -- A set for each row.
-use Prim.Native.Nat.{◌-◌, ◌≤◌}
+use Prim.Native.Nat.{◌≤◌}
 use Rattle.design.specs.Loaded.{design_at}
 use Rattle.recall.specs.Recall.{SetsTo}
 use Rattle.recall.proofs.put_replies.Given as goal
 
 abbrev pub invariant-loop-i : goal.invariant-loop-i
 invariant-loop-i l =
-    (l.i ≤ l.shape.specification.rows.count) × SetsTo (design_at l.fields l.starts l.shape) l.out l.shape.implementation.rows.count l.i
-
-abbrev pub decreases-loop-i : goal.decreases-loop-i
-decreases-loop-i l = l.shape.specification.rows.count - l.i
+    (l.i ≤ l.shape.specification.rows.count) × SetsTo (design_at l.lines.fields l.lines.starts l.shape) l.out l.shape.implementation.rows.count l.i

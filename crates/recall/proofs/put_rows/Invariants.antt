@@ -1,11 +1,8 @@
 -- Two sets for each row.
-use Prim.Native.Nat.{◌-◌, ◌≤◌}
+use Prim.Native.Nat.{◌≤◌}
 use Rattle.design.specs.Loaded.{design_at}
 use Rattle.recall.specs.Recall.{SetsTo}
 use Rattle.recall.proofs.put_rows.Given as goal
 
 abbrev pub invariant-loop-i : goal.invariant-loop-i
-invariant-loop-i l = (l.i ≤ l.shape.implementation.rows.count) × SetsTo (design_at l.fields l.starts l.shape) l.out l.i 0
-
-abbrev pub decreases-loop-i : goal.decreases-loop-i
-decreases-loop-i l = l.shape.implementation.rows.count - l.i
+invariant-loop-i l = (l.i ≤ l.shape.implementation.rows.count) × SetsTo (design_at l.lines.fields l.lines.starts l.shape) l.out l.i 0

@@ -6,11 +6,8 @@ use Rattle.recall.proofs.replies_pass.Goals as goal
 pub loop-i-init : goal.loop-i-init
 loop-i-init c = (omega arith, search laws.replies_begin)
 
-pub reply_passes-requires-clause-i_bound : goal.reply_passes-requires-clause-i_bound
-reply_passes-requires-clause-i_bound c = search laws.reply_below
-
-pub reply_passes-requires-clause-watch_len : goal.reply_passes-requires-clause-watch_len
-reply_passes-requires-clause-watch_len c = search laws.replies_long
+pub reply_passes-requires : goal.reply_passes-requires
+reply_passes-requires c = search laws.reply_below
 
 pub returns-then-not-reply_passes : goal.returns-then-not-reply_passes
 returns-then-not-reply_passes c = search laws.when_not

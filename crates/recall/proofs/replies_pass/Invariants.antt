@@ -1,11 +1,8 @@
 -- Row after row.
-use Prim.Native.Nat.{◌-◌, ◌≤◌}
+use Prim.Native.Nat.{◌≤◌}
 use Rattle.recall.specs.Recall.{RepliesTo}
 use Rattle.recall.proofs.replies_pass.Given as goal
 
 abbrev pub invariant-loop-i : goal.invariant-loop-i
 invariant-loop-i l =
-    (l.i ≤ l.shape.specification.rows.count) × RepliesTo l.fields l.starts l.shape l.initial.watch l.v l.watch l.i l.quiet
-
-abbrev pub decreases-loop-i : goal.decreases-loop-i
-decreases-loop-i l = l.shape.specification.rows.count - l.i
+    (l.i ≤ l.shape.specification.rows.count) × RepliesTo l.lines.fields l.lines.starts l.shape l.initial.watch l.v l.watch l.i l.quiet

@@ -9,12 +9,6 @@ loop-i-init c = (omega arith, search laws.rows_begin)
 pub row_passes-requires-clause-i_bound : goal.row_passes-requires-clause-i_bound
 row_passes-requires-clause-i_bound c = search laws.row_below
 
-pub row_passes-requires-clause-watch_len : goal.row_passes-requires-clause-watch_len
-row_passes-requires-clause-watch_len c = search laws.rows_long
-
-pub returns-then-not-row_passes : goal.returns-then-not-row_passes
-returns-then-not-row_passes c = search laws.when_not
-
 pub loop-i-preserved : goal.loop-i-preserved
 loop-i-preserved c =
     (omega arith, laws.rows_turn _ _ c.args.plan.now c.args.sets.now _ c.args.t.now _ c.loop-i.watch _ _ c.args.changed c.loop-i.i c.loop-i.quiet c.row_passes.result (search rules) (search rules) (search rules) (search rules) (search rules) (search rules) (search rules) (search rules))

@@ -1,6 +1,5 @@
 -- What is left of the sum values gives the whole.
 use mathlib.Core.Path.{◌≡◌}
-use Prim.Native.Nat.{◌-◌}
 use Rattle.design.specs.Loaded.{design_at}
 use Rattle.start.specs.Start.{no_internal_row}
 use Rattle.start.proofs.FirstStep as laws
@@ -8,7 +7,4 @@ use Rattle.start.proofs.no_internal_row.Given as goal
 
 abbrev pub invariant-loop-sum : goal.invariant-loop-sum
 invariant-loop-sum l =
-    laws.sums_left l.fields l.starts l.shape l.v l.k l.span l.sum ≡ no_internal_row (design_at l.fields l.starts l.shape) l.v l.k
-
-abbrev pub decreases-loop-sum : goal.decreases-loop-sum
-decreases-loop-sum l = l.span - l.sum
+    laws.sums_left l.lines.fields l.lines.starts l.shape l.v l.k l.span l.sum ≡ no_internal_row (design_at l.lines.fields l.lines.starts l.shape) l.v l.k

@@ -5,11 +5,11 @@ use Rattle.state_passes.proofs.passes.Goals as goal
 pub returns-then-not-below : goal.returns-then-not-below
 returns-then-not-below c = search laws.pass_two
 
-pub returns-then-not-seen : goal.returns-then-not-seen
-returns-then-not-seen c = search laws.pass_rows
+pub returns-in_default : goal.returns-in_default
+returns-in_default c = search laws.pass_rows
 
-pub returns-then-not-seen-2 : goal.returns-then-not-seen-2
-returns-then-not-seen-2 c = search laws.pass_busy
+pub returns-then-not-quiet : goal.returns-then-not-quiet
+returns-then-not-quiet c = search laws.pass_busy
 
 pub returns : goal.returns
 returns c = search laws.pass_quiet

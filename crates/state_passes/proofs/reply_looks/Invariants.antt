@@ -1,13 +1,9 @@
 -- What is left of the looks gives the whole.
 use mathlib.Core.Path.{◌≡◌}
-use Prim.Native.Nat.{◌-◌}
 use Rattle.state_passes.specs.Passes.{reply_looks}
 use Rattle.state_passes.proofs.Seeing as laws
 use Rattle.state_passes.proofs.reply_looks.Given as goal
 
 abbrev pub invariant-loop-sum : goal.invariant-loop-sum
 invariant-loop-sum l =
-    laws.reply_left l.fields l.starts l.v l.t l.implementation l.row l.sum ≡ reply_looks l.fields l.starts l.implementation l.row l.v l.t
-
-abbrev pub decreases-loop-sum : goal.decreases-loop-sum
-decreases-loop-sum l = l.row.looks - l.sum
+    laws.reply_left l.lines.fields l.lines.starts l.v l.t l.implementation l.row l.sum ≡ reply_looks l.lines.fields l.lines.starts l.implementation l.row l.v l.t

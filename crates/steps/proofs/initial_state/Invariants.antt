@@ -1,6 +1,5 @@
 -- What is left to store gives the whole.
 use mathlib.Core.Path.{◌≡◌}
-use Prim.Native.Nat.{◌-◌}
 use lib.ListN.{length}
 use Rattle.steps.specs.Arrays.{initial_in}
 use Rattle.steps.proofs.Arrays as laws
@@ -8,7 +7,4 @@ use Rattle.steps.proofs.initial_state.Given as goal
 
 abbrev pub invariant-loop-i : goal.invariant-loop-i
 invariant-loop-i l =
-    (length l.out ≡ 8) × (laws.initial_left l.fields l.starts l.process l.out l.i ≡ initial_in l.fields l.starts l.process)
-
-abbrev pub decreases-loop-i : goal.decreases-loop-i
-decreases-loop-i l = l.m - l.i
+    (length l.out ≡ 8) × (laws.initial_left l.lines.fields l.lines.starts l.process l.out l.i ≡ initial_in l.lines.fields l.lines.starts l.process)

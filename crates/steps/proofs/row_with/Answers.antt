@@ -1,14 +1,11 @@
+use Rattle.std.proofs.Common.{rules, tests, ◌≡◌}
+use Rattle.std.proofs.lemmas.Iterator.{first_from_Range}
 use Rattle.steps.proofs.Arrays as laws
 use Rattle.steps.proofs.row_with.Goals as goal
 
-pub loop-i-init : goal.loop-i-init
-loop-i-init c = search laws.with_start
-
-pub returns-then-a-action : goal.returns-then-a-action
-returns-then-a-action c = search laws.with_found
-
-pub loop-i-preserved : goal.loop-i-preserved
-loop-i-preserved c = search laws.with_turn
-
 pub returns : goal.returns
-returns c = search laws.with_end
+returns c =
+    let action = laws.action_in c.args.lines.now.fields c.args.lines.now.starts c.args.process c.args.action in
+    laws.with_is _ _ _ _ _ _
+    (first_from_Range _ _ _ _ (λ k. action k ≡ c.args.action) (λ k. action k ≡ c.args.action → ⊥) c.find.ensures.ran (λ x q k. search (rules, tests)) (λ x q k. (search rules, search (rules, tests))))
+    (search rules)

@@ -2,7 +2,7 @@
 use Rattle.std.proofs.Common.{◌≡◌, ℕ, ◌+◌, ◌-◌, ◌≤◌, List, ◌++◌, rules, arith, length, take, slice_range, sym, ap, ◌∙◌, subst, le_refl, drop_at, length-take-le}
 use Rattle.std.proofs.lemmas.Slice.{take-put_mid_below}
 use Rattle.std.specs.Io.KnownBytes.{Consumes}
-use Rattle.std.proofs.KnownBytes.{Consumes-trans, Consumes-kept}
+use Rattle.std.proofs.KnownBytes.{Consumes-trans}
 use borrow.Rule.Slice.PartMut.{put_mid, post_of}
 use lib.Seq.{take-add, take-append-le}
 use Rattle.streams.proofs.read_input.Goals as goal
@@ -23,12 +23,9 @@ loop-n-preserved g c =
     let from = c.loop-n.n in
     let room = length c.loop-n.room - from in
     let within = c.loop-n.invariant.0 in
-    let gave = c.in-Bytes.ensures.some.1 in
-    let fits : c.in-Bytes.k ≤ length c.read_some-read.new.room = search rules in
-    let part = slice_range-put_mid from room c.in-Bytes.k c.loop-n.room c.read_some-read.new.room within fits in
-    let joined = take_split from (from + c.in-Bytes.k) c.loop-n.room (put_mid from room c.loop-n.room c.read_some-read.new.room) (omega arith) (take-put_mid_below _ _ _ _ _ (le_refl _) within) in
-    (search rules, subst (Consumes _ _) (ap (λ l. take from c.loop-n.room ++ l) (sym part) ∙ joined) (Consumes-trans _ _ _ _ _ c.loop-n.invariant.1 c.in-Bytes.ensures.bytes))
-
-pub returns-in-End-clause-bytes : goal.returns-in-End-clause-bytes
-returns-in-End-clause-bytes g c =
-    (subst (Consumes _ _) (sym (take-put_mid_below _ _ _ _ _ (le_refl _) c.loop-n.invariant.0)) (Consumes-kept _ _ _ _ c.loop-n.invariant.1 c.in-End.ensures.bytes.0), c.in-End.ensures.bytes.1)
+    let k = c.in_ok-k.k in
+    let gave = c.in_ok-k.ensures.upper_bound in
+    let fits : k ≤ length c.read_some.new.room = search rules in
+    let part = slice_range-put_mid from room k c.loop-n.room c.read_some.new.room within fits in
+    let joined = take_split from (from + k) c.loop-n.room (put_mid from room c.loop-n.room c.read_some.new.room) (omega arith) (take-put_mid_below _ _ _ _ _ (le_refl _) within) in
+    (search rules, subst (Consumes _ _) (ap (λ l. take from c.loop-n.room ++ l) (sym part) ∙ joined) (Consumes-trans _ _ _ _ _ c.loop-n.invariant.1 c.in_ok-k.ensures.bytes.0))

@@ -15,9 +15,6 @@ bounds-tally-rank c = search lines.rank_below
 pub overflow_add-tally : goal.overflow_add-tally
 overflow_add-tally c = search (lines.one_more_fits, rules)
 
-pub offset_bounds-tally-rank-in-loop-i : goal.offset_bounds-tally-rank-in-loop-i
-offset_bounds-tally-rank-in-loop-i c = search lines.rank_place
-
 pub bounds-tally-rank-in-loop-i : goal.bounds-tally-rank-in-loop-i
 bounds-tally-rank-in-loop-i c = search lines.rank_below
 

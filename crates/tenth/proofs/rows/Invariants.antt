@@ -1,13 +1,9 @@
 -- What is left to ask gives the whole.
 use mathlib.Core.Path.{◌≡◌}
-use Prim.Native.Nat.{◌-◌}
 use Rattle.tenth.specs.Tenth.{rows_by}
 use Rattle.tenth.proofs.Laws as laws
 use Rattle.tenth.proofs.rows.Given as goal
 
 abbrev pub invariant-loop-i : goal.invariant-loop-i
 invariant-loop-i l =
-    laws.rows_left l.fields l.starts l.plan l.v l.shape l.process l.from l.i ≡ rows_by l.fields l.starts l.shape l.process l.plan l.from l.v
-
-abbrev pub decreases-loop-i : goal.decreases-loop-i
-decreases-loop-i l = l.process.rows.count - l.i
+    laws.rows_left l.lines.fields l.lines.starts l.plan l.v l.shape l.process l.from l.i ≡ rows_by l.lines.fields l.lines.starts l.shape l.process l.plan l.from l.v

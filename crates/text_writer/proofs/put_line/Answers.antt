@@ -16,12 +16,6 @@ overflow_mul-k c = omega arith
 pub overflow_add-at : goal.overflow_add-at
 overflow_add-at c = omega arith
 
-pub overflow_add-k : goal.overflow_add-k
-overflow_add-k c = omega arith
-
-pub loop-k-smaller : goal.loop-k-smaller
-loop-k-smaller c = omega arith
-
 pub loop-k-preserved : goal.loop-k-preserved
 loop-k-preserved c = (omega arith, omega arith, search laws.line_turn)
 

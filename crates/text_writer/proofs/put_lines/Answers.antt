@@ -20,9 +20,6 @@ overflow_add-at c =
     let h : l.at + line_bytes p.line-from.result p.line-to.result ≤ length l.buffer = search length_laws.line_fits_lem in
     omega arith
 
-pub loop-i-smaller : goal.loop-i-smaller
-loop-i-smaller c = omega arith
-
 pub loop-i-preserved : goal.loop-i-preserved
 loop-i-preserved c = (omega arith, search length_laws.bytes_turn, search laws.lines_turn)
 

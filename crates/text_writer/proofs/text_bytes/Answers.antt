@@ -8,9 +8,6 @@ loop-i-init c = (omega arith, laws.bytes_begin _ _)
 pub overflow_add-bytes : goal.overflow_add-bytes
 overflow_add-bytes c = omega arith
 
-pub loop-i-smaller : goal.loop-i-smaller
-loop-i-smaller c = omega arith
-
 pub loop-i-preserved : goal.loop-i-preserved
 loop-i-preserved c = (omega arith, search laws.bytes_turn)
 

@@ -1,19 +1,7 @@
-use native.Mathlib.Omega.{arith}
-use mathlib.Core.Path.{refl}
+use Rattle.std.proofs.Common.{rules, ◌∙◌}
+use Rattle.foundation.proofs.Ranges.{all_over}
 use Rattle.true_marks.proofs.Turns as laws
 use Rattle.true_marks.proofs.all_true.Goals as goal
 
-pub loop-at-init : goal.loop-at-init
-loop-at-init c = refl
-
-pub loop-at-smaller : goal.loop-at-smaller
-loop-at-smaller c = omega arith
-
-pub loop-at-preserved : goal.loop-at-preserved
-loop-at-preserved c = search laws.looked_turn
-
-pub returns-else-field-eq-TRUE : goal.returns-else-field-eq-TRUE
-returns-else-field-eq-TRUE c = search laws.looked_other
-
 pub returns : goal.returns
-returns c = search laws.looked_all
+returns c = all_over _ _ _ _ _ _ (λ x b q k. (search rules, search rules)) c.all.ensures.ran ∙ laws.tens_is _ _ _

@@ -2,8 +2,8 @@
 use Rattle.walk.proofs.Walking as laws
 use Rattle.walk.proofs.named.Goals as goal
 
-pub returns-in-Nothing : goal.returns-in-Nothing
-returns-in-Nothing c = search laws.named_none
+pub returns-in-None : goal.returns-in-None
+returns-in-None c = search laws.named_none
 
-pub returns-in-Found : goal.returns-in-Found
-returns-in-Found c = search laws.named_found
+pub returns-in-Some : goal.returns-in-Some
+returns-in-Some c = search laws.named_found

@@ -32,9 +32,6 @@ pub passes-requires-clause-task : goal.passes-requires-clause-task
 passes-requires-clause-task c =
     laws.turn_task _ _ _ _ _ _ c.args.number c.requires.ready (search rules) (search laws.turn_holds) (search rules)
 
-pub passes-requires-clause-watch_len : goal.passes-requires-clause-watch_len
-passes-requires-clause-watch_len c = search laws.knows_long
-
 pub passes-requires-clause-recalls : goal.passes-requires-clause-recalls
 passes-requires-clause-recalls c = search laws.knows_recalls
 

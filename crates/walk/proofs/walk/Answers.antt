@@ -1,4 +1,5 @@
 -- Only states that there are; a long walk by the plan of the arrays by turns.
+use Rattle.std.proofs.Common.{rules}
 use native.Mathlib.Omega.{arith}
 use Rattle.walk.proofs.Turning as turns
 use Rattle.walk.proofs.Walking as laws
@@ -28,20 +29,20 @@ walk_on-requires-then-state_count-gt-MAX_STATES-clause-n_bound c = omega arith
 pub returns-then-state_count-gt-MAX_STATES : goal.returns-then-state_count-gt-MAX_STATES
 returns-then-state_count-gt-MAX_STATES c = search laws.walked
 
-pub walk_on-requires-then-not-same-clause-fits : goal.walk_on-requires-then-not-same-clause-fits
-walk_on-requires-then-not-same-clause-fits c = search laws.fits_of
+pub walk_on-requires-then-ne-clause-fits : goal.walk_on-requires-then-ne-clause-fits
+walk_on-requires-then-ne-clause-fits c = search laws.fits_of
 
-pub walk_on-requires-then-not-same-clause-n_bound : goal.walk_on-requires-then-not-same-clause-n_bound
-walk_on-requires-then-not-same-clause-n_bound c = omega arith
+pub walk_on-requires-then-ne-clause-n_bound : goal.walk_on-requires-then-ne-clause-n_bound
+walk_on-requires-then-ne-clause-n_bound c = omega arith
 
-pub returns-then-not-same : goal.returns-then-not-same
-returns-then-not-same c = search laws.walked
+pub returns-then-ne : goal.returns-then-ne
+returns-then-ne c = search laws.walked
 
 pub long_walk-requires-clause-fits : goal.long_walk-requires-clause-fits
 long_walk-requires-clause-fits c = search laws.fits_of
 
 pub long_walk-requires-clause-plan_value : goal.long_walk-requires-clause-plan_value
-long_walk-requires-clause-plan_value c = search turns.plan_same
+long_walk-requires-clause-plan_value c = search rules
 
 pub long_walk-requires-clause-shape_bound : goal.long_walk-requires-clause-shape_bound
 long_walk-requires-clause-shape_bound c = search turns.long_few

@@ -31,8 +31,8 @@ pub returns-in-Fail : goal.returns-in-Fail
 returns-in-Fail c =
     laws.walks_fail _ _ _ _ _ _ c.loop-at.at c.take_turn-step.result c.loop-at.invariant.1.1.0 c.take_turn-step.ensures.turn_is (omega arith) _ c.in-Fail.is
 
-pub overflow_add-at : goal.overflow_add-at
-overflow_add-at c = omega arith
+pub overflow_add-wait : goal.overflow_add-wait
+overflow_add-wait c = omega arith
 
 pub loop-at-smaller : goal.loop-at-smaller
 loop-at-smaller c = omega (arith, laws.turn_onward _ _ _ _ _ _ c.take_turn-step.ensures.turn_is)

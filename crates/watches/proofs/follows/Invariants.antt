@@ -1,6 +1,5 @@
 -- What is found and what is left give the whole.
 use mathlib.Core.Path.{◌≡◌}
-use Prim.Native.Nat.{◌-◌}
 use lib.ListN.{drop}
 use Rattle.design.specs.Line.{values_in}
 use Rattle.steps.specs.Arrays.{first_values}
@@ -11,6 +10,3 @@ use Rattle.watches.proofs.follows.Given as goal
 abbrev pub invariant-loop-i : goal.invariant-loop-i
 invariant-loop-i l =
     laws.follows_left l.fields l.mapping l.at l.count l.n l.changed l.found l.place l.i ≡ follows_from (first_values l.n 0 l.mapping) l.changed 0 (first_values l.n 0 l.mapping) (values_in l.count (drop l.at l.fields))
-
-abbrev pub decreases-loop-i : goal.decreases-loop-i
-decreases-loop-i l = l.count - l.i

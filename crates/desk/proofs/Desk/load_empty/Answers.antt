@@ -2,8 +2,8 @@
 use Rattle.desk.proofs.Answers as answers
 use Rattle.desk.proofs.Desk.load_empty.Goals as goal
 
-pub returns-then-fault-eq0 : goal.returns-then-fault-eq0
-returns-then-fault-eq0 c = search answers.loaded
+pub returns-in-Ok : goal.returns-in-Ok
+returns-in-Ok c = search answers.loaded
 
-pub returns-else-fault-eq0 : goal.returns-else-fault-eq0
-returns-else-fault-eq0 c = search answers.not_loaded_lem
+pub returns-in-Err : goal.returns-in-Err
+returns-in-Err c = search answers.not_loaded_lem

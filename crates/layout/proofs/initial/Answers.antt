@@ -1,6 +1,0 @@
--- Field 2 of the line.
-use borrow.Author.Rules.{rules}
-use Rattle.layout.proofs.initial.Goals as goal
-
-pub returns : goal.returns
-returns c = rw (← c.line.ensures) (search rules)

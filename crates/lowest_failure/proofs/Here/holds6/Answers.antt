@@ -1,0 +1,6 @@
+-- Criterion 6, by the law of what is returned.
+use Rattle.lowest_failure.proofs.Tests as laws
+use Rattle.lowest_failure.proofs.Here.holds6.Goals as goal
+
+pub returns : goal.returns
+returns c = search laws.holds6_is

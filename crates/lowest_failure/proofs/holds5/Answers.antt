@@ -1,6 +1,0 @@
--- Criterion 5, by the law of what is returned.
-use Rattle.lowest_failure.proofs.Tests as laws
-use Rattle.lowest_failure.proofs.holds5.Goals as goal
-
-pub returns : goal.returns
-returns c = search laws.holds5_is

@@ -1,9 +1,0 @@
--- `test_columns::put_lines` is safe and ends; nothing is said of what it puts.
-use Rattle.std.proofs.Common.{◌-◌}
-use Rattle.test_columns.proofs.put_lines.Given as goal
-
-abbrev pub invariant-loop-i : goal.invariant-loop-i
-invariant-loop-i l = Unit {0}
-
-abbrev pub decreases-loop-i : goal.decreases-loop-i
-decreases-loop-i l = l.lines - l.i

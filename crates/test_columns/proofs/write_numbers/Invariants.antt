@@ -1,9 +1,0 @@
--- `test_columns::write_numbers` is safe and ends.
-use Rattle.std.proofs.Common.{◌-◌, length}
-use Rattle.test_columns.proofs.write_numbers.Given as goal
-
-abbrev pub invariant-loop-i : goal.invariant-loop-i
-invariant-loop-i g l = Unit {0}
-
-abbrev pub decreases-loop-i : goal.decreases-loop-i
-decreases-loop-i g l = length l.numbers - l.i

@@ -1,9 +1,0 @@
--- `run_lines` is safe and ends, since each line takes the place on.
-use Rattle.std.proofs.Common.{◌-◌, length}
-use Rattle.test_terms.proofs.run_lines.Given as goal
-
-abbrev pub invariant-loop-at : goal.invariant-loop-at
-invariant-loop-at g l = Unit {0}
-
-abbrev pub decreases-loop-at : goal.decreases-loop-at
-decreases-loop-at g l = length l.text - l.at
