@@ -105,7 +105,7 @@ static inline int read_report(const uint8_t report[CHECK_REPORT_BYTES], struct c
  * any address, NULL among them.
  *
  * The function has no state, allocates nothing, makes no system call and always returns; threads may call it at the same time, each with a
- * report area of its own. It uses less than 128 KiB of stack: 40,672 bytes at the deepest terms, measured on x86-64 by bench/run.sh.
+ * report area of its own. It uses less than 128 KiB of stack: 40,720 bytes at the deepest terms, measured on x86-64 by bench/run.sh.
  * How long it takes depends on the design, which has up to 65,536 states, 64 rows and 256 sum values for each row.
  */
 uint32_t check_design(const uint8_t *text, size_t text_len, uint8_t *report, size_t report_len);
@@ -185,7 +185,7 @@ size_t unmark_design(const uint8_t *text, size_t text_len, uint8_t *buffer, size
  * number must be aligned as their types are, and number must not be NULL. An area of length 0 may have any address, NULL among them.
  *
  * The function has no state, allocates nothing, makes no system call and always returns; threads may call it at the same time, each with a
- * slice and a number of its own. It uses less than 512 KiB of stack: 284,240 bytes, measured as above, most of them for two arrays with a
+ * slice and a number of its own. It uses less than 512 KiB of stack: 284,256 bytes, measured as above, most of them for two arrays with a
  * place for each state. That is more than some threads have. How long it takes depends on the design: it looks once at each state, row and
  * sum value, for criteria 10 and 3, and once at each state, internal row and sum value, for the runs, however long these are, and at most
  * once more for each state.
@@ -375,7 +375,7 @@ static inline uint32_t desk_drop(struct check_desk *d)
  * A call that is turned down leaves the desk as it was. Any memory is some desk: one that desk_new did not make, or that was written to
  * otherwise, is no danger, but what it answers says nothing about a text. Neither it nor a number may be NULL. Threads may use desks of their
  * own at the same time. A call copies the desk. The functions have no state, allocate nothing, make no system call and always return; they
- * use less than 128 KiB of stack: 66,056 bytes, measured as above.
+ * use less than 128 KiB of stack: 74,440 bytes, measured as above.
  */
 
 #ifdef __cplusplus

@@ -125,6 +125,7 @@ pub fn put_measured(line: &mut [u8; ROOM], answer: Measured) -> Head
 pub fn put_places(line: &mut [u8; ROOM], slice: &[u16], from: usize) -> Piece
     ensures prefix_len { IsPrefixLen result.length line.new }
     ensures piece { IsPiece slice.now from result.next (take result.length line.new) }
+    ensures next_value { length slice.now ≤ from → result.next ≡ from }
 {
     let mut at = 0;
     for i in from..slice.len() {
@@ -138,7 +139,7 @@ pub fn put_places(line: &mut [u8; ROOM], slice: &[u16], from: usize) -> Piece
     }
     Piece {
         length: at,
-        next: slice.len(),
+        next: from.max(slice.len()),
     }
 }
 

@@ -12,24 +12,24 @@ ghost use Rattle.steps.specs.Arrays.{state_in, invariant_in};
 ghost use Rattle.blocks.specs.Blocks.{RuledOut, Tries, NoneFrom};
 
 use design::{Process, Shape};
-use layout::Lines;
+use layout::Lent;
 
 // The mark of a conjunction.
 const AND: u16 = 15;
 
 // The number of the first state after this one that the part of the invariant which fails here does not rule out.
-pub fn past(lines: &Lines, shape: Shape, number: u16, v: &limits::Values) -> usize
+pub fn past(lines: Lent, shape: Shape, number: u16, v: &limits::Values) -> usize
     requires fits { Fits shape }
-    requires shape_bound { states (design_at lines.now.fields lines.now.starts shape) ≤ 65536 }
-    requires number_bound { number < states (design_at lines.now.fields lines.now.starts shape) }
-    requires v_value { v.now ≡ state_in lines.now.fields lines.now.starts shape.implementation number }
-    requires v_value_2 { invariant_in lines.now.fields lines.now.starts shape v.now ≡ false }
+    requires shape_bound { states (design_at lines.fields.now lines.starts.now shape) ≤ 65536 }
+    requires number_bound { number < states (design_at lines.fields.now lines.starts.now shape) }
+    requires v_value { v.now ≡ state_in lines.fields.now lines.starts.now shape.implementation number }
+    requires v_value_2 { invariant_in lines.fields.now lines.starts.now shape v.now ≡ false }
     ensures lower_bound { number < result }
-    ensures upper_bound { result ≤ states (design_at lines.now.fields lines.now.starts shape) }
-    ensures ruled_out { RuledOut lines.now.fields lines.now.starts shape number result }
+    ensures upper_bound { result ≤ states (design_at lines.entry.fields.now lines.entry.starts.now shape) }
+    ensures ruled_out { RuledOut lines.entry.fields.now lines.entry.starts.now shape number result }
 {
     let line = lines.line(shape.invariant as usize);
-    let tried = first_failing(&lines.fields, line as usize + 1, limits::MAX_DEPTH, v);
+    let tried = first_failing(lines.fields, line as usize + 1, limits::MAX_DEPTH, v);
     let n = up_to_last(
         tried.unwrap_err(),
         shape.implementation.parameters.count as u16,
@@ -93,11 +93,11 @@ fn up_to_last(set: u16, n: u16) -> u16
 }
 
 // The product of the sizes of all parameters but the first n.
-fn width(lines: &Lines, process: Process, n: u16) -> usize
+fn width(lines: Lent, process: Process, n: u16) -> usize
     requires n_le_count { n ≤ process.parameters.count }
-    requires nonzero { 0 < product (sizes (process_in lines.now.fields lines.now.starts process)) }
-    requires process_bound { product (sizes (process_in lines.now.fields lines.now.starts process)) ≤ 65536 }
-    ensures { result ≡ product (drop n (sizes (process_in lines.now.fields lines.now.starts process))) }
+    requires nonzero { 0 < product (sizes (process_in lines.fields.now lines.starts.now process)) }
+    requires process_bound { product (sizes (process_in lines.fields.now lines.starts.now process)) ≤ 65536 }
+    ensures { result ≡ product (drop n (sizes (process_in lines.entry.fields.now lines.entry.starts.now process))) }
 {
     let mut w = 1;
     for i in (n..process.parameters.count as u16).rev() {

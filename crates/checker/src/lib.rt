@@ -6,6 +6,7 @@
 ghost use Rattle.std.specs.Prelude.{◌≡◌};
 ghost use Rattle.checker.specs.OneCall.{refused_report, judged_of, answer_of, buffer_written};
 
+use layout::Lent;
 use verdicts::Report;
 
 // Checks a text and writes the report: 0 accepted as it is, 1 failed, 2 turned down, 3 accepted after a first internal step; 9 for a report
@@ -28,8 +29,12 @@ pub fn judge(text: &[u8]) -> Report
 {
     match loader::load(text) {
         Ok(loaded) => {
-            let outcome = walk::check(&loaded.lines, loaded.counts);
-            let phase = phases::after(&loaded.lines, loaded.counts, outcome, true);
+            let lines = Lent {
+                fields: &loaded.lines.fields,
+                starts: &loaded.lines.starts,
+            };
+            let outcome = walk::check(lines, loaded.counts);
+            let phase = phases::after(lines, loaded.counts, outcome, true);
             let verdict = answers::verdict_of(phase);
             answers::verdict_numbers(verdict)
         }

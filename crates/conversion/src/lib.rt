@@ -12,7 +12,7 @@ ghost use Rattle.conversion.specs.Result.{there, back};
 ghost use Rattle.conversion.specs.Answer.{told, answer_of, buffer_written};
 ghost use Rattle.conversion.specs.Lines.{done_with, marked_answer, marked_buffer};
 
-use layout::Lines;
+use layout::{Lent, Lines};
 use verdicts::Refusal;
 
 // A text without a line of marks into one with it, each formula being `10`; one that has it is copied. The length of the result.
@@ -28,7 +28,11 @@ pub fn to_marked(text: &[u8], buffer: &mut [u8]) -> Result<usize, Refusal>
         return write(buffer, &loaded.lines, lines);
     }
     let rows = shape.implementation.rows.count as u16;
-    let internal = marks::internal_rows(&loaded.lines, shape.implementation, rows);
+    let lent = Lent {
+        fields: &loaded.lines.fields,
+        starts: &loaded.lines.starts,
+    };
+    let internal = marks::internal_rows(lent, shape.implementation, rows);
     write_marked(buffer, loaded.lines, last, internal)
 }
 
@@ -41,7 +45,11 @@ pub fn to_unmarked(text: &[u8], buffer: &mut [u8]) -> Result<usize, Refusal>
     let loaded = loader::load(text)?;
     let shape = layout::shape_of(loaded.counts);
     let lines = shape.marks.first as u16;
-    if true_marks::all(&loaded.lines, shape) {
+    let lent = Lent {
+        fields: &loaded.lines.fields,
+        starts: &loaded.lines.starts,
+    };
+    if true_marks::all(lent, shape) {
         return write(buffer, &loaded.lines, lines);
     }
     Err(Refusal::NotAllTrue)
@@ -90,7 +98,11 @@ fn write(buffer: &mut [u8], lines: &Lines, n: u16) -> Result<usize, Refusal>
     ensures value { told result ≡ done_with (put_length buffer.old 0 (text_of (held_lines lines.now.fields lines.now.starts n))) }
     ensures buffer_after { buffer.new ≡ put buffer.old 0 (text_of (held_lines lines.now.fields lines.now.starts n)) }
 {
-    let length = text_writer::put_text(buffer, lines, n);
+    let lent = Lent {
+        fields: &lines.fields,
+        starts: &lines.starts,
+    };
+    let length = text_writer::put_text(buffer, lent, n);
     if length == 0 {
         return Err(Refusal::NoRoom);
     }
@@ -103,7 +115,11 @@ fn write_marked(buffer: &mut [u8], lines: Lines, i: u16, n: u16) -> Result<usize
     ensures value { told result ≡ marked_answer buffer.old lines.fields lines.starts i n }
     ensures buffer_after { buffer.new ≡ marked_buffer buffer.old lines.fields lines.starts i n }
 {
-    let at = lines.line(i as usize) as usize;
+    let lent = Lent {
+        fields: &lines.fields,
+        starts: &lines.starts,
+    };
+    let at = lent.line(i as usize) as usize;
     let end = at + 1 + n as usize;
     if limits::MAX_FIELDS < end {
         return Err(Refusal::NoRoom);

@@ -16,8 +16,9 @@ use Rattle.terms.proofs.And.{and_left, and_right}
 use Rattle.terms.proofs.Read.{place}
 use Rattle.eval.specs.Answer.{answer_f as answered_f}
 use Rattle.eval.specs.declared.Held.{Held as Answered}
-use Rattle.std.specs.Prelude.{Some, None, is_some, unwrap_or}
-use Rattle.has_value.specs.Answer.{answer_v, answer_f}
+use Rattle.std.specs.Prelude.{Ok, Err, is_ok}
+use Rattle.has_value.specs.Answer.{answer_v, answer_f, computed}
+use Rattle.has_value.proofs.Laws.{ok_is, computed_is}
 use Rattle.has_value.specs.declared.Valued.{Valued}
 use Rattle.has_value.specs.declared.Held.{Held}
 use Rattle.sum_free.specs.SumFree.{sum_free_f, found_f}
@@ -31,22 +32,11 @@ use Rattle.defined.specs.Defined.{have_in, formula_has_in, values_have_in, value
 -- ---- what has a value
 
 module _ {A : Type 0} (h : Bool) (a : A) where
-  some_if : is_some (cond h (Some a) None) ≡ h
-  some_if = go h
-    where
-      go : (c : Bool) → is_some (cond c (Some a) None) ≡ c
-      go true = refl
-      go false = refl
+  err_if : (b : A) → cond h (Ok a) (Err a) ≡ Err b → h ≡ false
+  err_if b e = sym (ok_is h a) ∙ ap is_ok e
 
-  none_if : cond h (Some a) None ≡ None → h ≡ false
-  none_if e = sym some_if ∙ ap is_some e
-
-  given_if : (b : A) → cond h (Some a) None ≡ Some b → (h ≡ true) × (a ≡ b)
-  given_if b e = go h e
-    where
-      go : (c : Bool) → cond c (Some a) None ≡ Some b → (c ≡ true) × (a ≡ b)
-      go true k = (refl, ap (λ o. unwrap_or o a) k)
-      go false k = let no_way : false ≡ true = ap is_some k in absurd (cc)
+  ok_if : (b : A) → cond h (Ok a) (Err a) ≡ Ok b → (h ≡ true) × (a ≡ b)
+  ok_if b e = (sym (ok_is h a) ∙ ap is_ok e, sym (computed_is h a) ∙ ap computed e)
 
 -- ---- n values
 
@@ -58,15 +48,15 @@ module _ (f v : List ℕ) (e at n : ℕ) where
   unfolding have_left
   have_begin = let k : n - 0 ≡ n = omega arith in rw k
 
-  have_one : (p i : ℕ) (x : Valued) → i < n → x ≡ answer_v p v e (read_v 32 (drop p f)) → have_left p i ≡ is_some x.value && have_left x.next (i + 1)
+  have_one : (p i : ℕ) (x : Valued) → i < n → x ≡ answer_v p v e (read_v 32 (drop p f)) → have_left p i ≡ is_ok x.value && have_left x.next (i + 1)
   unfolding have_left have_in values_in
-  have_one p i x l said = let k : n - i ≡ suc (n - (i + 1)) = omega arith in rw (k, said, some_if (has_v (read_v 32 (drop p f)).tree v e) _, place f p _ refl)
+  have_one p i x l said = let k : n - i ≡ suc (n - (i + 1)) = omega arith in rw (k, said, ok_is (has_v (read_v 32 (drop p f)).tree v e) _, place f p _ refl)
 
-  pub have_turn : (p i : ℕ) (x : Valued) (o : Bool) → i < n → x ≡ answer_v p v e (read_v 32 (drop p f)) → is_some x.value ≡ not o → o ≡ false → have_left p i ≡ have_in f at n v e
+  pub have_turn : (p i : ℕ) (x : Valued) (o : Bool) → i < n → x ≡ answer_v p v e (read_v 32 (drop p f)) → is_ok x.value ≡ not o → o ≡ false → have_left p i ≡ have_in f at n v e
       → have_left x.next (i + 1) ≡ have_in f at n v e
   have_turn p i x o l said h z inv = sym (have_one p i x l said ∙ rw (h, z)) ∙ inv
 
-  pub have_fail : (p i : ℕ) (x : Valued) (o : Bool) → i < n → x ≡ answer_v p v e (read_v 32 (drop p f)) → is_some x.value ≡ not o → o ≡ true → have_left p i ≡ have_in f at n v e
+  pub have_fail : (p i : ℕ) (x : Valued) (o : Bool) → i < n → x ≡ answer_v p v e (read_v 32 (drop p f)) → is_ok x.value ≡ not o → o ≡ true → have_left p i ≡ have_in f at n v e
       → false ≡ have_in f at n v e
   have_fail p i x o l said h z inv = sym (have_one p i x l said ∙ rw (h, z)) ∙ inv
 
@@ -77,17 +67,17 @@ module _ (f v : List ℕ) (e at n : ℕ) where
 -- ---- invariant, mapping, measure
 
 module _ (f s v : List ℕ) (k line : ℕ) (el : line ≡ get_or s k 0) where
-  pub formula_is : (x : Held) (b : Bool) → x ≡ answer_f (line + 1) v 0 (read_f 32 (drop (line + 1) f)) → b ≡ is_some x.holds → b ≡ formula_has_in f s k v
+  pub formula_is : (x : Held) (b : Bool) → x ≡ answer_f (line + 1) v 0 (read_f 32 (drop (line + 1) f)) → b ≡ is_ok x.holds → b ≡ formula_has_in f s k v
   unfolding formula_has_in
-  formula_is x b ex eb = eb ∙ rw (← el, place f line 1 refl, ex) (some_if _ _)
+  formula_is x b ex eb = eb ∙ rw (← el, place f line 1 refl, ex) (ok_is _ _)
 
   pub values_are : (n : ℕ) (b : Bool) → b ≡ have_in f (line + 1) n v 0 → b ≡ values_have_in f s k n v
   unfolding values_have_in have_in
   values_are n b eb = rw (← el, place f line 1 refl, eb)
 
-  pub value_is : (x : Valued) (b : Bool) → x ≡ answer_v (line + 1) v 0 (read_v 32 (drop (line + 1) f)) → b ≡ is_some x.value → b ≡ value_has_in f s k v
+  pub value_is : (x : Valued) (b : Bool) → x ≡ answer_v (line + 1) v 0 (read_v 32 (drop (line + 1) f)) → b ≡ is_ok x.value → b ≡ value_has_in f s k v
   unfolding value_has_in
-  value_is x b ex eb = eb ∙ rw (← el, place f line 1 refl, ex) (some_if _ _)
+  value_is x b ex eb = eb ∙ rw (← el, place f line 1 refl, ex) (ok_is _ _)
 
 module _ (f s v : List ℕ) (h : Shape) (b : Bool) where
   pub invariant_is : b ≡ formula_has_in f s h.invariant v → b ≡ has_invariant_in f s h v
@@ -111,27 +101,27 @@ module _ (f v : List ℕ) (line n e : ℕ) (h : Held) (eh : h ≡ answer_f (line
   abbrev condition_is : Formula
   condition_is = (read_f 32 (drop (line + 3) f)).tree
 
-  has_is : (x : Valued) → x ≡ answer_v h.next v e (read_v 32 (drop h.next f)) → has_f condition_is v e && (eval_f condition_is v e ⇒ (is_some x.value && have_in f x.next n v e)) ≡ whole
+  has_is : (x : Valued) → x ≡ answer_v h.next v e (read_v 32 (drop h.next f)) → has_f condition_is v e && (eval_f condition_is v e ⇒ (is_ok x.value && have_in f x.next n v e)) ≡ whole
   unfolding have_in row_at_in
-  has_is x ex = rw (ex, eh, some_if (has_v (read_v 32 (drop (line + 3 + (read_f 32 (drop (line + 3) f)).used) f)).tree v e) _, place f line 3 refl, place f (line + 3) _ refl, place f (line + 3 + _) _ refl)
+  has_is x ex = rw (ex, eh, ok_is (has_v (read_v 32 (drop (line + 3 + (read_f 32 (drop (line + 3) f)).used) f)).tree v e) _, place f line 3 refl, place f (line + 3) _ refl, place f (line + 3 + _) _ refl)
 
-  lacks : h.holds ≡ None → has_f condition_is v e ≡ false
-  lacks k = none_if _ _ (sym (ap (λ (x : Held). x.holds) eh) ∙ k)
+  lacks : (b : Bool) → h.holds ≡ Err b → has_f condition_is v e ≡ false
+  lacks b k = err_if _ _ b (sym (ap (λ (x : Held). x.holds) eh) ∙ k)
 
-  given : (b : Bool) → h.holds ≡ Some b → (has_f condition_is v e ≡ true) × (eval_f condition_is v e ≡ b)
-  given b k = given_if _ _ b (sym (ap (λ (x : Held). x.holds) eh) ∙ k)
+  given : (b : Bool) → h.holds ≡ Ok b → (has_f condition_is v e ≡ true) × (eval_f condition_is v e ≡ b)
+  given b k = ok_if _ _ b (sym (ap (λ (x : Held). x.holds) eh) ∙ k)
 
-  pub condition_lacks : h.holds ≡ None → false ≡ whole
-  condition_lacks k = sym (rw (lacks k)) ∙ has_is _ refl
+  pub condition_lacks : (b : Bool) → h.holds ≡ Err b → false ≡ whole
+  condition_lacks b k = sym (rw (lacks b k)) ∙ has_is _ refl
 
-  pub condition_fails : (b : Bool) → h.holds ≡ Some b → not b ≡ true → true ≡ whole
+  pub condition_fails : (b : Bool) → h.holds ≡ Ok b → not b ≡ true → true ≡ whole
   condition_fails b k j = sym (rw ((given b k).0, (given b k).1, not-true b j)) ∙ has_is _ refl
 
-  module _ (x : Valued) (ex : x ≡ answer_v h.next v e (read_v 32 (drop h.next f))) (b : Bool) (k : h.holds ≡ Some b) (j : not b ≡ false) where
-    pub data_lacks : (o : Bool) → is_some x.value ≡ not o → o ≡ true → false ≡ whole
+  module _ (x : Valued) (ex : x ≡ answer_v h.next v e (read_v 32 (drop h.next f))) (b : Bool) (k : h.holds ≡ Ok b) (j : not b ≡ false) where
+    pub data_lacks : (o : Bool) → is_ok x.value ≡ not o → o ≡ true → false ≡ whole
     data_lacks o l y = sym (rw ((given b k).0, (given b k).1, not-false b j, l, y)) ∙ has_is x ex
 
-    pub row_has : (o r : Bool) → is_some x.value ≡ not o → o ≡ false → r ≡ have_in f x.next n v e → r ≡ whole
+    pub row_has : (o r : Bool) → is_ok x.value ≡ not o → o ≡ false → r ≡ have_in f x.next n v e → r ≡ whole
     row_has o r l y er = er ∙ sym (rw ((given b k).0, (given b k).1, not-false b j, l, y)) ∙ has_is x ex
 
 -- ---- its mark
@@ -141,9 +131,9 @@ module _ (f v : List ℕ) (at e : ℕ) where
   unfolding mark_has_in
   no_mark_lem z = rw (eq-eqb at 0 z)
 
-  pub some_mark : (x : Held) (b : Bool) → (at ≡ 0 → ⊥) → x ≡ answer_f at v e (read_f 32 (drop at f)) → b ≡ is_some x.holds → b ≡ mark_has_in f at v e
+  pub some_mark : (x : Held) (b : Bool) → (at ≡ 0 → ⊥) → x ≡ answer_f at v e (read_f 32 (drop at f)) → b ≡ is_ok x.holds → b ≡ mark_has_in f at v e
   unfolding mark_has_in
-  some_mark x b z ex eb = eb ∙ rw (ne_eqb at 0 z, ex) (some_if _ _)
+  some_mark x b z ex eb = eb ∙ rw (ne_eqb at 0 z, ex) (ok_is _ _)
 
 -- ---- how many sum values are asked
 

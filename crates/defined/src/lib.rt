@@ -7,7 +7,7 @@ ghost use Rattle.marks.specs.Marks.{mark_has_in};
 ghost use Rattle.defined.specs.Defined.{have_in, formula_has_in, values_have_in, value_has_in, has_invariant_in, has_mapping_in, has_measure_in, row_at_in, row_has_in, mark_free_in, asks_in};
 
 use design::Shape;
-use layout::Lines;
+use layout::Lent;
 
 // Whether each of n values that stand one after the other from a place on has a value.
 fn have(fields: &limits::Fields, at: usize, n: u8, v: &limits::Values, sum: u16) -> bool
@@ -16,7 +16,7 @@ fn have(fields: &limits::Fields, at: usize, n: u8, v: &limits::Values, sum: u16)
     let mut place = at;
     for i in 0..n {
         let x = has_value::value(fields, place, v, sum, limits::MAX_DEPTH);
-        if x.value.is_none() {
+        if x.value.is_err() {
             return false;
         }
         place = x.next;
@@ -28,49 +28,49 @@ fn have(fields: &limits::Fields, at: usize, n: u8, v: &limits::Values, sum: u16)
 
 // Whether the formula in a line has a value. Formula, values and value are read by three functions: one that takes what is read would be no
 // plainer.
-pub fn formula_in_line(lines: &Lines, k: u8, v: &limits::Values) -> bool
-    ensures { result ≡ formula_has_in lines.now.fields lines.now.starts k v.now }
+pub fn formula_in_line(lines: Lent, k: u8, v: &limits::Values) -> bool
+    ensures { result ≡ formula_has_in lines.entry.fields.now lines.entry.starts.now k v.now }
 {
     let line = lines.line(k as usize);
-    let x = has_value::formula(&lines.fields, line as usize + 1, v, 0, limits::MAX_DEPTH);
-    x.holds.is_some()
+    let x = has_value::formula(lines.fields, line as usize + 1, v, 0, limits::MAX_DEPTH);
+    x.holds.is_ok()
 }
 
 // Whether each of the n values in a line does.
-pub fn values_in_line(lines: &Lines, k: u8, n: u8, v: &limits::Values) -> bool
-    ensures { result ≡ values_have_in lines.now.fields lines.now.starts k n v.now }
+pub fn values_in_line(lines: Lent, k: u8, n: u8, v: &limits::Values) -> bool
+    ensures { result ≡ values_have_in lines.entry.fields.now lines.entry.starts.now k n v.now }
 {
     let line = lines.line(k as usize);
-    have(&lines.fields, line as usize + 1, n, v, 0)
+    have(lines.fields, line as usize + 1, n, v, 0)
 }
 
 // Whether the value in a line does.
-pub fn value_in_line(lines: &Lines, k: u8, v: &limits::Values) -> bool
-    ensures { result ≡ value_has_in lines.now.fields lines.now.starts k v.now }
+pub fn value_in_line(lines: Lent, k: u8, v: &limits::Values) -> bool
+    ensures { result ≡ value_has_in lines.entry.fields.now lines.entry.starts.now k v.now }
 {
     let line = lines.line(k as usize);
-    let x = has_value::value(&lines.fields, line as usize + 1, v, 0, limits::MAX_DEPTH);
-    x.value.is_some()
+    let x = has_value::value(lines.fields, line as usize + 1, v, 0, limits::MAX_DEPTH);
+    x.value.is_ok()
 }
 
 // Of the invariant.
-pub fn invariant(lines: &Lines, shape: Shape, v: &limits::Values) -> bool
-    ensures { result ≡ has_invariant_in lines.now.fields lines.now.starts shape v.now }
+pub fn invariant(lines: Lent, shape: Shape, v: &limits::Values) -> bool
+    ensures { result ≡ has_invariant_in lines.entry.fields.now lines.entry.starts.now shape v.now }
 {
     formula_in_line(lines, shape.invariant, v)
 }
 
 // Of the mapping.
-pub fn mapping(lines: &Lines, shape: Shape, v: &limits::Values) -> bool
-    ensures { result ≡ has_mapping_in lines.now.fields lines.now.starts shape v.now }
+pub fn mapping(lines: Lent, shape: Shape, v: &limits::Values) -> bool
+    ensures { result ≡ has_mapping_in lines.entry.fields.now lines.entry.starts.now shape v.now }
 {
     let n = shape.specification.parameters.count;
     values_in_line(lines, shape.mapping, n, v)
 }
 
 // Of the measure.
-pub fn measure(lines: &Lines, shape: Shape, v: &limits::Values) -> bool
-    ensures { result ≡ has_measure_in lines.now.fields lines.now.starts shape v.now }
+pub fn measure(lines: Lent, shape: Shape, v: &limits::Values) -> bool
+    ensures { result ≡ has_measure_in lines.entry.fields.now lines.entry.starts.now shape v.now }
 {
     value_in_line(lines, shape.measure, v)
 }
@@ -84,14 +84,14 @@ fn row_at(fields: &limits::Fields, line: u16, n: u8, v: &limits::Values, sum: u1
 {
     let condition = has_value::formula(fields, line as usize + 3, v, sum, limits::MAX_DEPTH);
     let holds = match condition.holds {
-        Some(holds) => holds,
-        None => return false,
+        Ok(holds) => holds,
+        Err(_) => return false,
     };
     if !holds {
         return true;
     }
     let data = has_value::value(fields, condition.next, v, sum, limits::MAX_DEPTH);
-    if data.value.is_none() {
+    if data.value.is_err() {
         return false;
     }
     have(fields, data.next, n, v, sum)
@@ -105,7 +105,7 @@ fn mark(fields: &limits::Fields, place: usize, v: &limits::Values, sum: u16) -> 
         return true;
     }
     let x = has_value::formula(fields, place, v, sum, limits::MAX_DEPTH);
-    x.holds.is_some()
+    x.holds.is_ok()
 }
 
 // Whether row and mark do for each sum value below a number.

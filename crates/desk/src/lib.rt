@@ -14,7 +14,7 @@ ghost use Rattle.desk.specs.Desk.{empty_desk, load_empty, load_of, examine_open,
 
 use answers::{Advance, Done, Measured, Phase, Verdict};
 use design::Counts;
-use layout::Lines;
+use layout::{Lent, Lines};
 
 #[derive(Drop)]
 pub struct Desk {
@@ -181,7 +181,14 @@ impl Desk {
             };
         }
         AfterMeasure {
-            answer: measure::measure(&self.lines, self.counts, slice),
+            answer: measure::measure(
+                Lent {
+                    fields: &self.lines.fields,
+                    starts: &self.lines.starts,
+                },
+                self.counts,
+                slice,
+            ),
             desk: self,
         }
     }
@@ -213,7 +220,13 @@ impl Desk {
             Ok(loaded) => {
                 let lines = loaded.lines;
                 let counts = loaded.counts;
-                let plan = walk::plan(&lines, counts);
+                let plan = walk::plan(
+                    Lent {
+                        fields: &lines.fields,
+                        starts: &lines.starts,
+                    },
+                    counts,
+                );
                 AfterLoad {
                     answer: Done::Done,
                     desk: Desk {
@@ -237,7 +250,16 @@ impl Desk {
         ensures { result ≡ examine_open self n }
     {
         let next = self.next;
-        let examined = examining::examine(&self.lines, self.counts, &self.plan, next, n);
+        let examined = examining::examine(
+            Lent {
+                fields: &self.lines.fields,
+                starts: &self.lines.starts,
+            },
+            self.counts,
+            &self.plan,
+            next,
+            n,
+        );
         let phase = examined.phase;
         let answer = answers::advance_of(phase, examined.count);
         AfterAdvance {

@@ -32,9 +32,10 @@ enum Failed {
     Output(io::Error),
 }
 
-// Why a list of calls ends early.
+// Why a list of calls ends: no line is left, or early.
 #[derive(Clone, Copy)]
 enum Ending {
+    NoLine,
     Stopped(Stop),
     Failed(Failed),
 }
@@ -75,8 +76,8 @@ fn run_calls(standard: &mut Standard) -> Result<(), Failed> {
     let mut desk = Desk::empty();
     for line in 1..u64::MAX {
         match run_next(standard, desk) {
-            Ok(Some(next)) => desk = next,
-            Ok(None) => return Ok(()),
+            Ok(next) => desk = next,
+            Err(Ending::NoLine) => return Ok(()),
             Err(Ending::Stopped(why)) => return write_stop(standard, why, line),
             Err(Ending::Failed(failed)) => return Err(failed),
         }
@@ -84,16 +85,16 @@ fn run_calls(standard: &mut Standard) -> Result<(), Failed> {
     Ok(())
 }
 
-// Reads a line and makes the call that it says; None where no line is left.
-fn run_next(standard: &mut Standard, desk: Desk) -> Result<Option<Desk>, Ending> {
+// Reads a line and makes the call that it says.
+fn run_next(standard: &mut Standard, desk: Desk) -> Result<Desk, Ending> {
     let mut bytes = [0u8; call_lines::LONGEST];
     match call_input::read_line(&mut standard.input, &mut bytes).map_err(Failed::Input)? {
         Line::Short(n) => {
             let call = call_lines::call_of(&bytes[..n]).ok_or(Ending::Stopped(Stop::NoCall))?;
-            Ok(Some(run_call(standard, desk, call)?))
+            run_call(standard, desk, call)
         }
         Line::Long => Err(Ending::Stopped(Stop::NoCall)),
-        Line::End => Ok(None),
+        Line::End => Err(Ending::NoLine),
     }
 }
 
@@ -101,11 +102,7 @@ fn run_next(standard: &mut Standard, desk: Desk) -> Result<Option<Desk>, Ending>
 fn run_call(standard: &mut Standard, desk: Desk, call: Call) -> Result<Desk, Ending> {
     let mut line = [0u8; answer_lines::ROOM];
     let answered = match call {
-        Call::Load(n) => {
-            let mut room = [0u8; calls::ENOUGH];
-            call_input::read_text(&mut standard.input, n, &mut room)?;
-            calls::run_load(desk, &room, n, &mut line)
-        }
+        Call::Load(n) => return run_load(standard, desk, n),
         Call::Advance(n) => calls::run_advance(desk, n, &mut line),
         Call::Verdict => calls::run_verdict(desk, &mut line),
         Call::Measure(n) => return run_measure(standard, desk, n),
@@ -115,6 +112,18 @@ fn run_call(standard: &mut Standard, desk: Desk, call: Call) -> Result<Desk, End
     Ok(answered.desk)
 }
 
+// Apart, as a measure is: where its room is in the frame of every call, each call touches all of it.
+#[inline(never)]
+fn run_load(standard: &mut Standard, desk: Desk, n: u64) -> Result<Desk, Ending> {
+    let mut room = [0u8; calls::ENOUGH];
+    call_input::read_text(&mut standard.input, n, &mut room)?;
+    let mut line = [0u8; answer_lines::ROOM];
+    let answered = calls::run_load(desk, &room, n, &mut line);
+    write(standard, &line[..answered.length])?;
+    Ok(answered.desk)
+}
+
+#[inline(never)]
 fn run_measure(standard: &mut Standard, desk: Desk, n: u64) -> Result<Desk, Ending> {
     if (calls::PLACES as u64) < n {
         return Err(Ending::Stopped(Stop::NoRoom));

@@ -9,7 +9,7 @@ ghost use Rattle.duty.specs.Arrays.{length_at, same_from, same_line, same_lines_
 ghost use Rattle.duty.specs.Duty.{duty_told};
 
 use design::{Counts, Section};
-use layout::Lines;
+use layout::Lent;
 
 // What C is told.
 const SAME: u32 = 0;
@@ -30,7 +30,15 @@ pub fn same_duty(text: &[u8], duty: &[u8]) -> u32
     let Ok(due) = loader::load(duty) else {
         return NO_DUTY;
     };
-    if same_specification(&own.lines, own.counts, &due.lines, due.counts) {
+    let lines = Lent {
+        fields: &own.lines.fields,
+        starts: &own.lines.starts,
+    };
+    let asked = Lent {
+        fields: &due.lines.fields,
+        starts: &due.lines.starts,
+    };
+    if same_specification(lines, own.counts, asked, due.counts) {
         SAME
     } else {
         DIFFERS
@@ -38,8 +46,8 @@ pub fn same_duty(text: &[u8], duty: &[u8]) -> u32
 }
 
 // Whether the lines of the two specifications are the same, where the lines are so many.
-fn same_specification(lines: &Lines, counts: Counts, due: &Lines, asked: Counts) -> bool
-    ensures { result ≡ same_process lines.now.fields lines.now.starts (shape_of counts).specification due.now.fields due.now.starts (shape_of asked).specification }
+fn same_specification(lines: Lent, counts: Counts, due: Lent, asked: Counts) -> bool
+    ensures { result ≡ same_process lines.entry.fields.now lines.entry.starts.now (shape_of counts).specification due.entry.fields.now due.entry.starts.now (shape_of asked).specification }
 {
     let here = layout::shape_of(counts);
     let there = layout::shape_of(asked);
@@ -59,8 +67,8 @@ fn same_specification(lines: &Lines, counts: Counts, due: &Lines, asked: Counts)
 }
 
 // Whether two sections have as many lines, and each the same as the other's.
-fn same_section(lines: &Lines, here: Section, due: &Lines, there: Section) -> bool
-    ensures { result ≡ same_section lines.now.fields lines.now.starts here due.now.fields due.now.starts there }
+fn same_section(lines: Lent, here: Section, due: Lent, there: Section) -> bool
+    ensures { result ≡ same_section lines.entry.fields.now lines.entry.starts.now here due.entry.fields.now due.entry.starts.now there }
 {
     if here.count != there.count {
         return false;
@@ -69,8 +77,8 @@ fn same_section(lines: &Lines, here: Section, due: &Lines, there: Section) -> bo
 }
 
 // Whether so many lines from line i on are those of the other arrays from line j on.
-fn same_lines(lines: &Lines, i: u8, due: &Lines, j: u8, count: u8) -> bool
-    ensures { result ≡ same_lines_from lines.now.fields lines.now.starts i due.now.fields due.now.starts j count }
+fn same_lines(lines: Lent, i: u8, due: Lent, j: u8, count: u8) -> bool
+    ensures { result ≡ same_lines_from lines.entry.fields.now lines.entry.starts.now i due.entry.fields.now due.entry.starts.now j count }
 {
     for k in 0..count {
         if !same_nth(lines, i, due, j, k) {
@@ -81,32 +89,32 @@ fn same_lines(lines: &Lines, i: u8, due: &Lines, j: u8, count: u8) -> bool
 }
 
 // Whether the k-th line after line i is the k-th after the other arrays' line j.
-fn same_nth(lines: &Lines, i: u8, due: &Lines, j: u8, k: u8) -> bool
-    ensures { result ≡ same_line lines.now.fields lines.now.starts (i + k) due.now.fields due.now.starts (j + k) }
+fn same_nth(lines: Lent, i: u8, due: Lent, j: u8, k: u8) -> bool
+    ensures { result ≡ same_line lines.entry.fields.now lines.entry.starts.now (i + k) due.entry.fields.now due.entry.starts.now (j + k) }
 {
     same_line(lines, i as u16 + k as u16, due, j as u16 + k as u16)
 }
 
 // Whether line i has as many fields as the other arrays' line j, and the same.
-fn same_line(lines: &Lines, i: u16, due: &Lines, j: u16) -> bool
-    ensures { result ≡ same_line lines.now.fields lines.now.starts i due.now.fields due.now.starts j }
+fn same_line(lines: Lent, i: u16, due: Lent, j: u16) -> bool
+    ensures { result ≡ same_line lines.entry.fields.now lines.entry.starts.now i due.entry.fields.now due.entry.starts.now j }
 {
     let length = line_length(lines, i);
     if length != line_length(due, j) {
         return false;
     }
     same_fields(
-        &lines.fields,
+        lines.fields,
         lines.line(i as usize),
-        &due.fields,
+        due.fields,
         due.line(j as usize),
         length,
     )
 }
 
 // How many fields line i has.
-fn line_length(lines: &Lines, i: u16) -> u16
-    ensures { result ≡ length_at lines.now.starts i }
+fn line_length(lines: Lent, i: u16) -> u16
+    ensures { result ≡ length_at lines.entry.starts.now i }
 {
     let start = lines.line(i as usize);
     let end = lines.line(i as usize + 1);

@@ -7,7 +7,7 @@ ghost use Rattle.examining.specs.Examined.{ahead, examined_next, examined_from};
 
 use answers::Phase;
 use design::Counts;
-use layout::Lines;
+use layout::Lent;
 
 // The phase after the states, the number of the next one, and how many were examined.
 #[derive(Clone, Copy)]
@@ -19,13 +19,13 @@ pub struct Examined {
 
 // The next n states, or those that remain. Criterion 1 comes before state 0, in the first advance; if it fails, no state is examined.
 pub fn examine(
-    lines: &Lines,
+    lines: Lent,
     counts: Counts,
     plan: &[u16; walk::PLAN_LENGTH],
     next: usize,
     n: u64,
 ) -> Examined
-    ensures { result ≡ examined_from lines.now.fields lines.now.starts counts plan.now next n }
+    ensures { result ≡ examined_from lines.entry.fields.now lines.entry.starts.now counts plan.now next n }
 {
     if next == 0 {
         if start::holds(lines, counts) {
@@ -43,13 +43,13 @@ pub fn examine(
 
 // The same without criterion 1: failed, accepted if the last state is done, or still open.
 fn examine_next(
-    lines: &Lines,
+    lines: Lent,
     counts: Counts,
     plan: &[u16; walk::PLAN_LENGTH],
     next: usize,
     n: u64,
 ) -> Examined
-    ensures { result ≡ examined_next lines.now.fields lines.now.starts counts plan.now next n }
+    ensures { result ≡ examined_next lines.entry.fields.now lines.entry.starts.now counts plan.now next n }
 {
     let total = lines.state_count(counts);
     let k = ahead(n, next, total);

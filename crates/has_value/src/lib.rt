@@ -1,29 +1,54 @@
-// The value of a term, and whether it has one, read from the desk's fields where it stands. The crate eval stays for terms that are known to
-// have a value, so that a walk which need not ask doesn't pay for the answer.
+// The value of a term, and whether it has one, read from the desk's fields where it stands: `Ok` of what evaluation computes where the term
+// has a value, and `Err` of it where it has none. The crate eval stays for terms that are known to have a value, so that a walk which need
+// not ask doesn't pay for the answer.
 //
 // It is made by the reader of the crate term_fold. What a term's value is, and when it has one, is in the crate terms.
 #![tactic(auto)]
 
-ghost use Rattle.std.specs.Prelude.{◌≡◌, drop};
+ghost use Rattle.std.specs.Prelude.{◌≡◌, ◌&&◌, cond, Ok, Err, is_ok, drop};
 ghost use Rattle.terms.specs.Tree.{Value, Formula, num, par, sum_value, arith, choice, no_value, const, compare, negation, join, no_formula};
 ghost use Rattle.terms.specs.Read.{read_v, read_f};
-ghost use Rattle.has_value.specs.Answer.{value_of, truth_of, answer_v, answer_f};
+ghost use Rattle.has_value.specs.Answer.{computed, value_of, truth_of, answer_v, answer_f};
 
 use term_fold::Fold;
 use terms::{Arith, Compare, Join};
 
-// A term's value, where it has one, and where the next term stands.
+// A term's value, or the number computed for it where it has none, and where the next term stands.
 #[derive(Clone, Copy)]
 pub struct Valued {
-    pub value: Option<u16>,
+    pub value: Result<u16, u16>,
     pub next: usize,
 }
 
-// Whether a formula holds, where it has a value, and where the next term stands.
+// Whether a formula holds, or the truth computed for it where it has no value, and where the next term stands.
 #[derive(Clone, Copy)]
 pub struct Held {
-    pub holds: Option<bool>,
+    pub holds: Result<bool, bool>,
     pub next: usize,
+}
+
+// What was computed, with a value or without.
+fn computed<T: Copy>(answer: Result<T, T>) -> T
+    ensures { result ≡ computed answer }
+{
+    match answer {
+        Ok(x) => x,
+        Err(x) => x,
+    }
+}
+
+// An answer, by whether there is a value.
+fn answer<T: Copy>(has: bool, x: T) -> Result<T, T>
+    ensures { result ≡ cond has (Ok x) (Err x) }
+{
+    if has { Ok(x) } else { Err(x) }
+}
+
+// An answer made of two, which has a value where both have one.
+fn of_both<T: Copy>(a: Result<T, T>, b: Result<T, T>, x: bool) -> Result<bool, bool>
+    ensures { result ≡ cond (is_ok a && is_ok b) (Ok x) (Err x) }
+{
+    answer(a.is_ok() & b.is_ok(), x)
 }
 
 // Evaluation at parameter values and a sum value: "any term that evaluates" one without a value has none.
@@ -33,86 +58,89 @@ struct Evaluation<'a> {
     sum: u16,
 }
 
-#[tactic(auto, unfolding(terms::specs::Tree::eval_v, terms::specs::Tree::eval_f, terms::specs::Tree::has_v, terms::specs::Tree::has_f))]
+#[tactic(auto, using(crate::proofs::Laws::ok_is, crate::proofs::Laws::computed_is), unfolding(terms::specs::Tree::eval_v, terms::specs::Tree::eval_f, terms::specs::Tree::has_v, terms::specs::Tree::has_f))]
 impl<'a> Fold for Evaluation<'a> {
-    type OfValue = Option<u16>;
+    type OfValue = Result<u16, u16>;
 
-    type OfFormula = Option<bool>;
+    type OfFormula = Result<bool, bool>;
 
     ghost of_value = { λ e t. value_of t e.params.now e.sum };
 
     ghost of_formula = { λ e t. truth_of t e.params.now e.sum };
 
-    fn number(self, n: u16) -> Option<u16> {
-        Some(n)
+    fn number(self, n: u16) -> Result<u16, u16> {
+        Ok(n)
     }
 
-    fn parameter(self, i: u16) -> Option<u16> {
+    fn parameter(self, i: u16) -> Result<u16, u16> {
         let params = self.params;
-        Some(terms::parameter(params, i))
+        Ok(terms::parameter(params, i))
     }
 
-    fn sum_value(self) -> Option<u16> {
-        Some(self.sum)
+    fn sum_value(self) -> Result<u16, u16> {
+        Ok(self.sum)
     }
 
     fn arithmetic(
         self,
         op: Arith,
-        a: Option<u16>,
-        b: Option<u16>,
+        a: Result<u16, u16>,
+        b: Result<u16, u16>,
         _desk: &limits::Fields,
         _at: usize,
         _depth: usize,
-    ) -> Option<u16> {
-        let x = a?;
-        let y = b?;
-        if terms::arith_has(op, y) {
-            Some(terms::arith_value(op, x, y))
-        } else {
-            None
-        }
+    ) -> Result<u16, u16> {
+        let x = computed(a);
+        let y = computed(b);
+        let has = a.is_ok() & (b.is_ok() & terms::arith_has(op, y));
+        answer(has, terms::arith_value(op, x, y))
     }
 
     fn choice(
         self,
-        f: Option<bool>,
-        a: Option<u16>,
-        b: Option<u16>,
+        f: Result<bool, bool>,
+        a: Result<u16, u16>,
+        b: Result<u16, u16>,
         _desk: &limits::Fields,
         _at: usize,
         _depth: usize,
-    ) -> Option<u16> {
-        if f? { a } else { b }
+    ) -> Result<u16, u16> {
+        let taken = if computed(f) { a } else { b };
+        answer(f.is_ok() & taken.is_ok(), computed(taken))
     }
 
-    fn no_value(self) -> Option<u16> {
-        None
+    fn no_value(self) -> Result<u16, u16> {
+        Err(0)
     }
 
-    fn constant(self, b: bool) -> Option<bool> {
-        Some(b)
+    fn constant(self, b: bool) -> Result<bool, bool> {
+        Ok(b)
     }
 
-    fn comparison(self, op: Compare, a: Option<u16>, b: Option<u16>) -> Option<bool> {
-        let x = a?;
-        let y = b?;
-        Some(terms::compare_holds(op, x, y))
+    fn comparison(
+        self,
+        op: Compare,
+        a: Result<u16, u16>,
+        b: Result<u16, u16>,
+    ) -> Result<bool, bool> {
+        of_both(a, b, terms::compare_holds(op, computed(a), computed(b)))
     }
 
-    fn negation(self, f: Option<bool>) -> Option<bool> {
-        let h = f?;
-        Some(!h)
+    fn negation(self, f: Result<bool, bool>) -> Result<bool, bool> {
+        answer(f.is_ok(), !computed(f))
     }
 
-    fn connective(self, op: Join, f: Option<bool>, g: Option<bool>) -> Option<bool> {
-        let x = f?;
-        let y = g?;
-        Some(terms::join_holds(op, x, y))
+    fn connective(
+        self,
+        op: Join,
+        f: Result<bool, bool>,
+        g: Result<bool, bool>,
+    ) -> Result<bool, bool> {
+        of_both(f, g, terms::join_holds(op, computed(f), computed(g)))
     }
 
-    fn no_formula(self) -> Option<bool> {
-        None
+    fn no_formula(self) -> Result<bool, bool> {
+        Err(false)
     }
 }
 

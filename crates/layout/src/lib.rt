@@ -17,6 +17,13 @@ pub struct Lines {
     pub starts: limits::Starts,
 }
 
+// Such lines where they stand, to be looked at: those of a desk, or the two arrays that C lends.
+#[derive(Clone, Copy)]
+pub struct Lent<'a> {
+    pub fields: &'a limits::Fields,
+    pub starts: &'a limits::Starts,
+}
+
 // One more than the most states that a design may have: a count that says "too many".
 pub const TOO_MANY: u32 = limits::MAX_STATES as u32 + 1;
 
@@ -107,38 +114,41 @@ impl Lines {
             starts: [0u16; limits::STARTS],
         }
     }
+}
 
+impl<'a> Lent<'a> {
     // Where line i starts among the fields, and 0 past the last line.
-    pub fn line(&self, i: usize) -> u16
-        ensures { result ≡ get_or self.now.starts i 0 }
+    pub fn line(self, i: usize) -> u16
+        ensures { result ≡ get_or self.entry.starts.now i 0 }
     {
-        terms::field(&self.starts, i)
+        let starts = self.starts;
+        terms::field(starts, i)
     }
 
     // Field k of line i, the kind being field 0.
-    pub fn field(&self, i: usize, k: u16) -> u16
-        ensures { result ≡ get_or (line_from self.now.fields self.now.starts i) k 0 }
+    pub fn field(self, i: usize, k: u16) -> u16
+        ensures { result ≡ get_or (line_from self.entry.fields.now self.entry.starts.now i) k 0 }
     {
-        field_of(&self.fields, self.line(i), k)
+        field_of(self.fields, self.line(i), k)
     }
 
     // The size of the parameter in line i.
-    pub fn size(&self, i: usize) -> u16
-        ensures { result ≡ get_or (line_from self.now.fields self.now.starts i) 1 0 }
+    pub fn size(self, i: usize) -> u16
+        ensures { result ≡ get_or (line_from self.entry.fields.now self.entry.starts.now i) 1 0 }
     {
         self.field(i, 1)
     }
 
     // The initial value of the parameter in line i.
-    pub fn initial(&self, i: usize) -> u16
-        ensures { result ≡ get_or (line_from self.now.fields self.now.starts i) 2 0 }
+    pub fn initial(self, i: usize) -> u16
+        ensures { result ≡ get_or (line_from self.entry.fields.now self.entry.starts.now i) 2 0 }
     {
         self.field(i, 2)
     }
 
     // How many states there are, and `TOO_MANY` where there are more than a design may have; 0 where the counts do not fit.
-    pub fn state_count(&self, counts: Counts) -> usize
-        ensures { result ≡ state_count_in self.now.fields self.now.starts counts }
+    pub fn state_count(self, counts: Counts) -> usize
+        ensures { result ≡ state_count_in self.entry.fields.now self.entry.starts.now counts }
     {
         if counts_fit(counts) {
             self.product(counts.kind1) as usize
@@ -148,8 +158,8 @@ impl Lines {
     }
 
     // The product of the first n sizes, but no more than `TOO_MANY`.
-    fn product(&self, n: usize) -> u32
-        ensures { result ≡ product_up_to self.now.fields self.now.starts n }
+    fn product(self, n: usize) -> u32
+        ensures { result ≡ product_up_to self.entry.fields.now self.entry.starts.now n }
     {
         let mut p = 1;
         for i in 0..n {
@@ -159,8 +169,8 @@ impl Lines {
     }
 
     // The number of the initial state, where it is at most `LAST_NUMBER`, and else that; 0 where the counts do not fit.
-    pub fn initial_number(&self, counts: Counts) -> u16
-        ensures { result ≡ initial_number_in self.now.fields self.now.starts counts }
+    pub fn initial_number(self, counts: Counts) -> u16
+        ensures { result ≡ initial_number_in self.entry.fields.now self.entry.starts.now counts }
     {
         if counts_fit(counts) {
             self.number(counts.kind1) as u16
@@ -171,8 +181,8 @@ impl Lines {
 
     // The number of the first n initial values, but no more than `LAST_NUMBER`. It starts from, adds and stops at something else than
     // `product`: one loop with these three as parameters would be no plainer.
-    fn number(&self, n: usize) -> u32
-        ensures { result ≡ number_up_to self.now.fields self.now.starts n }
+    fn number(self, n: usize) -> u32
+        ensures { result ≡ number_up_to self.entry.fields.now self.entry.starts.now n }
     {
         let mut v = 0;
         for i in 0..n {

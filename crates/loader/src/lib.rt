@@ -15,7 +15,7 @@ ghost use Rattle.verdicts.specs.Refusals.{fault_found};
 ghost use Rattle.loader.specs.Load.{line_test, internal_with, table_fault, loaded_of, Holds};
 
 use design::Counts;
-use layout::Lines;
+use layout::{Lent, Lines};
 use reader::LineReader;
 use verdicts::Fault;
 
@@ -46,20 +46,24 @@ fn table_fault(text: &[u8], lines: &Lines, n: usize, counts: Counts) -> Result<(
     requires { Holds text.now lines.now.fields lines.now.starts n counts }
     ensures { fault_found result ≡ table_fault (fields_by_line text.now) }
 {
+    let lent = Lent {
+        fields: &lines.fields,
+        starts: &lines.starts,
+    };
     if !table_check::layout_fits(&lines.fields, &lines.starts, n) {
         return Err(Fault::Layout);
     }
     if !table_check::numbers_fit(&lines.fields, &lines.starts, n) {
         return Err(Fault::Bounds);
     }
-    if limits::MAX_STATES < lines.state_count(counts) {
+    if limits::MAX_STATES < lent.state_count(counts) {
         return Err(Fault::Bounds);
     }
     let internal = internal_rows(lines, counts);
     if !terms_fit(text, counts.kind1 as u16, counts.kind2 as u16, internal) {
         return Err(Fault::Terms);
     }
-    if !action_check::actions_fit(lines, counts) {
+    if !action_check::actions_fit(lent, counts) {
         return Err(Fault::Actions);
     }
     Ok(())
@@ -69,9 +73,13 @@ fn table_fault(text: &[u8], lines: &Lines, n: usize, counts: Counts) -> Result<(
 fn internal_rows(lines: &Lines, counts: Counts) -> u16
     ensures { result ≡ internal_with lines.now.fields lines.now.starts (shape_of counts) }
 {
+    let lent = Lent {
+        fields: &lines.fields,
+        starts: &lines.starts,
+    };
     let shape = layout::shape_of(counts);
     let rows = shape.implementation.rows.count as u16;
-    marks::internal_rows(lines, shape.implementation, rows)
+    marks::internal_rows(lent, shape.implementation, rows)
 }
 
 // Whether each line is the terms of its kind, where n lines are of kind 1 and m of kind 2, and i rows are internal.

@@ -11,7 +11,7 @@ ghost use Rattle.longest_runs.specs.Runs.{Written};
 ghost use Rattle.longest_runs.specs.Search.{Cleared, ReadyIn, SeenIn, Fresh};
 
 use design::Shape;
-use layout::Lines;
+use layout::Lent;
 use marked_edges::Edge;
 
 // Room for a number for each state.
@@ -30,17 +30,17 @@ struct Sight {
 
 // Writes the lengths for the first n states, or zeros and gives a state on a loop.
 pub fn fill(
-    lines: &Lines,
+    lines: Lent,
     shape: Shape,
     plan: &[u16; row_plan::LENGTH],
     n: usize,
     out: &mut [u16],
 ) -> Result<(), u16>
     requires fits { Fits shape }
-    requires plan_value { plan.now ≡ plan_in lines.now.fields lines.now.starts shape }
+    requires plan_value { plan.now ≡ plan_in lines.fields.now lines.starts.now shape }
     requires n_bound { n ≤ 65536 }
     requires n_in_bounds { n ≤ length out.old }
-    ensures { Written (next_in lines.now.fields lines.now.starts shape) n out.old out.new result }
+    ensures { Written (next_in lines.entry.fields.now lines.entry.starts.now shape) n out.old out.new result }
 {
     let mut mark = [0u16; STATES];
     let mut path = [0u16; STATES];
@@ -59,7 +59,7 @@ fn clear(out: &mut [u16], n: usize)
 // Depth first. In `path` are the states on the way, each of which leads to the next. A state's mark is 0 as long as the search has not come
 // to it, DONE when all its steps are settled, and else one more than the number of those that are; the longest run by these is in `out`.
 fn search(
-    lines: &Lines,
+    lines: Lent,
     shape: Shape,
     plan: &[u16; row_plan::LENGTH],
     n: usize,
@@ -68,9 +68,9 @@ fn search(
     out: &mut [u16],
 ) -> Result<(), u16>
     requires fits { Fits shape }
-    requires plan_value { plan.now ≡ plan_in lines.now.fields lines.now.starts shape }
+    requires plan_value { plan.now ≡ plan_in lines.fields.now lines.starts.now shape }
     requires fresh { Fresh n mark.old path.old out.old }
-    ensures { Written (next_in lines.now.fields lines.now.starts shape) n out.old out.new result }
+    ensures { Written (next_in lines.entry.fields.now lines.entry.starts.now shape) n out.old out.new result }
 {
     let mut depth = 0;
     let mut root = 0;
@@ -112,7 +112,7 @@ fn search(
 // The steps of s from the first that is not settled on, up to one that leads to a state that is not done. Outside the invariant there are
 // none.
 fn look(
-    lines: &Lines,
+    lines: Lent,
     shape: Shape,
     plan: &[u16; row_plan::LENGTH],
     n: usize,
@@ -121,9 +121,9 @@ fn look(
     out: &[u16],
 ) -> Sight
     requires fits { Fits shape }
-    requires plan_value { plan.now ≡ plan_in lines.now.fields lines.now.starts shape }
-    requires ready_in { ReadyIn lines.now.fields lines.now.starts shape n mark.now out.now s }
-    ensures { SeenIn lines.now.fields lines.now.starts shape n mark.now out.now s result }
+    requires plan_value { plan.now ≡ plan_in lines.fields.now lines.starts.now shape }
+    requires ready_in { ReadyIn lines.fields.now lines.starts.now shape n mark.now out.now s }
+    ensures { SeenIn lines.entry.fields.now lines.entry.starts.now shape n mark.now out.now s result }
 {
     let v = steps::state(lines, shape.implementation, s as u16);
     if !steps::invariant(lines, shape, &v) {
@@ -137,7 +137,7 @@ fn look(
 
 // The same where the invariant holds, v being the values of s.
 fn look_at(
-    lines: &Lines,
+    lines: Lent,
     shape: Shape,
     plan: &[u16; row_plan::LENGTH],
     n: usize,
@@ -147,10 +147,10 @@ fn look_at(
     out: &[u16],
 ) -> Sight
     requires fits { Fits shape }
-    requires plan_value { plan.now ≡ plan_in lines.now.fields lines.now.starts shape }
-    requires ready_in { ReadyIn lines.now.fields lines.now.starts shape n mark.now out.now s }
-    requires by_index { (j : ℕ) → next_in lines.now.fields lines.now.starts shape s j ≡ leads_in lines.now.fields lines.now.starts shape v.now j }
-    ensures { SeenIn lines.now.fields lines.now.starts shape n mark.now out.now s result }
+    requires plan_value { plan.now ≡ plan_in lines.fields.now lines.starts.now shape }
+    requires ready_in { ReadyIn lines.fields.now lines.starts.now shape n mark.now out.now s }
+    requires by_index { (j : ℕ) → next_in lines.fields.now lines.starts.now shape s j ≡ leads_in lines.fields.now lines.starts.now shape v.now j }
+    ensures { SeenIn lines.entry.fields.now lines.entry.starts.now shape n mark.now out.now s result }
 {
     let mut best = out[s];
     let mut k = usize::from(mark[s]) - 1;

@@ -92,44 +92,34 @@ pub state_places : (a b : ℕ) (w : List ℕ) → length w ≡ 8
 unfolding first_values
 state_places a b w e = ap (λ (l : List ℕ). a ∷ b ∷ l) (eight w e)
 
--- ---- the arrays that are lent, as one value
+-- ---- a state
 
-module _ (f s : List ℕ) (z : Lines) (ef : z.fields ≡ f) (es : z.starts ≡ s) where
-  same_design : (h : Shape) → design_at z.fields z.starts h ≡ design_at f s h
-  same_design h = ap (λ (x : List ℕ). design_at x z.starts h) ef ∙ ap (λ (x : List ℕ). design_at f x h) es
+pub state_told_lem : (f s v : List ℕ) (h : Shape) (c k : Counts) (a b : ℕ) (m w : List ℕ) → c ≡ k → h ≡ shape_of c
+    → a ≡ formula_told (invariant_of (line_from f s h.invariant)) v 0
+    → b ≡ value_told (measure_value (line_from f s h.measure)) v 0
+    → m ≡ values_told (mapping_of h.specification.parameters.count (line_from f s h.mapping)) v 0
+    → w ≡ a ∷ b ∷ m → w ≡ state_told (design_at f s (shape_of k)) v
+unfolding state_told
+state_told_lem f s v h c k a b m w ec eh ea eb em ew = ew ∙ rw (ea, eb, em) (ap (λ (g : Shape). state_told (design_at f s g) v) (eh ∙ ap shape_of ec))
 
-  -- ---- a state
+-- ---- a row
 
-  pub state_told_lem : (v : List ℕ) (h : Shape) (c k : Counts) (a b : ℕ) (m w : List ℕ) → c ≡ k → h ≡ shape_of c
-      → a ≡ formula_told (invariant_of (line_from z.fields z.starts h.invariant)) v 0
-      → b ≡ value_told (measure_value (line_from z.fields z.starts h.measure)) v 0
-      → m ≡ values_told (mapping_of h.specification.parameters.count (line_from z.fields z.starts h.mapping)) v 0
-      → w ≡ a ∷ b ∷ m → w ≡ state_told (design_at f s (shape_of k)) v
-  unfolding state_told
-  state_told_lem v h c k a b m w ec eh ea eb em ew =
-      ew ∙ rw (ea, eb, em) (ap (λ (d : Design). state_told d v) (same_design h) ∙ ap (λ (g : Shape). state_told (design_at f s g) v) (eh ∙ ap shape_of ec))
+pub row_by_counts : (f s v : List ℕ) (h : Shape) (c k : Counts) (side row e : ℕ) (w : List ℕ) → c ≡ k → h ≡ shape_of c → w ≡ told_row (design_at f s h) side row v e
+    → w ≡ told_row (design_at f s (shape_of k)) side row v e
+row_by_counts f s v h c k side row e w ec eh ew = ew ∙ ap (λ (g : Shape). told_row (design_at f s g) side row v e) (eh ∙ ap shape_of ec)
 
-  -- ---- a row
-
-  pub row_by_counts : (v : List ℕ) (h : Shape) (c k : Counts) (side row e : ℕ) (w : List ℕ) → c ≡ k → h ≡ shape_of c → w ≡ told_row (design_at z.fields z.starts h) side row v e
-      → w ≡ told_row (design_at f s (shape_of k)) side row v e
-  row_by_counts v h c k side row e w ec eh ew =
-      ew ∙ (ap (λ (d : Design). told_row d side row v e) (same_design h) ∙ ap (λ (g : Shape). told_row (design_at f s g) side row v e) (eh ∙ ap shape_of ec))
-
-  -- ---- a criterion
-
-  module _ (v : List ℕ) (h : Shape) (c q : Counts) (ec : c ≡ q) (eh : h ≡ shape_of c) (n k e : ℕ) (b : Bool) (eb : b ≡ criterion_for (design_at z.fields z.starts h) v n k e) where
-    by_counts : cond b 1 0 ≡ criterion_told (design_at f s (shape_of q)) v n k e
-    unfolding criterion_told
-    by_counts =
-        ap (λ (x : Bool). cond x 1 0) eb
-        ∙ (ap (λ (d : Design). criterion_told d v n k e) (same_design h) ∙ ap (λ (g : Shape). criterion_told (design_at f s g) v n k e) (eh ∙ ap shape_of ec))
-
-    pub criterion_holds : b ≡ true → 1 ≡ criterion_told (design_at f s (shape_of q)) v n k e
-    criterion_holds y = sym (ap (λ (x : Bool). cond x 1 0) y) ∙ by_counts
-
-    pub criterion_fails : b ≡ false → 0 ≡ criterion_told (design_at f s (shape_of q)) v n k e
-    criterion_fails y = sym (ap (λ (x : Bool). cond x 1 0) y) ∙ by_counts
+-- ---- a criterion
 
 pub fits_by_counts : (h : Shape) (c : Counts) → h ≡ shape_of c → Fits h
 fits_by_counts h c eh = subst Fits (sym eh) (shape_fits c)
+
+module _ (f s v : List ℕ) (h : Shape) (c q : Counts) (ec : c ≡ q) (eh : h ≡ shape_of c) (n k e : ℕ) (b : Bool) (eb : b ≡ criterion_for (design_at f s h) v n k e) where
+  by_counts : cond b 1 0 ≡ criterion_told (design_at f s (shape_of q)) v n k e
+  unfolding criterion_told
+  by_counts = ap (λ (x : Bool). cond x 1 0) eb ∙ ap (λ (g : Shape). criterion_told (design_at f s g) v n k e) (eh ∙ ap shape_of ec)
+
+  pub criterion_holds : b ≡ true → 1 ≡ criterion_told (design_at f s (shape_of q)) v n k e
+  criterion_holds y = sym (ap (λ (x : Bool). cond x 1 0) y) ∙ by_counts
+
+  pub criterion_fails : b ≡ false → 0 ≡ criterion_told (design_at f s (shape_of q)) v n k e
+  criterion_fails y = sym (ap (λ (x : Bool). cond x 1 0) y) ∙ by_counts

@@ -17,7 +17,7 @@ ghost use Rattle.looking.specs.Told.{arrays_of, state_told, criterion_told};
 
 use design::Counts;
 use desk_numbers::Tally;
-use layout::Lines;
+use layout::{Lent, Lines};
 use told_rows::RowPlaces;
 use told_terms::Places;
 
@@ -91,39 +91,28 @@ pub fn look_formula(fields: &limits::Fields, at: usize, values: &limits::Values,
     told_terms::formula(fields, at, values, sum)
 }
 
-// The lines in the two arrays, which C lends one by one.
-fn lines_in(fields: &limits::Fields, starts: &limits::Starts) -> Lines
-    ensures fields_value { result.fields ≡ fields.now }
-    ensures starts_value { result.starts ≡ starts.now }
-{
-    Lines {
-        fields: *fields,
-        starts: *starts,
-    }
-}
-
 // ---- a state
 
 // The formula, the value, and n values one after the other, that stand on a line after its kind.
-fn formula_in_line(lines: &Lines, line: u8, values: &limits::Values) -> u32
-    ensures { result ≡ formula_told (invariant_of (line_from lines.now.fields lines.now.starts line)) values.now 0 }
+fn formula_in_line(lines: Lent, line: u8, values: &limits::Values) -> u32
+    ensures { result ≡ formula_told (invariant_of (line_from lines.entry.fields.now lines.entry.starts.now line)) values.now 0 }
 {
     let start = lines.line(line as usize);
-    told_terms::formula(&lines.fields, start as usize + 1, values, 0)
+    told_terms::formula(lines.fields, start as usize + 1, values, 0)
 }
 
-fn value_in_line(lines: &Lines, line: u8, values: &limits::Values) -> u32
-    ensures { result ≡ value_told (measure_value (line_from lines.now.fields lines.now.starts line)) values.now 0 }
+fn value_in_line(lines: Lent, line: u8, values: &limits::Values) -> u32
+    ensures { result ≡ value_told (measure_value (line_from lines.entry.fields.now lines.entry.starts.now line)) values.now 0 }
 {
     let start = lines.line(line as usize);
-    told_terms::value(&lines.fields, start as usize + 1, values, 0)
+    told_terms::value(lines.fields, start as usize + 1, values, 0)
 }
 
-fn values_in_line(lines: &Lines, line: u8, n: u8, values: &limits::Values) -> Places
-    ensures { result ≡ values_told (mapping_of n (line_from lines.now.fields lines.now.starts line)) values.now 0 }
+fn values_in_line(lines: Lent, line: u8, n: u8, values: &limits::Values) -> Places
+    ensures { result ≡ values_told (mapping_of n (line_from lines.entry.fields.now lines.entry.starts.now line)) values.now 0 }
 {
     let start = lines.line(line as usize);
-    told_terms::values(&lines.fields, start as usize + 1, n, values, 0)
+    told_terms::values(lines.fields, start as usize + 1, n, values, 0)
 }
 
 // For C: invariant, measure and mapped values at a state of the implementation.
@@ -136,12 +125,12 @@ pub fn look_state<'a>(
 )
     ensures { told.new ≡ state_told (design_at fields.now starts.now (shape_of (counts_in counts.now))) values.now }
 {
-    let lines = lines_in(fields, starts);
+    let lines = Lent { fields, starts };
     let shape = layout::shape_of(desk_numbers::counts_in(*counts));
     let n = shape.specification.parameters.count;
-    let invariant = formula_in_line(&lines, shape.invariant, values);
-    let measure = value_in_line(&lines, shape.measure, values);
-    let mapped = values_in_line(&lines, shape.mapping, n, values);
+    let invariant = formula_in_line(lines, shape.invariant, values);
+    let measure = value_in_line(lines, shape.measure, values);
+    let mapped = values_in_line(lines, shape.mapping, n, values);
     *told = state_places(invariant, measure, mapped);
 }
 
@@ -169,9 +158,9 @@ pub fn look_row<'a>(
 )
     ensures { told.new ≡ told_row (design_at fields.now starts.now (shape_of (counts_in counts.now))) side row values.now sum }
 {
-    let lines = lines_in(fields, starts);
+    let lines = Lent { fields, starts };
     let shape = layout::shape_of(desk_numbers::counts_in(*counts));
-    *told = told_rows::row(&lines, shape, side, row, values, sum);
+    *told = told_rows::row(lines, shape, side, row, values, sum);
 }
 
 // ---- a criterion
@@ -188,10 +177,10 @@ pub fn look_criterion<'a>(
 ) -> u32
     ensures { result ≡ criterion_told (design_at fields.now starts.now (shape_of (counts_in counts.now))) values.now criterion row sum }
 {
-    let lines = lines_in(fields, starts);
+    let lines = Lent { fields, starts };
     let shape = layout::shape_of(desk_numbers::counts_in(*counts));
     let state = *values;
-    let holds = lowest_failure::criterion(&lines, shape, state, criterion, row, sum);
+    let holds = lowest_failure::criterion(lines, shape, state, criterion, row, sum);
     if holds {
         told_terms::HOLDS
     } else {

@@ -17,7 +17,7 @@ use Rattle.decision.specs.Tests.{holds2, holds3, holds4, holds5, holds6, holds7,
 use Rattle.decision.specs.Examine.{trial, first_failing}
 use Rattle.design.specs.Loaded.{design_at}
 use Rattle.design.specs.declared.Shape.{Shape}
-use Rattle.layout.specs.declared.Lines.{Lines}
+use Rattle.layout.specs.declared.Lent.{Lent}
 use Rattle.steps.specs.Arrays.{row_span}
 use Rattle.steps.proofs.States.{rows_count}
 use Rattle.lowest_failure.specs.Search.{told_place, at_impl, at_impl_by, at_spec, holds_for, criterion_for, span_for, rows_for, in_row, in_all_rows, in_criteria}
@@ -144,19 +144,19 @@ module _ (f s : List ℕ) (h : Shape) (v : State) where
       go false = refl
 
 -- criterion 2 before the others, and a criterion by its number: the design and the state that are looked at are those that are given
-module _ (l m : Lines) (h g : Shape) (v w : State) (same : (m ≡ l) × (g ≡ h)) (is : w ≡ v) where
+module _ (l m : Lent) (h g : Shape) (v w : State) (same : (m ≡ l) × (g ≡ h)) (is : w ≡ v) where
   abbrev given : Design
-  given = design_at l.fields l.starts h
+  given = design_at l.fields.now l.starts.now h
 
   abbrev looked_at : Design
-  looked_at = design_at m.fields m.starts g
+  looked_at = design_at m.fields.now m.starts.now g
 
   module _ (two : Bool) (said : two ≡ holds2 looked_at w) where
     pub second_fails : not two ≡ true → told_place (Some (record { criterion = 2; row = 0; sum = 0 })) ≡ first_failing given v
-    second_fails y = whole l.fields l.starts h v false (sym (not-true two y) ∙ rw (same.0, same.1, is) at said)
+    second_fails y = whole l.fields.now l.starts.now h v false (sym (not-true two y) ∙ rw (same.0, same.1, is) at said)
 
     pub second_holds : (r : Option Place) → not two ≡ false → told_place r ≡ in_criteria g looked_at w → told_place r ≡ first_failing given v
-    second_holds r y er = rw (same.0, same.1, is) at er ∙ whole l.fields l.starts h v true (sym (not-false two y) ∙ rw (same.0, same.1, is) at said)
+    second_holds r y er = rw (same.0, same.1, is) at er ∙ whole l.fields.now l.starts.now h v true (sym (not-false two y) ∙ rw (same.0, same.1, is) at said)
 
   module _ (r : Bool) (n k e : ℕ) where
     pub arm2 : n ≡ 2 → r ≡ holds2 looked_at w → r ≡ criterion_for given v n k e

@@ -8,7 +8,7 @@ ghost use Rattle.plan.specs.Plan.{plan_in};
 ghost use Rattle.marked_edges.specs.Edges.{leads_in, FirstMarked, FirstIn};
 
 use design::Shape;
-use layout::Lines;
+use layout::Lent;
 use row_looks::{Look, Row};
 
 // As many numbers as rows and sum values have: row i, counted from 0, has those from SUMS * i on.
@@ -45,23 +45,23 @@ fn marked_from(fields: &limits::Fields, row: Row, v: &limits::Values, from: u16)
 
 // The first marked step from a number on.
 pub fn next(
-    lines: &Lines,
+    lines: Lent,
     shape: Shape,
     plan: &[u16; row_plan::LENGTH],
     v: &limits::Values,
     from: usize,
 ) -> Option<Edge>
     requires fits { Fits shape }
-    requires plan_value { plan.now ≡ plan_in lines.now.fields lines.now.starts shape }
+    requires plan_value { plan.now ≡ plan_in lines.fields.now lines.starts.now shape }
     requires from_bound { from ≤ 8192 }
-    ensures { FirstIn (leads_in lines.now.fields lines.now.starts shape v.now) from result }
+    ensures { FirstIn (leads_in lines.entry.fields.now lines.entry.starts.now shape v.now) from result }
 {
     let first = (from / SUMS) as u8;
     let mut sum = (from % SUMS) as u16;
     for i in first..shape.implementation.rows.count {
         let row = row_looks::row_at(lines, shape, plan, i, v);
-        if let Some(found) = marked_from(&lines.fields, row, v, sum) {
-            let x = row_looks::next(&lines.fields, shape, found.at, v, found.sum);
+        if let Some(found) = marked_from(lines.fields, row, v, sum) {
+            let x = row_looks::next(lines.fields, shape, found.at, v, found.sum);
             return Some(Edge {
                 edge: i as usize * SUMS + found.sum as usize,
                 to: steps::number(lines, shape.implementation, &x),

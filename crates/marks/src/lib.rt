@@ -6,13 +6,13 @@ ghost use Rattle.std.specs.Prelude.{◌≡◌};
 ghost use Rattle.marks.specs.Marks.{internal_in, after_formulas, mark_place, marked_in, place_from, mark_holds};
 
 use design::{Process, Shape};
-use layout::Lines;
+use layout::Lent;
 
 // ---- internal rows
 
 // How many of the first n rows of a process are internal.
-pub fn internal_rows(lines: &Lines, process: Process, n: u16) -> u16
-    ensures { result ≡ internal_in lines.now.fields lines.now.starts process n }
+pub fn internal_rows(lines: Lent, process: Process, n: u16) -> u16
+    ensures { result ≡ internal_in lines.entry.fields.now lines.entry.starts.now process n }
 {
     let internal = (0..n).filter(|i| {
         let action = lines.field(process.rows.first as usize + *i as usize, 1);
@@ -36,36 +36,36 @@ fn after_formulas(fields: &limits::Fields, at: usize, n: u16) -> usize
 }
 
 // Where the mark of row k of the implementation stands, if it is internal: after those of the internal rows before it.
-pub fn place(lines: &Lines, shape: Shape, k: u16) -> usize
-    ensures { result ≡ mark_place lines.now.fields lines.now.starts shape k }
+pub fn place(lines: Lent, shape: Shape, k: u16) -> usize
+    ensures { result ≡ mark_place lines.entry.fields.now lines.entry.starts.now shape k }
 {
     let line = lines.line(shape.marks.first as usize);
     let earlier = internal_rows(lines, shape.implementation, k.saturating_sub(1));
-    after_formulas(&lines.fields, line as usize + 1, earlier)
+    after_formulas(lines.fields, line as usize + 1, earlier)
 }
 
 // Whether the mark of row k, if it is internal, holds: without a line of marks each does.
-pub fn marked(lines: &Lines, shape: Shape, k: u16, v: &limits::Values, sum: u16) -> bool
-    ensures { result ≡ marked_in lines.now.fields lines.now.starts shape k v.now sum }
+pub fn marked(lines: Lent, shape: Shape, k: u16, v: &limits::Values, sum: u16) -> bool
+    ensures { result ≡ marked_in lines.entry.fields.now lines.entry.starts.now shape k v.now sum }
 {
     if shape.marks.count == 0 {
         return true;
     }
     let at = place(lines, shape, k);
-    let mark = eval::formula(&lines.fields, at, v, sum, limits::MAX_DEPTH);
+    let mark = eval::formula(lines.fields, at, v, sum, limits::MAX_DEPTH);
     mark.holds
 }
 
 // ---- marks by their place in the line of marks; 0, where the line's kind stands, says that there is none
 
 // Where such a mark stands among the fields, 0 for none.
-pub fn place_from(lines: &Lines, shape: Shape, at: u16) -> usize
-    ensures { result ≡ place_from lines.now.starts shape at }
+pub fn place_from(starts: &limits::Starts, shape: Shape, at: u16) -> usize
+    ensures { result ≡ place_from starts.now shape at }
 {
     if at == 0 {
         return 0;
     }
-    let line = lines.line(shape.marks.first as usize);
+    let line = terms::field(starts, shape.marks.first as usize);
     line as usize + at as usize
 }
 

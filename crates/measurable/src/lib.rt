@@ -13,15 +13,15 @@ ghost use Rattle.steps.specs.Arrays.{state_in};
 ghost use Rattle.measurable.specs.Measurable.{RowStays, RowsStay, StateStays, CanMeasure};
 
 use design::Shape;
-use layout::Lines;
+use layout::Lent;
 
 // In all n states.
-pub fn holds(lines: &Lines, shape: Shape, plan: &[u16; row_plan::LENGTH], n: usize) -> bool
+pub fn holds(lines: Lent, shape: Shape, plan: &[u16; row_plan::LENGTH], n: usize) -> bool
     requires fits { Fits shape }
-    requires plan_value { plan.now ≡ plan_in lines.now.fields lines.now.starts shape }
-    requires n_value { n ≡ states (design_at lines.now.fields lines.now.starts shape) }
+    requires plan_value { plan.now ≡ plan_in lines.fields.now lines.starts.now shape }
+    requires n_value { n ≡ states (design_at lines.fields.now lines.starts.now shape) }
     requires n_bound { n ≤ 65536 }
-    ensures { CanMeasure (design_at lines.now.fields lines.now.starts shape) result }
+    ensures { CanMeasure (design_at lines.entry.fields.now lines.entry.starts.now shape) result }
 {
     for k in 0..n {
         if !state_stays(lines, shape, plan, k as u16) {
@@ -32,10 +32,10 @@ pub fn holds(lines: &Lines, shape: Shape, plan: &[u16; row_plan::LENGTH], n: usi
 }
 
 // In the state with a number.
-fn state_stays(lines: &Lines, shape: Shape, plan: &[u16; row_plan::LENGTH], number: u16) -> bool
+fn state_stays(lines: Lent, shape: Shape, plan: &[u16; row_plan::LENGTH], number: u16) -> bool
     requires fits { Fits shape }
-    requires plan_value { plan.now ≡ plan_in lines.now.fields lines.now.starts shape }
-    ensures { StateStays lines.now.fields lines.now.starts shape (state_in lines.now.fields lines.now.starts shape.implementation number) result }
+    requires plan_value { plan.now ≡ plan_in lines.fields.now lines.starts.now shape }
+    ensures { StateStays lines.entry.fields.now lines.entry.starts.now shape (state_in lines.entry.fields.now lines.entry.starts.now shape.implementation number) result }
 {
     let v = steps::state(lines, shape.implementation, number);
     if !tenth::apart(lines, shape, plan, &v) {
@@ -48,15 +48,10 @@ fn state_stays(lines: &Lines, shape: Shape, plan: &[u16; row_plan::LENGTH], numb
 }
 
 // Of all rows.
-fn rows_stay(
-    lines: &Lines,
-    shape: Shape,
-    plan: &[u16; row_plan::LENGTH],
-    v: &limits::Values,
-) -> bool
+fn rows_stay(lines: Lent, shape: Shape, plan: &[u16; row_plan::LENGTH], v: &limits::Values) -> bool
     requires fits { Fits shape }
-    requires plan_value { plan.now ≡ plan_in lines.now.fields lines.now.starts shape }
-    ensures { RowsStay lines.now.fields lines.now.starts shape v.now result }
+    requires plan_value { plan.now ≡ plan_in lines.fields.now lines.starts.now shape }
+    ensures { RowsStay lines.entry.fields.now lines.entry.starts.now shape v.now result }
 {
     let rows = shape.implementation.rows.count;
     for i in 0..rows {
@@ -69,7 +64,7 @@ fn rows_stay(
 
 // Of the row after i others, for all sum values.
 fn row_stays(
-    lines: &Lines,
+    lines: Lent,
     shape: Shape,
     plan: &[u16; row_plan::LENGTH],
     i: u8,
@@ -77,13 +72,13 @@ fn row_stays(
 ) -> bool
     requires fits { Fits shape }
     requires i_lt_count { i < shape.implementation.rows.count }
-    requires plan_value { plan.now ≡ plan_in lines.now.fields lines.now.starts shape }
-    ensures { RowStays (design_at lines.now.fields lines.now.starts shape) v.now (row_of lines.now.fields lines.now.starts shape i) result }
+    requires plan_value { plan.now ≡ plan_in lines.fields.now lines.starts.now shape }
+    ensures { RowStays (design_at lines.entry.fields.now lines.entry.starts.now shape) v.now (row_of lines.entry.fields.now lines.entry.starts.now shape i) result }
 {
     let row = row_looks::row_at(lines, shape, plan, i, v);
     let mut sum = 0;
-    while let Some(look) = row_looks::enabled_from(&lines.fields, row, v, sum) {
-        let x = row_looks::next(&lines.fields, shape, look.at, v, look.sum);
+    while let Some(look) = row_looks::enabled_from(lines.fields, row, v, sum) {
+        let x = row_looks::next(lines.fields, shape, look.at, v, look.sum);
         if !steps::inside(lines, shape, &x) {
             return false;
         }

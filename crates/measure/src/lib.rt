@@ -11,11 +11,11 @@ ghost use Rattle.measure.specs.Answer.{HasRoom, answer_of, MeasureIn};
 
 use answers::Measured;
 use design::{Counts, Process};
-use layout::Lines;
+use layout::Lent;
 
 // Writes the measure in the slice, or zeros for a loop; turned down, nothing.
-pub fn measure(lines: &Lines, counts: Counts, slice: &mut [u16]) -> Measured
-    ensures { MeasureIn lines.now.fields lines.now.starts counts slice.old slice.new result }
+pub fn measure(lines: Lent, counts: Counts, slice: &mut [u16]) -> Measured
+    ensures { MeasureIn lines.entry.fields.now lines.entry.starts.now counts slice.old slice.new result }
 {
     if !has_room(lines, counts, slice.len()) {
         return Measured::TurnedDown(17);
@@ -30,8 +30,8 @@ pub fn measure(lines: &Lines, counts: Counts, slice: &mut [u16]) -> Measured
 }
 
 // Whether there is a place for each state among n, and each step has a number.
-fn has_room(lines: &Lines, counts: Counts, n: usize) -> bool
-    ensures { Reflects (HasRoom lines.now.fields lines.now.starts counts n) result }
+fn has_room(lines: Lent, counts: Counts, n: usize) -> bool
+    ensures { Reflects (HasRoom lines.entry.fields.now lines.entry.starts.now counts n) result }
 {
     if !layout::counts_fit(counts) {
         return false;
@@ -45,8 +45,8 @@ fn has_room(lines: &Lines, counts: Counts, n: usize) -> bool
 }
 
 // Whether no row has more sum values than a text may give it.
-fn spans_fit(lines: &Lines, process: Process) -> bool
-    ensures { Reflects (SumsNumbered lines.now.fields lines.now.starts process) result }
+fn spans_fit(lines: Lent, process: Process) -> bool
+    ensures { Reflects (SumsNumbered lines.entry.fields.now lines.entry.starts.now process) result }
 {
     for i in 0..process.rows.count {
         if limits::MAX_SPAN < steps::row_span(lines, process, i as u16 + 1) {

@@ -6,6 +6,7 @@ ghost use Rattle.std.specs.Prelude.{◌≡◌};
 ghost use Rattle.measuring.specs.Measured.{MeasureText, Tells, result_of, number_told};
 
 use answers::Measured;
+use layout::Lent;
 
 // What is returned to C.
 const FILLED: u32 = 0;
@@ -28,7 +29,13 @@ fn measure_text(text: &[u8], slice: &mut [u16]) -> Measured
     ensures { MeasureText text.now slice.old slice.new result }
 {
     match loader::load(text) {
-        Ok(loaded) => measure::measure(&loaded.lines, loaded.counts, slice),
+        Ok(loaded) => {
+            let lines = Lent {
+                fields: &loaded.lines.fields,
+                starts: &loaded.lines.starts,
+            };
+            measure::measure(lines, loaded.counts, slice)
+        }
         Err(fault) => Measured::TurnedDown(fault.number()),
     }
 }

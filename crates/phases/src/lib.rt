@@ -8,12 +8,12 @@ ghost use Rattle.phases.specs.Phases.{phase_after};
 
 use answers::Phase;
 use design::Counts;
-use layout::Lines;
+use layout::Lent;
 use verdicts::Outcome;
 
 // The phase after a walk with this outcome; `ended` if no state is left. Only a check that ends well looks at the initial state.
-pub fn after(lines: &Lines, counts: Counts, outcome: Outcome, ended: bool) -> Phase
-    ensures { result ≡ phase_after outcome ended (acceptance_in lines.now.fields lines.now.starts counts) }
+pub fn after(lines: Lent, counts: Counts, outcome: Outcome, ended: bool) -> Phase
+    ensures { result ≡ phase_after outcome ended (acceptance_in lines.entry.fields.now lines.entry.starts.now counts) }
 {
     match outcome {
         Outcome::Fail(failure) => Phase::Failed(failure),

@@ -13,7 +13,7 @@ ghost use Rattle.marks.specs.Marks.{place_from};
 ghost use Rattle.plan.specs.Plan.{values_free, frees_of, partner_free, looks_of, mark_in, mark_there, row_plan_of, row_plan_in, there_in, row_plan_for, values_risk, risk_of, mark_risk, risk_in, risk_for, kinds_risk, plan_in};
 
 use design::{Process, Shape};
-use layout::Lines;
+use layout::Lent;
 use row_plan::{Mark, RowPlan};
 
 // As many rows as a process may have, and as many numbers as a plan.
@@ -65,14 +65,14 @@ fn row_free(fields: &limits::Fields, line: u16, n: u8, whole: bool) -> Free
 }
 
 // What is asked for of row k of a process; no row reads nothing.
-fn partner_free(lines: &Lines, process: Process, k: u16, whole: bool) -> bool
-    ensures { result ≡ partner_free lines.now.fields lines.now.starts process k whole }
+fn partner_free(lines: Lent, process: Process, k: u16, whole: bool) -> bool
+    ensures { result ≡ partner_free lines.entry.fields.now lines.entry.starts.now process k whole }
 {
     if k == 0 {
         return true;
     }
-    let line = steps::line_of(lines, process, k);
-    let free = row_free(&lines.fields, line, process.parameters.count, whole);
+    let line = steps::line_of(lines.starts, process, k);
+    let free = row_free(lines.fields, line, process.parameters.count, whole);
     free.all
 }
 
@@ -92,14 +92,14 @@ fn no_mark() -> Mark
 }
 
 // The mark of row k of the implementation, where there are marks and the row is internal.
-fn mark_of(lines: &Lines, shape: Shape, k: u16) -> Mark
-    ensures { result ≡ mark_in lines.now.fields lines.now.starts shape k }
+fn mark_of(lines: Lent, shape: Shape, k: u16) -> Mark
+    ensures { result ≡ mark_in lines.entry.fields.now lines.entry.starts.now shape k }
 {
     if shape.marks.count == 0 {
         return no_mark();
     }
-    let line = steps::line_of(lines, shape.implementation, k);
-    let action = layout::field_of(&lines.fields, line, 1);
+    let line = steps::line_of(lines.starts, shape.implementation, k);
+    let action = layout::field_of(lines.fields, line, 1);
     if action != 0 {
         return no_mark();
     }
@@ -107,13 +107,14 @@ fn mark_of(lines: &Lines, shape: Shape, k: u16) -> Mark
 }
 
 // The same of an internal row, where there are marks.
-fn mark_there(lines: &Lines, shape: Shape, k: u16) -> Mark
-    ensures { result ≡ mark_there lines.now.fields lines.now.starts shape k }
+fn mark_there(lines: Lent, shape: Shape, k: u16) -> Mark
+    ensures { result ≡ mark_there lines.entry.fields.now lines.entry.starts.now shape k }
 {
     let line = lines.line(shape.marks.first as usize);
     let place = marks::place(lines, shape, k);
-    let mark = sum_free::formula_sum_free(&lines.fields, place, limits::MAX_DEPTH);
-    let _all: &[u16] = &lines.fields; // for the proof: as a slice it has its length, which bounds the place
+    let fields = lines.fields;
+    let mark = sum_free::formula_sum_free(fields, place, limits::MAX_DEPTH);
+    let _all: &[u16] = fields; // for the proof: as a slice it has its length, which bounds the place
     Mark {
         at: (place - line as usize) as u16,
         free: mark.free,
@@ -124,41 +125,41 @@ fn mark_there(lines: &Lines, shape: Shape, k: u16) -> Mark
 
 // The plan of row k of a process, whose mark is given; whole rows are looked at with their partners, or only the conditions.
 fn row_plan_of(
-    lines: &Lines,
+    lines: Lent,
     process: Process,
     other: Process,
     whole: bool,
     mark: Mark,
     k: u16,
 ) -> RowPlan
-    ensures { result ≡ row_plan_of lines.now.fields lines.now.starts process other whole mark k }
+    ensures { result ≡ row_plan_of lines.entry.fields.now lines.entry.starts.now process other whole mark k }
 {
-    let line = steps::line_of(lines, process, k);
-    let action = layout::field_of(&lines.fields, line, 1);
-    let span = layout::field_of(&lines.fields, line, 2);
+    let line = steps::line_of(lines.starts, process, k);
+    let action = layout::field_of(lines.fields, line, 1);
+    let span = layout::field_of(lines.fields, line, 2);
     let partner = steps::row_with(lines, other, action);
-    let free = row_free(&lines.fields, line, process.parameters.count, whole);
+    let free = row_free(lines.fields, line, process.parameters.count, whole);
     let all = free.all & partner_free(lines, other, partner, whole);
     RowPlan {
         partner: partner,
         looks: looks(all & mark.free, span),
         internal: action == 0,
         free: free.condition,
-        front: conjuncts::front(&lines.fields, line as usize + 3),
+        front: conjuncts::front(lines.fields, line as usize + 3),
         mark: mark,
     }
 }
 
 // The same where there is a row k.
 fn row_plan_in(
-    lines: &Lines,
+    lines: Lent,
     process: Process,
     other: Process,
     whole: bool,
     mark: Mark,
     k: u16,
 ) -> RowPlan
-    ensures { result ≡ row_plan_in lines.now.fields lines.now.starts process other whole mark k }
+    ensures { result ≡ row_plan_in lines.entry.fields.now lines.entry.starts.now process other whole mark k }
 {
     if k <= process.rows.count as u16 {
         return row_plan_of(lines, process, other, whole, mark, k);
@@ -175,9 +176,9 @@ fn row_plan_in(
 
 // The plan of row number i of both processes, the implementation's first: there whole rows count, of the specification's rows only the
 // conditions (criterion 7).
-fn row_plan_for(lines: &Lines, shape: Shape, i: usize) -> RowPlan
+fn row_plan_for(lines: Lent, shape: Shape, i: usize) -> RowPlan
     requires { i < 64 }
-    ensures { result ≡ row_plan_for lines.now.fields lines.now.starts shape i }
+    ensures { result ≡ row_plan_for lines.entry.fields.now lines.entry.starts.now shape i }
 {
     let implementation = shape.implementation;
     let specification = shape.specification;
@@ -244,22 +245,22 @@ fn mark_risk(fields: &limits::Fields, place: usize) -> u32
 }
 
 // Of row k of a process, where there is one, or of the mark that stands at a place.
-fn risk_in(lines: &Lines, process: Process, k: u16, place: usize) -> u32
-    ensures { result ≡ risk_in lines.now.fields lines.now.starts process k place }
+fn risk_in(lines: Lent, process: Process, k: u16, place: usize) -> u32
+    ensures { result ≡ risk_in lines.entry.fields.now lines.entry.starts.now process k place }
 {
     if k <= process.rows.count as u16 {
-        let line = steps::line_of(lines, process, k);
-        let row = row_risk(&lines.fields, line, process.parameters.count);
-        return divisors::both(row, mark_risk(&lines.fields, place));
+        let line = steps::line_of(lines.starts, process, k);
+        let row = row_risk(lines.fields, line, process.parameters.count);
+        return divisors::both(row, mark_risk(lines.fields, place));
     }
     0
 }
 
 // Of row number i of both processes, the implementation's first, and of its mark, which stands where its plan says.
-fn risk_for(lines: &Lines, shape: Shape, i: usize, place: usize) -> u32
+fn risk_for(lines: Lent, shape: Shape, i: usize, place: usize) -> u32
     requires i_bound { i < 64 }
-    requires place_value { place ≡ place_from lines.now.starts shape (row_plan_for lines.now.fields lines.now.starts shape i).mark.at }
-    ensures { result ≡ risk_for lines.now.fields lines.now.starts shape i }
+    requires place_value { place ≡ place_from lines.starts.now shape (row_plan_for lines.fields.now lines.starts.now shape i).mark.at }
+    ensures { result ≡ risk_for lines.entry.fields.now lines.entry.starts.now shape i }
 {
     if i < ROWS {
         risk_in(lines, shape.implementation, i as u16 + 1, place)
@@ -269,19 +270,19 @@ fn risk_for(lines: &Lines, shape: Shape, i: usize, place: usize) -> u32
 }
 
 // Of the invariant, the mapping or the measure.
-fn kinds_risk(lines: &Lines, shape: Shape) -> u32
-    ensures { result ≡ kinds_risk lines.now.fields lines.now.starts shape }
+fn kinds_risk(lines: Lent, shape: Shape) -> u32
+    ensures { result ≡ kinds_risk lines.entry.fields.now lines.entry.starts.now shape }
 {
     let first = lines.line(shape.invariant as usize);
     let second = lines.line(shape.mapping as usize);
     let third = lines.line(shape.measure as usize);
-    let invariant = divisors::formula_divides(&lines.fields, first as usize + 1, limits::MAX_DEPTH);
+    let invariant = divisors::formula_divides(lines.fields, first as usize + 1, limits::MAX_DEPTH);
     let mapping = values_risk(
-        &lines.fields,
+        lines.fields,
         second as usize + 1,
         shape.specification.parameters.count,
     );
-    let measure = divisors::value_divides(&lines.fields, third as usize + 1, limits::MAX_DEPTH);
+    let measure = divisors::value_divides(lines.fields, third as usize + 1, limits::MAX_DEPTH);
     divisors::both(invariant.divides, divisors::both(mapping, measure.divides))
 }
 
@@ -311,17 +312,17 @@ fn put_risk(i: usize, risk: u32, out: &mut [u16; LENGTH])
 }
 
 // Stores the plan of row number i and its risk, which it gives back. Where there is no such row, all of that is 0 and stands there already.
-fn put_row(lines: &Lines, shape: Shape, i: usize, out: &mut [u16; LENGTH]) -> u32
+fn put_row(lines: Lent, shape: Shape, i: usize, out: &mut [u16; LENGTH]) -> u32
     requires i_bound { i < 64 }
     requires blank { Blank out.old i }
-    ensures value { result ≡ risk_for lines.now.fields lines.now.starts shape i }
-    ensures out_after { out.new ≡ stored out.old i (row_plan_for lines.now.fields lines.now.starts shape i) (risk_for lines.now.fields lines.now.starts shape i) }
+    ensures value { result ≡ risk_for lines.entry.fields.now lines.entry.starts.now shape i }
+    ensures out_after { out.new ≡ stored out.old i (row_plan_for lines.entry.fields.now lines.entry.starts.now shape i) (risk_for lines.entry.fields.now lines.entry.starts.now shape i) }
 {
     if !is_there(shape, i) {
         return 0;
     }
     let row = row_plan_for(lines, shape, i);
-    let place = marks::place_from(lines, shape, row.mark.at);
+    let place = marks::place_from(lines.starts, shape, row.mark.at);
     let risk = risk_for(lines, shape, i, place);
     let at = row_plan::NUMBERS * i;
     out[at] = row_plan::packed(row);
@@ -333,8 +334,8 @@ fn put_row(lines: &Lines, shape: Shape, i: usize, out: &mut [u16; LENGTH]) -> u3
 }
 
 // The plans and risks of all rows, the risk of invariant, mapping and measure, and the flag.
-pub fn plan(lines: &Lines, shape: Shape) -> [u16; LENGTH]
-    ensures { result ≡ plan_in lines.now.fields lines.now.starts shape }
+pub fn plan(lines: Lent, shape: Shape) -> [u16; LENGTH]
+    ensures { result ≡ plan_in lines.entry.fields.now lines.entry.starts.now shape }
 {
     let mut out = [0u16; LENGTH];
     let mut sure = true;

@@ -11,7 +11,7 @@ ghost use Rattle.steps.specs.Arrays.{padded, mapped_in, measure_in};
 ghost use Rattle.recall.specs.Recall.{When, SetsAre, SetsTo, since, Task, idle_in, look_inside, noted_in, row_passes_in, RowsCarried, RowsTo, reply_noted_in, reply_passes_in, RepliesCarried, RepliesTo, MappedCarried, MappedTo, Recalls, Passed, Forgets};
 
 use design::{Process, Shape};
-use layout::Lines;
+use layout::Lent;
 
 // What was seen of a row: where it keeps its criteria, whether it has no marked step; and what that depends on.
 #[derive(Clone, Copy)]
@@ -25,10 +25,10 @@ pub struct Look {
 pub const SETS: usize = 3 * limits::MAX_ROWS + 1;
 
 // Stores the sets of the rows of the implementation.
-fn put_rows(lines: &Lines, shape: Shape, mapping: &limits::Values, out: &mut [u16; SETS])
+fn put_rows(lines: Lent, shape: Shape, mapping: &limits::Values, out: &mut [u16; SETS])
     requires fits { Fits shape }
-    requires mapping_value { mapping.now ≡ padded (map_reads (design_at lines.now.fields lines.now.starts shape)) }
-    ensures { SetsTo (design_at lines.now.fields lines.now.starts shape) out.new shape.implementation.rows.count 0 }
+    requires mapping_value { mapping.now ≡ padded (map_reads (design_at lines.fields.now lines.starts.now shape)) }
+    ensures { SetsTo (design_at lines.entry.fields.now lines.entry.starts.now shape) out.new shape.implementation.rows.count 0 }
 {
     for i in 0..shape.implementation.rows.count {
         let k = i as u16 + 1;
@@ -38,11 +38,11 @@ fn put_rows(lines: &Lines, shape: Shape, mapping: &limits::Values, out: &mut [u1
 }
 
 // Stores those of the rows of the specification.
-fn put_replies(lines: &Lines, shape: Shape, mapping: &limits::Values, out: &mut [u16; SETS])
+fn put_replies(lines: Lent, shape: Shape, mapping: &limits::Values, out: &mut [u16; SETS])
     requires fits { Fits shape }
-    requires mapping_value { mapping.now ≡ padded (map_reads (design_at lines.now.fields lines.now.starts shape)) }
-    requires sets_to { SetsTo (design_at lines.now.fields lines.now.starts shape) out.old shape.implementation.rows.count 0 }
-    ensures { SetsTo (design_at lines.now.fields lines.now.starts shape) out.new shape.implementation.rows.count shape.specification.rows.count }
+    requires mapping_value { mapping.now ≡ padded (map_reads (design_at lines.fields.now lines.starts.now shape)) }
+    requires sets_to { SetsTo (design_at lines.fields.now lines.starts.now shape) out.old shape.implementation.rows.count 0 }
+    ensures { SetsTo (design_at lines.entry.fields.now lines.entry.starts.now shape) out.new shape.implementation.rows.count shape.specification.rows.count }
 {
     for i in 0..shape.specification.rows.count {
         out[2 * limits::MAX_ROWS + i as usize] = watches::reply_watched(
@@ -55,9 +55,9 @@ fn put_replies(lines: &Lines, shape: Shape, mapping: &limits::Values, out: &mut 
 }
 
 // The sets of a design.
-pub fn sets(lines: &Lines, shape: Shape) -> [u16; SETS]
+pub fn sets(lines: Lent, shape: Shape) -> [u16; SETS]
     requires { Fits shape }
-    ensures { SetsAre (design_at lines.now.fields lines.now.starts shape) result }
+    ensures { SetsAre (design_at lines.entry.fields.now lines.entry.starts.now shape) result }
 {
     let mapping = watches::mapping_reads(lines, shape);
     let mut out = [0u16; SETS];
@@ -88,18 +88,18 @@ pub fn pays(sets: &[u16; SETS], implementation: Process) -> bool
 
 // Whether row i of the implementation is not enabled, as far as a look at its condition for one sum value tells.
 fn idle(
-    lines: &Lines,
+    lines: Lent,
     shape: Shape,
     plan: &[u16; row_plan::LENGTH],
     i: u8,
     v: &limits::Values,
 ) -> bool
     requires { i < 32 }
-    ensures { result ≡ idle_in lines.now.fields lines.now.starts shape plan.now i v.now }
+    ensures { result ≡ idle_in lines.entry.fields.now lines.entry.starts.now shape plan.now i v.now }
 {
-    let line = steps::line_of(lines, shape.implementation, i as u16 + 1);
+    let line = steps::line_of(lines.starts, shape.implementation, i as u16 + 1);
     let conjuncts = row_plan::front(plan, i as usize);
-    let front = conjuncts::guard(&lines.fields, line as usize + 3, v, 0, conjuncts);
+    let front = conjuncts::guard(lines.fields, line as usize + 3, v, 0, conjuncts);
     if !front.holds {
         return true;
     }
@@ -107,13 +107,13 @@ fn idle(
     if !planned.free {
         return false;
     }
-    let on = eval::formula(&lines.fields, front.at, v, 0, front.depth);
+    let on = eval::formula(lines.fields, front.at, v, 0, front.depth);
     !on.holds
 }
 
 // A look at row i.
 fn look_at(
-    lines: &Lines,
+    lines: Lent,
     shape: Shape,
     plan: &[u16; row_plan::LENGTH],
     sets: &[u16; SETS],
@@ -123,8 +123,8 @@ fn look_at(
     m: u16,
 ) -> Look
     requires i_bound { i < 32 }
-    requires m_value { m ≡ measure_in lines.now.fields lines.now.starts shape v.now }
-    ensures { result ≡ look_inside lines.now.fields lines.now.starts shape plan.now sets.now i v.now t.now }
+    requires m_value { m ≡ measure_in lines.fields.now lines.starts.now shape v.now }
+    ensures { result ≡ look_inside lines.entry.fields.now lines.entry.starts.now shape plan.now sets.now i v.now t.now }
 {
     if idle(lines, shape, plan, i, v) {
         return Look {
@@ -148,7 +148,7 @@ const LOUD: usize = MAPPING + 1;
 
 // Row i by what is known of it, or by a look, which is noted.
 fn row_passes(
-    lines: &Lines,
+    lines: Lent,
     shape: Shape,
     plan: &[u16; row_plan::LENGTH],
     sets: &[u16; SETS],
@@ -160,9 +160,9 @@ fn row_passes(
     watch: &mut [u16; WATCH],
 ) -> bool
     requires i_bound { i < 32 }
-    requires m_value { m ≡ measure_in lines.now.fields lines.now.starts shape v.now }
-    ensures value { result ≡ row_passes_in lines.now.fields lines.now.starts shape plan.now sets.now changed i v.now t.now watch.old }
-    ensures watch_after { watch.new ≡ noted_in lines.now.fields lines.now.starts shape plan.now sets.now changed i v.now t.now watch.old }
+    requires m_value { m ≡ measure_in lines.fields.now lines.starts.now shape v.now }
+    ensures value { result ≡ row_passes_in lines.entry.fields.now lines.entry.starts.now shape plan.now sets.now changed i v.now t.now watch.old }
+    ensures watch_after { watch.new ≡ noted_in lines.entry.fields.now lines.entry.starts.now shape plan.now sets.now changed i v.now t.now watch.old }
 {
     let known = watch[i as usize];
     if known & changed == 0 {
@@ -176,7 +176,7 @@ fn row_passes(
 
 // All of them: where all hold, whether none is known to have a marked step.
 fn rows_pass(
-    lines: &Lines,
+    lines: Lent,
     shape: Shape,
     plan: &[u16; row_plan::LENGTH],
     sets: &[u16; SETS],
@@ -186,11 +186,11 @@ fn rows_pass(
     m: u16,
     watch: &mut [u16; WATCH],
 ) -> Option<bool>
-    requires task { Task lines.now.fields lines.now.starts shape plan.now sets.now v.now }
-    requires t_value { t.now ≡ mapped_in lines.now.fields lines.now.starts shape v.now }
-    requires m_value { m ≡ measure_in lines.now.fields lines.now.starts shape v.now }
-    requires rows_carried { RowsCarried lines.now.fields lines.now.starts shape changed watch.old v.now }
-    ensures { IfSome result (λ quiet. RowsTo lines.now.fields lines.now.starts shape watch.old v.now watch.new shape.implementation.rows.count quiet) }
+    requires task { Task lines.fields.now lines.starts.now shape plan.now sets.now v.now }
+    requires t_value { t.now ≡ mapped_in lines.fields.now lines.starts.now shape v.now }
+    requires m_value { m ≡ measure_in lines.fields.now lines.starts.now shape v.now }
+    requires rows_carried { RowsCarried lines.fields.now lines.starts.now shape changed watch.old v.now }
+    ensures { IfSome result (λ quiet. RowsTo lines.entry.fields.now lines.entry.starts.now shape watch.old v.now watch.new shape.implementation.rows.count quiet) }
 {
     let mut quiet = true;
     for i in 0..shape.implementation.rows.count {
@@ -209,7 +209,7 @@ const UNKNOWN: u16 = 256;
 
 // The reply to row i by what is known of it, or at a focus point by a look, which is noted; elsewhere it is forgotten.
 fn reply_passes(
-    lines: &Lines,
+    lines: Lent,
     shape: Shape,
     plan: &[u16; row_plan::LENGTH],
     sets: &[u16; SETS],
@@ -221,7 +221,7 @@ fn reply_passes(
     watch: &mut [u16; WATCH],
 ) -> bool
     requires { i < 32 }
-    ensures value { result ≡ reply_passes_in lines.now.fields lines.now.starts shape plan.now changed quiet i v.now t.now watch.old }
+    ensures value { result ≡ reply_passes_in lines.entry.fields.now lines.entry.starts.now shape plan.now changed quiet i v.now t.now watch.old }
     ensures watch_after { watch.new ≡ reply_noted_in sets.now changed quiet i watch.old }
 {
     let at = limits::MAX_ROWS + i as usize;
@@ -239,7 +239,7 @@ fn reply_passes(
 
 // All of them.
 fn replies_pass(
-    lines: &Lines,
+    lines: Lent,
     shape: Shape,
     plan: &[u16; row_plan::LENGTH],
     sets: &[u16; SETS],
@@ -249,10 +249,10 @@ fn replies_pass(
     t: &limits::Values,
     watch: &mut [u16; WATCH],
 ) -> bool
-    requires task { Task lines.now.fields lines.now.starts shape plan.now sets.now v.now }
-    requires t_value { t.now ≡ mapped_in lines.now.fields lines.now.starts shape v.now }
-    requires replies_carried { RepliesCarried lines.now.fields lines.now.starts shape changed watch.old v.now }
-    ensures { When result (RepliesTo lines.now.fields lines.now.starts shape watch.old v.now watch.new shape.specification.rows.count quiet) }
+    requires task { Task lines.fields.now lines.starts.now shape plan.now sets.now v.now }
+    requires t_value { t.now ≡ mapped_in lines.fields.now lines.starts.now shape v.now }
+    requires replies_carried { RepliesCarried lines.fields.now lines.starts.now shape changed watch.old v.now }
+    ensures { When result (RepliesTo lines.entry.fields.now lines.entry.starts.now shape watch.old v.now watch.new shape.specification.rows.count quiet) }
 {
     for i in 0..shape.specification.rows.count {
         if !reply_passes(lines, shape, plan, sets, changed, quiet, i, v, t, watch) {
@@ -266,7 +266,7 @@ fn replies_pass(
 
 // The mapped state by what is known of it, or anew, and whether it is in size.
 fn mapping_passes(
-    lines: &Lines,
+    lines: Lent,
     shape: Shape,
     plan: &[u16; row_plan::LENGTH],
     sets: &[u16; SETS],
@@ -275,9 +275,9 @@ fn mapping_passes(
     t: &mut limits::Values,
     watch: &mut [u16; WATCH],
 ) -> bool
-    requires task { Task lines.now.fields lines.now.starts shape plan.now sets.now v.now }
-    requires mapped_carried { MappedCarried lines.now.fields lines.now.starts shape changed watch.old t.old v.now }
-    ensures { When result (MappedTo lines.now.fields lines.now.starts shape watch.old v.now watch.new t.new) }
+    requires task { Task lines.fields.now lines.starts.now shape plan.now sets.now v.now }
+    requires mapped_carried { MappedCarried lines.fields.now lines.starts.now shape changed watch.old t.old v.now }
+    ensures { When result (MappedTo lines.entry.fields.now lines.entry.starts.now shape watch.old v.now watch.new t.new) }
 {
     let known = watch[MAPPING];
     if known & changed == 0 {
@@ -307,7 +307,7 @@ fn since(last: &limits::Values, v: &limits::Values) -> u16
 
 // Whether the state v passes, as far as is known from the last one and seen now. Where it does, what is known is that from v on.
 pub fn passes(
-    lines: &Lines,
+    lines: Lent,
     shape: Shape,
     plan: &[u16; row_plan::LENGTH],
     sets: &[u16; SETS],
@@ -316,9 +316,9 @@ pub fn passes(
     t: &mut limits::Values,
     watch: &mut [u16; WATCH],
 ) -> bool
-    requires task { Task lines.now.fields lines.now.starts shape plan.now sets.now v.now }
-    requires recalls { Recalls lines.now.fields lines.now.starts shape watch.old t.old last.now }
-    ensures { When result (Passed lines.now.fields lines.now.starts shape v.now watch.new t.new) }
+    requires task { Task lines.fields.now lines.starts.now shape plan.now sets.now v.now }
+    requires recalls { Recalls lines.fields.now lines.starts.now shape watch.old t.old last.now }
+    ensures { When result (Passed lines.entry.fields.now lines.entry.starts.now shape v.now watch.new t.new) }
 {
     let changed = since(last, v);
     if !mapping_passes(lines, shape, plan, sets, changed, v, t, watch) {

@@ -10,7 +10,7 @@ ghost use Rattle.row_looks.specs.Looks.{looks_needed, IsAt, FirstOn, next_from};
 
 use conjuncts::Guarded;
 use design::Shape;
-use layout::Lines;
+use layout::Lent;
 use row_plan::RowPlan;
 
 // A row at a state.
@@ -35,7 +35,7 @@ pub struct Look {
 
 // The row after i others.
 pub fn row_at(
-    lines: &Lines,
+    lines: Lent,
     shape: Shape,
     plan: &[u16; row_plan::LENGTH],
     i: u8,
@@ -43,18 +43,18 @@ pub fn row_at(
 ) -> Row
     requires fits { Fits shape }
     requires i_lt_count { i < shape.implementation.rows.count }
-    requires plan_value { plan.now ≡ plan_in lines.now.fields lines.now.starts shape }
-    ensures { IsAt lines.now.fields lines.now.starts shape i v.now result }
+    requires plan_value { plan.now ≡ plan_in lines.fields.now lines.starts.now shape }
+    ensures { IsAt lines.entry.fields.now lines.entry.starts.now shape i v.now result }
 {
     let planned = row_plan::planned(plan, i as usize);
-    let line = steps::line_of(lines, shape.implementation, i as u16 + 1);
-    let front = conjuncts::guard(&lines.fields, line as usize + 3, v, 0, planned.front);
+    let line = steps::line_of(lines.starts, shape.implementation, i as u16 + 1);
+    let front = conjuncts::guard(lines.fields, line as usize + 3, v, 0, planned.front);
     Row {
         internal: planned.internal,
         at: front.at,
         depth: front.depth,
-        looks: looks_for(&lines.fields, front, planned, v),
-        mark: marks::place_from(lines, shape, planned.mark.at),
+        looks: looks_for(lines.fields, front, planned, v),
+        mark: marks::place_from(lines.starts, shape, planned.mark.at),
     }
 }
 

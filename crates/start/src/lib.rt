@@ -8,12 +8,12 @@ ghost use Rattle.design.specs.Loaded.{design_at};
 ghost use Rattle.start.specs.Start.{start_in, start_failure_in, start_meets, no_internal_row, acceptance_in};
 
 use design::{Counts, Shape};
-use layout::Lines;
+use layout::Lent;
 use verdicts::{Acceptance, Failure};
 
 // Whether criterion 1 holds; not where the counts do not fit.
-pub fn holds(lines: &Lines, counts: Counts) -> bool
-    ensures { result ≡ start_in lines.now.fields lines.now.starts counts }
+pub fn holds(lines: Lent, counts: Counts) -> bool
+    ensures { result ≡ start_in lines.entry.fields.now lines.entry.starts.now counts }
 {
     if !layout::counts_fit(counts) {
         return false;
@@ -22,8 +22,8 @@ pub fn holds(lines: &Lines, counts: Counts) -> bool
 }
 
 // The failure of criterion 1.
-pub fn failure(lines: &Lines, counts: Counts) -> Failure
-    ensures { result ≡ start_failure_in lines.now.fields lines.now.starts counts }
+pub fn failure(lines: Lent, counts: Counts) -> Failure
+    ensures { result ≡ start_failure_in lines.entry.fields.now lines.entry.starts.now counts }
 {
     Failure {
         criterion: 1,
@@ -34,8 +34,8 @@ pub fn failure(lines: &Lines, counts: Counts) -> Failure
 }
 
 // How the design is accepted, if it is: by whether an internal row is enabled in the initial state.
-pub fn acceptance(lines: &Lines, counts: Counts) -> Acceptance
-    ensures { result ≡ acceptance_in lines.now.fields lines.now.starts counts }
+pub fn acceptance(lines: Lent, counts: Counts) -> Acceptance
+    ensures { result ≡ acceptance_in lines.entry.fields.now lines.entry.starts.now counts }
 {
     let shape = layout::shape_of(counts);
     let initial = steps::initial_state(lines, shape.implementation);
@@ -47,8 +47,8 @@ pub fn acceptance(lines: &Lines, counts: Counts) -> Acceptance
 }
 
 // The initial state meets it.
-fn meets(lines: &Lines, shape: Shape) -> bool
-    ensures { result ≡ start_meets lines.now.fields lines.now.starts shape }
+fn meets(lines: Lent, shape: Shape) -> bool
+    ensures { result ≡ start_meets lines.entry.fields.now lines.entry.starts.now shape }
 {
     let v = steps::initial_state(lines, shape.implementation);
     let t = steps::mapped(lines, shape, &v);
@@ -59,8 +59,8 @@ fn meets(lines: &Lines, shape: Shape) -> bool
 }
 
 // No internal row is enabled in the state, marked or not.
-fn no_internal(lines: &Lines, shape: Shape, v: &limits::Values) -> bool
-    ensures { result ≡ no_internal_b (design_at lines.now.fields lines.now.starts shape) v.now }
+fn no_internal(lines: Lent, shape: Shape, v: &limits::Values) -> bool
+    ensures { result ≡ no_internal_b (design_at lines.entry.fields.now lines.entry.starts.now shape) v.now }
 {
     for i in 0..shape.implementation.rows.count {
         if !no_internal_row(lines, shape, i as u16 + 1, v) {
@@ -71,8 +71,8 @@ fn no_internal(lines: &Lines, shape: Shape, v: &limits::Values) -> bool
 }
 
 // Row k is visible, or enabled for no sum value.
-fn no_internal_row(lines: &Lines, shape: Shape, k: u16, v: &limits::Values) -> bool
-    ensures { result ≡ no_internal_row (design_at lines.now.fields lines.now.starts shape) v.now k }
+fn no_internal_row(lines: Lent, shape: Shape, k: u16, v: &limits::Values) -> bool
+    ensures { result ≡ no_internal_row (design_at lines.entry.fields.now lines.entry.starts.now shape) v.now k }
 {
     let span = steps::row_span(lines, shape.implementation, k);
     for sum in 0..span {

@@ -13,7 +13,7 @@ ghost use Rattle.state_passes.specs.Passes.{known_in, known_mark, visible_look, 
 use conjuncts::Guarded;
 use design::{Process, Shape};
 use eval::Held;
-use layout::Lines;
+use layout::Lent;
 use row_plan::RowPlan;
 
 // A row that is looked at.
@@ -84,7 +84,7 @@ fn marked_at(fields: &limits::Fields, row: Row, v: &limits::Values, first: bool,
 
 // One look: whether criteria 3, 6, 8 and 9 hold for a sum value.
 fn visible_look(
-    lines: &Lines,
+    lines: Lent,
     shape: Shape,
     row: Row,
     first: Held,
@@ -92,9 +92,9 @@ fn visible_look(
     t: &limits::Values,
     sum: u16,
 ) -> bool
-    ensures { result ≡ visible_look lines.now.fields lines.now.starts shape row first v.now t.now sum }
+    ensures { result ≡ visible_look lines.entry.fields.now lines.entry.starts.now shape row first v.now t.now sum }
 {
-    let on = on_at(&lines.fields, row, v, first, sum);
+    let on = on_at(lines.fields, row, v, first, sum);
     if !on.holds {
         return true;
     }
@@ -103,14 +103,14 @@ fn visible_look(
 
 // Whether they all do.
 fn visible_looks(
-    lines: &Lines,
+    lines: Lent,
     shape: Shape,
     row: Row,
     first: Held,
     v: &limits::Values,
     t: &limits::Values,
 ) -> bool
-    ensures { result ≡ visible_looks lines.now.fields lines.now.starts shape row first v.now t.now }
+    ensures { result ≡ visible_looks lines.entry.fields.now lines.entry.starts.now shape row first v.now t.now }
 {
     for sum in 0..row.looks {
         if !visible_look(lines, shape, row, first, v, t, sum) {
@@ -124,7 +124,7 @@ fn visible_looks(
 
 // One look: where criteria 3, 4 and 5 hold for a sum value, whether there is no marked step.
 fn internal_look(
-    lines: &Lines,
+    lines: Lent,
     shape: Shape,
     row: Row,
     first: First,
@@ -133,20 +133,20 @@ fn internal_look(
     m: u16,
     sum: u16,
 ) -> Option<bool>
-    ensures { result ≡ internal_look lines.now.fields lines.now.starts shape row first v.now t.now m sum }
+    ensures { result ≡ internal_look lines.entry.fields.now lines.entry.starts.now shape row first v.now t.now m sum }
 {
-    let on = on_at(&lines.fields, row, v, first.on, sum);
+    let on = on_at(lines.fields, row, v, first.on, sum);
     if !on.holds {
         return Some(true);
     }
-    let marked = marked_at(&lines.fields, row, v, first.marked, sum);
+    let marked = marked_at(lines.fields, row, v, first.marked, sum);
     let holds = step_passes::internal_holds(lines, shape, row.risk, on.next, marked, v, t, m, sum);
     holds.then_some(!marked)
 }
 
 // The same of them all: nothing where one fails.
 fn internal_looks(
-    lines: &Lines,
+    lines: Lent,
     shape: Shape,
     row: Row,
     first: First,
@@ -154,7 +154,7 @@ fn internal_looks(
     t: &limits::Values,
     m: u16,
 ) -> Option<bool>
-    ensures { result ≡ internal_looks lines.now.fields lines.now.starts shape row first v.now t.now m }
+    ensures { result ≡ internal_looks lines.entry.fields.now lines.entry.starts.now shape row first v.now t.now m }
 {
     let mut quiet = true;
     for sum in 0..row.looks {
@@ -167,23 +167,23 @@ fn internal_looks(
 
 // What a row's looks see: where it holds, whether it has no marked step. A condition or a mark that does not read the sum value is evaluated once.
 fn row_looks(
-    lines: &Lines,
+    lines: Lent,
     shape: Shape,
     row: Row,
     v: &limits::Values,
     t: &limits::Values,
     m: u16,
 ) -> Option<bool>
-    ensures { result ≡ looks_in lines.now.fields lines.now.starts shape row v.now t.now m }
+    ensures { result ≡ looks_in lines.entry.fields.now lines.entry.starts.now shape row v.now t.now m }
 {
-    let on = eval::formula(&lines.fields, row.at, v, 0, row.depth);
+    let on = eval::formula(lines.fields, row.at, v, 0, row.depth);
     if row.free & !on.holds {
         return Some(true);
     }
     if row.internal {
         let first = First {
             on: on,
-            marked: marks::holds(&lines.fields, row.mark, v, 0),
+            marked: marks::holds(lines.fields, row.mark, v, 0),
         };
         return internal_looks(lines, shape, row, first, v, t, m);
     }
@@ -192,7 +192,7 @@ fn row_looks(
 
 // What is seen of the row after i others: the conjuncts in front of its condition, and if they hold its looks at what is left.
 fn row_seen(
-    lines: &Lines,
+    lines: Lent,
     shape: Shape,
     plan: &[u16; row_plan::LENGTH],
     i: u8,
@@ -201,16 +201,16 @@ fn row_seen(
     m: u16,
 ) -> Option<bool>
     requires { i < 64 }
-    ensures { result ≡ row_in lines.now.fields lines.now.starts shape (i + 1) (row_plan_at plan.now i) (risk_at plan.now 64) v.now t.now m }
+    ensures { result ≡ row_in lines.entry.fields.now lines.entry.starts.now shape (i + 1) (row_plan_at plan.now i) (risk_at plan.now 64) v.now t.now m }
 {
-    let line = steps::line_of(lines, shape.implementation, i as u16 + 1);
+    let line = steps::line_of(lines.starts, shape.implementation, i as u16 + 1);
     let conjuncts = row_plan::front(plan, i as usize);
-    let front = conjuncts::guard(&lines.fields, line as usize + 3, v, 0, conjuncts);
+    let front = conjuncts::guard(lines.fields, line as usize + 3, v, 0, conjuncts);
     if !front.holds {
         return Some(true);
     }
     let planned = row_plan::planned(plan, i as usize);
-    let mark = marks::place_from(lines, shape, planned.mark.at);
+    let mark = marks::place_from(lines.starts, shape, planned.mark.at);
     let row = row_for(
         front,
         planned,
@@ -222,7 +222,7 @@ fn row_seen(
 
 // What is seen of the rows after `first` others and before `end`.
 pub fn rows_seen_between(
-    lines: &Lines,
+    lines: Lent,
     shape: Shape,
     plan: &[u16; row_plan::LENGTH],
     first: u8,
@@ -232,7 +232,7 @@ pub fn rows_seen_between(
     m: u16,
 ) -> Option<bool>
     requires { end ≤ 64 }
-    ensures { result ≡ impl_between lines.now.fields lines.now.starts shape plan.now first end v.now t.now m }
+    ensures { result ≡ impl_between lines.entry.fields.now lines.entry.starts.now shape plan.now first end v.now t.now m }
 {
     let mut quiet = true;
     for i in first..end {
@@ -243,7 +243,7 @@ pub fn rows_seen_between(
 
 // What is seen of all rows.
 fn rows_seen(
-    lines: &Lines,
+    lines: Lent,
     shape: Shape,
     plan: &[u16; row_plan::LENGTH],
     v: &limits::Values,
@@ -251,7 +251,7 @@ fn rows_seen(
     m: u16,
 ) -> Option<bool>
     requires { Fits shape }
-    ensures { result ≡ impl_in lines.now.fields lines.now.starts shape plan.now v.now t.now m }
+    ensures { result ≡ impl_in lines.entry.fields.now lines.entry.starts.now shape plan.now v.now t.now m }
 {
     let implementation = shape.implementation;
     let count = implementation.rows.count;
@@ -262,7 +262,7 @@ fn rows_seen(
 
 // One look at a row: whether criterion 7 holds.
 fn replied(
-    lines: &Lines,
+    lines: Lent,
     implementation: Process,
     row: Row,
     first: Held,
@@ -270,30 +270,30 @@ fn replied(
     t: &limits::Values,
     sum: u16,
 ) -> bool
-    ensures { result ≡ replied_in lines.now.fields lines.now.starts implementation row first v.now t.now sum }
+    ensures { result ≡ replied_in lines.entry.fields.now lines.entry.starts.now implementation row first v.now t.now sum }
 {
-    let on = on_at(&lines.fields, row, t, first, sum);
+    let on = on_at(lines.fields, row, t, first, sum);
     if !on.holds {
         return true;
     }
     if row.partner == 0 {
         return false;
     }
-    let line = steps::line_of(lines, implementation, row.partner);
-    conjuncts::holds(&lines.fields, line as usize + 3, v, sum)
+    let line = steps::line_of(lines.starts, implementation, row.partner);
+    conjuncts::holds(lines.fields, line as usize + 3, v, sum)
 }
 
 // Whether it holds at its looks.
 fn reply_looks(
-    lines: &Lines,
+    lines: Lent,
     implementation: Process,
     row: Row,
     v: &limits::Values,
     t: &limits::Values,
 ) -> bool
-    ensures { result ≡ reply_looks lines.now.fields lines.now.starts implementation row v.now t.now }
+    ensures { result ≡ reply_looks lines.entry.fields.now lines.entry.starts.now implementation row v.now t.now }
 {
-    let first = eval::formula(&lines.fields, row.at, t, 0, row.depth);
+    let first = eval::formula(lines.fields, row.at, t, 0, row.depth);
     if row.free & !first.holds {
         return true;
     }
@@ -307,7 +307,7 @@ fn reply_looks(
 
 // Whether it holds of the row after i others.
 fn row_replied(
-    lines: &Lines,
+    lines: Lent,
     shape: Shape,
     plan: &[u16; row_plan::LENGTH],
     i: u8,
@@ -315,11 +315,11 @@ fn row_replied(
     t: &limits::Values,
 ) -> bool
     requires { 32 + i < 64 }
-    ensures { result ≡ reply_in lines.now.fields lines.now.starts shape (i + 1) (row_plan_at plan.now (32 + i)) v.now t.now }
+    ensures { result ≡ reply_in lines.entry.fields.now lines.entry.starts.now shape (i + 1) (row_plan_at plan.now (32 + i)) v.now t.now }
 {
-    let line = steps::line_of(lines, shape.specification, i as u16 + 1);
+    let line = steps::line_of(lines.starts, shape.specification, i as u16 + 1);
     let conjuncts = row_plan::front(plan, row_plan::ROWS + i as usize);
-    let front = conjuncts::guard(&lines.fields, line as usize + 3, t, 0, conjuncts);
+    let front = conjuncts::guard(lines.fields, line as usize + 3, t, 0, conjuncts);
     if !front.holds {
         return true;
     }
@@ -330,7 +330,7 @@ fn row_replied(
 
 // Whether it holds of the rows after `first` others and before `end`.
 pub fn rows_replied_between(
-    lines: &Lines,
+    lines: Lent,
     shape: Shape,
     plan: &[u16; row_plan::LENGTH],
     first: u8,
@@ -339,7 +339,7 @@ pub fn rows_replied_between(
     t: &limits::Values,
 ) -> bool
     requires { end ≤ 32 }
-    ensures { result ≡ spec_between lines.now.fields lines.now.starts shape plan.now first end v.now t.now }
+    ensures { result ≡ spec_between lines.entry.fields.now lines.entry.starts.now shape plan.now first end v.now t.now }
 {
     for i in first..end {
         if !row_replied(lines, shape, plan, i, v, t) {
@@ -351,14 +351,14 @@ pub fn rows_replied_between(
 
 // Whether it holds of each row.
 fn rows_replied(
-    lines: &Lines,
+    lines: Lent,
     shape: Shape,
     plan: &[u16; row_plan::LENGTH],
     v: &limits::Values,
     t: &limits::Values,
 ) -> bool
     requires { Fits shape }
-    ensures { result ≡ spec_in lines.now.fields lines.now.starts shape plan.now v.now t.now }
+    ensures { result ≡ spec_in lines.entry.fields.now lines.entry.starts.now shape plan.now v.now t.now }
 {
     let specification = shape.specification;
     let count = specification.rows.count;
@@ -369,14 +369,14 @@ fn rows_replied(
 
 // Whether the state v, whose mapped state is t, passes.
 pub fn passes(
-    lines: &Lines,
+    lines: Lent,
     shape: Shape,
     plan: &[u16; row_plan::LENGTH],
     v: &limits::Values,
     t: &limits::Values,
 ) -> bool
     requires { Fits shape }
-    ensures { result ≡ passes_in lines.now.fields lines.now.starts shape plan.now v.now t.now }
+    ensures { result ≡ passes_in lines.entry.fields.now lines.entry.starts.now shape plan.now v.now t.now }
 {
     if !steps::below(lines, shape.specification, t) {
         return false;

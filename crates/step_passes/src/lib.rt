@@ -8,7 +8,7 @@ ghost use Rattle.std.specs.Prelude.{◌≡◌, false};
 ghost use Rattle.step_passes.specs.Steps.{asked_in, has_values_in, kept_in, answered_in, internal_step, visible_step};
 
 use design::{Process, Shape};
-use layout::Lines;
+use layout::Lent;
 
 // ---- where a step leads
 
@@ -16,7 +16,7 @@ use layout::Lines;
 // the three lines, and how many values the second has, and not the shape: with that lent in every step, the walk would read it again for
 // each row.
 fn asked(
-    lines: &Lines,
+    lines: Lent,
     risk: u32,
     invariant: u8,
     mapping: u8,
@@ -25,7 +25,7 @@ fn asked(
     x: &limits::Values,
     measured: bool,
 ) -> bool
-    ensures { result ≡ asked_in lines.now.fields lines.now.starts risk invariant mapping n measure x.now measured }
+    ensures { result ≡ asked_in lines.entry.fields.now lines.entry.starts.now risk invariant mapping n measure x.now measured }
 {
     if divisors::safe_at(risk, x) {
         return true;
@@ -44,8 +44,8 @@ fn asked(
 
 // The same; where nothing could leave them without a value, as in most tables, nothing is asked. It stands here once for internal steps and
 // once for visible ones, so that the compiler puts it, and not what it asks, into each.
-fn has_values(lines: &Lines, shape: Shape, risk: u32, x: &limits::Values, measured: bool) -> bool
-    ensures { result ≡ has_values_in lines.now.fields lines.now.starts shape risk x.now measured }
+fn has_values(lines: Lent, shape: Shape, risk: u32, x: &limits::Values, measured: bool) -> bool
+    ensures { result ≡ has_values_in lines.entry.fields.now lines.entry.starts.now shape risk x.now measured }
 {
     if risk == 0 {
         return true;
@@ -57,8 +57,8 @@ fn has_values(lines: &Lines, shape: Shape, risk: u32, x: &limits::Values, measur
     asked(lines, risk, invariant, mapping, n, measure, x, measured)
 }
 
-fn has_mapping(lines: &Lines, shape: Shape, risk: u32, x: &limits::Values) -> bool
-    ensures { result ≡ has_values_in lines.now.fields lines.now.starts shape risk x.now false }
+fn has_mapping(lines: Lent, shape: Shape, risk: u32, x: &limits::Values) -> bool
+    ensures { result ≡ has_values_in lines.entry.fields.now lines.entry.starts.now shape risk x.now false }
 {
     if risk == 0 {
         return true;
@@ -74,14 +74,14 @@ fn has_mapping(lines: &Lines, shape: Shape, risk: u32, x: &limits::Values) -> bo
 
 // Whether an internal step to x keeps the mapping t, and, if it is marked, lowers the measure m.
 fn kept(
-    lines: &Lines,
+    lines: Lent,
     shape: Shape,
     x: &limits::Values,
     t: &limits::Values,
     m: u16,
     marked: bool,
 ) -> bool
-    ensures { result ≡ kept_in lines.now.fields lines.now.starts shape x.now t.now m marked }
+    ensures { result ≡ kept_in lines.entry.fields.now lines.entry.starts.now shape x.now t.now m marked }
 {
     let mut there = [0u16; limits::MAX_PARAMETERS];
     steps::put_mapped(lines, shape, x, &mut there);
@@ -96,7 +96,7 @@ fn kept(
 
 // Whether criteria 3, 4 and 5 hold of the step of an internal row whose data stand at a place; the step is marked or not.
 pub fn internal_holds(
-    lines: &Lines,
+    lines: Lent,
     shape: Shape,
     risk: u32,
     at: usize,
@@ -106,12 +106,12 @@ pub fn internal_holds(
     m: u16,
     sum: u16,
 ) -> bool
-    ensures { result ≡ internal_step lines.now.fields lines.now.starts shape risk at marked v.now t.now m sum }
+    ensures { result ≡ internal_step lines.entry.fields.now lines.entry.starts.now shape risk at marked v.now t.now m sum }
 {
-    let data = eval::value(&lines.fields, at, v, sum, limits::MAX_DEPTH);
+    let data = eval::value(lines.fields, at, v, sum, limits::MAX_DEPTH);
     let n = shape.implementation.parameters.count;
     let mut x = [0u16; limits::MAX_PARAMETERS];
-    steps::put_values(&lines.fields, data.next, n, v, sum, &mut x);
+    steps::put_values(lines.fields, data.next, n, v, sum, &mut x);
     if !steps::inside(lines, shape, &x) {
         return false;
     }
@@ -125,7 +125,7 @@ pub fn internal_holds(
 
 // Whether row j of the specification makes the same step at t: it is enabled, carries the same data and leads to `there`.
 fn answered(
-    lines: &Lines,
+    lines: Lent,
     specification: Process,
     j: u16,
     carries: u16,
@@ -133,29 +133,29 @@ fn answered(
     t: &limits::Values,
     sum: u16,
 ) -> bool
-    ensures { result ≡ answered_in lines.now.fields lines.now.starts specification j carries there.now t.now sum }
+    ensures { result ≡ answered_in lines.entry.fields.now lines.entry.starts.now specification j carries there.now t.now sum }
 {
     if j == 0 {
         return false;
     }
-    let line = steps::line_of(lines, specification, j);
-    let condition = eval::formula(&lines.fields, line as usize + 3, t, sum, limits::MAX_DEPTH);
+    let line = steps::line_of(lines.starts, specification, j);
+    let condition = eval::formula(lines.fields, line as usize + 3, t, sum, limits::MAX_DEPTH);
     if !condition.holds {
         return false;
     }
-    let carried = eval::value(&lines.fields, condition.next, t, sum, limits::MAX_DEPTH);
+    let carried = eval::value(lines.fields, condition.next, t, sum, limits::MAX_DEPTH);
     if carries != carried.value {
         return false;
     }
     let n = specification.parameters.count;
     let mut next = [0u16; limits::MAX_PARAMETERS];
-    steps::put_values(&lines.fields, carried.next, n, t, sum, &mut next);
+    steps::put_values(lines.fields, carried.next, n, t, sum, &mut next);
     steps::same(n, there, &next)
 }
 
 // Whether criteria 3, 6, 8 and 9 hold of the step of a visible row whose data stand at a place; j is the number of its partner.
 pub fn visible_holds(
-    lines: &Lines,
+    lines: Lent,
     shape: Shape,
     risk: u32,
     at: usize,
@@ -164,12 +164,12 @@ pub fn visible_holds(
     t: &limits::Values,
     sum: u16,
 ) -> bool
-    ensures { result ≡ visible_step lines.now.fields lines.now.starts shape risk at j v.now t.now sum }
+    ensures { result ≡ visible_step lines.entry.fields.now lines.entry.starts.now shape risk at j v.now t.now sum }
 {
-    let data = eval::value(&lines.fields, at, v, sum, limits::MAX_DEPTH);
+    let data = eval::value(lines.fields, at, v, sum, limits::MAX_DEPTH);
     let n = shape.implementation.parameters.count;
     let mut x = [0u16; limits::MAX_PARAMETERS];
-    steps::put_values(&lines.fields, data.next, n, v, sum, &mut x);
+    steps::put_values(lines.fields, data.next, n, v, sum, &mut x);
     if !steps::inside(lines, shape, &x) {
         return false;
     }

@@ -13,7 +13,7 @@ ghost use Rattle.design.specs.Loaded.{design_at};
 ghost use Rattle.steps.specs.Arrays.{padded, values_at, step_of, no_step_there, line_of, row_step, row_span, row_with, state_values, state_in, number_in, initial_in, below_in, same_in, invariant_in, inside_in, mapped_in, measure_in};
 
 use design::{Process, Shape};
-use layout::Lines;
+use layout::Lent;
 
 // What a row does at a state for a sum value: its action, whether it is enabled, the data number, and the state that it leads to.
 #[derive(Clone, Copy)]
@@ -75,8 +75,8 @@ pub fn values(
 
 // Stores the state that has a number: each value is the remainder by its size of what is left, from the last parameter on. By a size of 0
 // the remainder is all that is left, and nothing is.
-pub fn put_state(lines: &Lines, process: Process, number: u16, out: &mut limits::Values)
-    ensures { out.new ≡ sets out.old 0 (state_values lines.now.fields lines.now.starts process number) }
+pub fn put_state(lines: Lent, process: Process, number: u16, out: &mut limits::Values)
+    ensures { out.new ≡ sets out.old 0 (state_values lines.entry.fields.now lines.entry.starts.now process number) }
 {
     let mut left = number;
     for i in (0..few(process.parameters.count)).rev() {
@@ -87,8 +87,8 @@ pub fn put_state(lines: &Lines, process: Process, number: u16, out: &mut limits:
 }
 
 // That state.
-pub fn state(lines: &Lines, process: Process, number: u16) -> limits::Values
-    ensures { result ≡ state_in lines.now.fields lines.now.starts process number }
+pub fn state(lines: Lent, process: Process, number: u16) -> limits::Values
+    ensures { result ≡ state_in lines.entry.fields.now lines.entry.starts.now process number }
 {
     let mut out = [0u16; limits::MAX_PARAMETERS];
     put_state(lines, process, number, &mut out);
@@ -96,8 +96,8 @@ pub fn state(lines: &Lines, process: Process, number: u16) -> limits::Values
 }
 
 // The number of a state, and `NOWHERE` for all that are larger than the number of any.
-pub fn number(lines: &Lines, process: Process, v: &limits::Values) -> usize
-    ensures { result ≡ number_in lines.now.fields lines.now.starts process v.now }
+pub fn number(lines: Lent, process: Process, v: &limits::Values) -> usize
+    ensures { result ≡ number_in lines.entry.fields.now lines.entry.starts.now process v.now }
 {
     let mut k = 0;
     for i in 0..process.parameters.count as usize {
@@ -108,8 +108,8 @@ pub fn number(lines: &Lines, process: Process, v: &limits::Values) -> usize
 }
 
 // The initial state.
-pub fn initial_state(lines: &Lines, process: Process) -> limits::Values
-    ensures { result ≡ initial_in lines.now.fields lines.now.starts process }
+pub fn initial_state(lines: Lent, process: Process) -> limits::Values
+    ensures { result ≡ initial_in lines.entry.fields.now lines.entry.starts.now process }
 {
     let m = few(process.parameters.count);
     let mut out = [0u16; limits::MAX_PARAMETERS];
@@ -120,8 +120,8 @@ pub fn initial_state(lines: &Lines, process: Process) -> limits::Values
 }
 
 // Whether the values are below the sizes.
-pub fn below(lines: &Lines, process: Process, v: &limits::Values) -> bool
-    ensures { result ≡ below_in lines.now.fields lines.now.starts process v.now }
+pub fn below(lines: Lent, process: Process, v: &limits::Values) -> bool
+    ensures { result ≡ below_in lines.entry.fields.now lines.entry.starts.now process v.now }
 {
     (0..process.parameters.count as usize).all(|i| {
         let z = lines.size(process.parameters.first as usize + i);
@@ -166,16 +166,16 @@ fn no_step() -> Step
 }
 
 // Where the line of row k of a process starts, rows being counted from 1.
-pub fn line_of(lines: &Lines, process: Process, k: u16) -> u16
-    ensures { result ≡ line_of lines.now.starts process k }
+pub fn line_of(starts: &limits::Starts, process: Process, k: u16) -> u16
+    ensures { result ≡ line_of starts.now process k }
 {
     let before = (process.rows.first as usize + k as usize).saturating_sub(1);
-    lines.line(before)
+    terms::field(starts, before)
 }
 
 // What row k of a process does.
-pub fn row_step(lines: &Lines, process: Process, k: u16, v: &limits::Values, sum: u16) -> Step
-    ensures { result ≡ row_step lines.now.fields lines.now.starts process k v.now sum }
+pub fn row_step(lines: Lent, process: Process, k: u16, v: &limits::Values, sum: u16) -> Step
+    ensures { result ≡ row_step lines.entry.fields.now lines.entry.starts.now process k v.now sum }
 {
     if k == 0 {
         return no_step();
@@ -183,13 +183,13 @@ pub fn row_step(lines: &Lines, process: Process, k: u16, v: &limits::Values, sum
     if (process.rows.count as u16) < k {
         return no_step();
     }
-    let line = line_of(lines, process, k);
-    step_by(&lines.fields, line, process.parameters.count, v, sum)
+    let line = line_of(lines.starts, process, k);
+    step_by(lines.fields, line, process.parameters.count, v, sum)
 }
 
 // Its span, and 0 where there is no row k.
-pub fn row_span(lines: &Lines, process: Process, k: u16) -> u16
-    ensures { result ≡ row_span lines.now.fields lines.now.starts process k }
+pub fn row_span(lines: Lent, process: Process, k: u16) -> u16
+    ensures { result ≡ row_span lines.entry.fields.now lines.entry.starts.now process k }
 {
     if k == 0 {
         return 0;
@@ -197,12 +197,12 @@ pub fn row_span(lines: &Lines, process: Process, k: u16) -> u16
     if (process.rows.count as u16) < k {
         return 0;
     }
-    layout::field_of(&lines.fields, line_of(lines, process, k), 2)
+    layout::field_of(lines.fields, line_of(lines.starts, process, k), 2)
 }
 
 // The number of the first row of an action, and 0 if there is none.
-pub fn row_with(lines: &Lines, process: Process, action: u16) -> u16
-    ensures { result ≡ row_with lines.now.fields lines.now.starts process action }
+pub fn row_with(lines: Lent, process: Process, action: u16) -> u16
+    ensures { result ≡ row_with lines.entry.fields.now lines.entry.starts.now process action }
 {
     (0..process.rows.count as u16)
         .find(|i| lines.field(process.rows.first as usize + *i as usize, 1) == action)
@@ -212,16 +212,16 @@ pub fn row_with(lines: &Lines, process: Process, action: u16) -> u16
 // ---- the design
 
 // Whether the invariant holds.
-pub fn invariant(lines: &Lines, shape: Shape, v: &limits::Values) -> bool
-    ensures { result ≡ invariant_in lines.now.fields lines.now.starts shape v.now }
+pub fn invariant(lines: Lent, shape: Shape, v: &limits::Values) -> bool
+    ensures { result ≡ invariant_in lines.entry.fields.now lines.entry.starts.now shape v.now }
 {
     let line = lines.line(shape.invariant as usize);
-    conjuncts::holds(&lines.fields, line as usize + 1, v, 0)
+    conjuncts::holds(lines.fields, line as usize + 1, v, 0)
 }
 
 // Whether the values are those of a state of the implementation in which the invariant holds.
-pub fn inside(lines: &Lines, shape: Shape, v: &limits::Values) -> bool
-    ensures { result ≡ inside_in lines.now.fields lines.now.starts shape v.now }
+pub fn inside(lines: Lent, shape: Shape, v: &limits::Values) -> bool
+    ensures { result ≡ inside_in lines.entry.fields.now lines.entry.starts.now shape v.now }
 {
     if below(lines, shape.implementation, v) {
         invariant(lines, shape, v)
@@ -231,13 +231,13 @@ pub fn inside(lines: &Lines, shape: Shape, v: &limits::Values) -> bool
 }
 
 // Stores the mapped values.
-pub fn put_mapped(lines: &Lines, shape: Shape, v: &limits::Values, out: &mut limits::Values)
+pub fn put_mapped(lines: Lent, shape: Shape, v: &limits::Values, out: &mut limits::Values)
     requires { length out.old ≡ 8 }
-    ensures { out.new ≡ sets out.old 0 (mapped (design_at lines.now.fields lines.now.starts shape) v.now) }
+    ensures { out.new ≡ sets out.old 0 (mapped (design_at lines.entry.fields.now lines.entry.starts.now shape) v.now) }
 {
     let line = lines.line(shape.mapping as usize);
     put_values(
-        &lines.fields,
+        lines.fields,
         line as usize + 1,
         shape.specification.parameters.count,
         v,
@@ -247,8 +247,8 @@ pub fn put_mapped(lines: &Lines, shape: Shape, v: &limits::Values, out: &mut lim
 }
 
 // The mapped state.
-pub fn mapped(lines: &Lines, shape: Shape, v: &limits::Values) -> limits::Values
-    ensures { result ≡ mapped_in lines.now.fields lines.now.starts shape v.now }
+pub fn mapped(lines: Lent, shape: Shape, v: &limits::Values) -> limits::Values
+    ensures { result ≡ mapped_in lines.entry.fields.now lines.entry.starts.now shape v.now }
 {
     let mut out = [0u16; limits::MAX_PARAMETERS];
     put_mapped(lines, shape, v, &mut out);
@@ -256,10 +256,10 @@ pub fn mapped(lines: &Lines, shape: Shape, v: &limits::Values) -> limits::Values
 }
 
 // The measure.
-pub fn measure(lines: &Lines, shape: Shape, v: &limits::Values) -> u16
-    ensures { result ≡ measure_in lines.now.fields lines.now.starts shape v.now }
+pub fn measure(lines: Lent, shape: Shape, v: &limits::Values) -> u16
+    ensures { result ≡ measure_in lines.entry.fields.now lines.entry.starts.now shape v.now }
 {
     let line = lines.line(shape.measure as usize);
-    let m = eval::value(&lines.fields, line as usize + 1, v, 0, limits::MAX_DEPTH);
+    let m = eval::value(lines.fields, line as usize + 1, v, 0, limits::MAX_DEPTH);
     m.value
 }

@@ -16,6 +16,10 @@ ahead_of a = slice_range a.block a.at a.end
 abbrev pub first_of : {R : Type 0} → ReadAhead R → ℕ
 first_of a = get_or a.block a.at 0
 
+-- the block that they stand in
+abbrev pub block_of : {R : Type 0} → ReadAhead R → List ℕ
+block_of a = a.block
+
 -- the reader behind them
 abbrev pub reader_of : {R : Type 0} → ReadAhead R → R
 reader_of a = a.reader

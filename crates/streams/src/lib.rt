@@ -3,13 +3,13 @@
 // say; of a reader and a writer whose bytes are known they are said.
 #![tactic(auto)]
 
-ghost use Rattle.std.specs.Prelude.{◌≤◌, length, IfOk, OnOk};
+ghost use Rattle.std.specs.Prelude.{◌≡◌, ◌≤◌, length, take, IfOk, OnOk};
 ghost use Rattle.std.specs.Io.KnownBytes.{Appends, WriteAppends};
 ghost use Rattle.streams.specs.Reading.{Within, Gave, Given};
 
 mod read_ahead;
 
-pub use read_ahead::{BLOCK, ReadAhead};
+pub use read_ahead::{BLOCK, Parts, ReadAhead};
 use std::io;
 use std::io::{Cursor, ErrorKind, Write};
 
@@ -105,7 +105,9 @@ pub fn fail<W: Write>(writer: &mut W, what: &[u8], error: io::Error) -> io::Resu
 }
 
 // The words before the error's number, which the library puts in brackets after a blank.
-fn before_number(text: &[u8]) -> &[u8] {
+fn before_number(text: &[u8]) -> &[u8]
+    ensures { result.now ≡ take (length result.now) text.now }
+{
     match text.iter().rposition(|b| *b == b'(') {
         Some(i) => &text[..i.saturating_sub(1)],
         None => text,

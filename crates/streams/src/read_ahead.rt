@@ -18,11 +18,20 @@ pub struct ReadAhead<R> {
     ghost within: { end ≤ 4096 },
 }
 
+// The same taken apart.
+#[derive(Drop)]
+pub struct Parts<R> {
+    pub reader: R,
+    pub block: [u8; BLOCK],
+    pub at: usize,
+    pub end: usize,
+}
+
 impl<R: io::Read> ReadAhead<R> {
-    ghost use Rattle.std.specs.Prelude.{◌≡◌, ◌<◌, ◌-◌, Ok, Some, IsOk, OnOk, None, take, drop, length};
-    ghost use Rattle.std.specs.Io.KnownBytes.{Keeps, Consumes, IsAtEnd};
+    ghost use Rattle.std.specs.Prelude.{◌≡◌, ◌<◌, ◌-◌, ◌⊎◌, [], Ok, Some, IsOk, OnOk, None, take, drop, length, slice_range};
+    ghost use Rattle.std.specs.Io.KnownBytes.{Keeps, Consumes, IsAtEnd, prepend_known};
     ghost use Rattle.streams.specs.Reading.{GaveByte};
-    ghost use Rattle.streams.specs.Ahead.{IsAhead, ahead_of, first_of, reader_of, left_of};
+    ghost use Rattle.streams.specs.Ahead.{IsAhead, ahead_of, first_of, block_of, reader_of, left_of};
 
     // With none ahead.
     pub fn new(reader: R) -> ReadAhead<R>
@@ -36,10 +45,49 @@ impl<R: io::Read> ReadAhead<R> {
         }
     }
 
+    // With the bytes of a block ahead from one place up to another; with none where the second isn't behind the first and within the block.
+    pub fn holding(reader: R, block: [u8; BLOCK], at: usize, end: usize) -> ReadAhead<R>
+        ensures reader_value { reader_of result ≡ reader }
+        ensures block_value { block_of result ≡ block }
+        ensures ahead_value { at < end → end ≤ 4096 → ahead_of result ≡ slice_range block at end }
+        ensures ahead_value_2 { (end ≤ at) ⊎ (4096 < end) → ahead_of result ≡ [] }
+        ensures bytes { at < end → end ≤ 4096 → left_of R.remaining result ≡ prepend_known (slice_range block at end) (R.remaining reader) }
+        ensures bytes_2 { (end ≤ at) ⊎ (4096 < end) → left_of R.remaining result ≡ R.remaining reader }
+    {
+        let (at, end) = if at < end && end <= BLOCK {
+            (at, end)
+        } else {
+            (0, 0)
+        };
+        ReadAhead {
+            reader,
+            block,
+            at,
+            end,
+        }
+    }
+
+    // The reader, and the block with the two places from and up to which its bytes are ahead: `holding` makes the same of them.
+    pub fn into_parts(self) -> Parts<R>
+        ensures reader_value { result.reader ≡ reader_of self }
+        ensures ahead_value { slice_range result.block result.at result.end ≡ ahead_of self }
+        ensures block_value { result.block ≡ block_of self }
+        ensures ordered { result.at ≤ result.end }
+        ensures within { result.end ≤ 4096 }
+    {
+        Parts {
+            reader: self.reader,
+            block: self.block,
+            at: self.at,
+            end: self.end,
+        }
+    }
+
     // The next byte: the first one ahead, and where there is none, of what one read gives. None is the end.
     pub fn next_byte(&mut self) -> io::Result<Option<u8>>
         ensures value { IsAhead self.old → result ≡ Ok (Some (first_of self.old)) }
         ensures ahead_after { IsAhead self.old → ahead_of self.new ≡ drop 1 (ahead_of self.old) }
+        ensures block_unchanged { IsAhead self.old → block_of self.new ≡ block_of self.old }
         ensures reader_unchanged { IsAhead self.old → reader_of self.new ≡ reader_of self.old }
         ensures bytes { GaveByte (left_of R.remaining self.old) (left_of R.remaining self.new) result }
     {
@@ -81,6 +129,7 @@ impl<R: io::Read> ReadAhead<R> {
         ensures some { IsAhead self.old → result ≡ Some (first_of self.old) }
         ensures none { self.old.end ≤ self.old.at → result ≡ None }
         ensures ahead_after { ahead_of self.new ≡ drop 1 (ahead_of self.old) }
+        ensures block_unchanged { block_of self.new ≡ block_of self.old }
         ensures reader_unchanged { reader_of self.new ≡ reader_of self.old }
         ensures bytes { (self.old.end ≤ self.old.at → IsAtEnd (R.remaining self.old.reader))
             → GaveByte (left_of R.remaining self.old) (left_of R.remaining self.new) (Ok result) }

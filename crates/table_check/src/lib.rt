@@ -1,6 +1,6 @@
 // Faults 4 and 5 of the lines that a desk's arrays hold: kinds and counts, fields and their bounds, by the table of kinds (crate kinds).
 // Every function answers any arrays. What is tested is in design/specs/Tests; that it is the absence of the faults, in design/proofs.
-// All but `counts_of` take slices of any length: a `&Lines` would ask more of callers than is needed.
+// All but `counts_of` take slices of any length: a `Lent` would ask more of callers than is needed.
 // The product of sizes, the last of fault 5, is counted in the crate layout.
 #![tactic(auto)]
 

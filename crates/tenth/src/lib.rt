@@ -10,7 +10,7 @@ ghost use Rattle.layout.specs.Sizes.{Fits};
 ghost use Rattle.tenth.specs.Tenth.{sure_by, row_by, rows_by, mapping_by, invariant_by, others_by, apart_as_read, asked_by, tenth_by};
 
 use design::{Process, Shape};
-use layout::Lines;
+use layout::Lent;
 
 // Whether nothing could lack a value.
 fn sure(plan: &[u16; row_plan::LENGTH]) -> bool
@@ -22,7 +22,7 @@ fn sure(plan: &[u16; row_plan::LENGTH]) -> bool
 // Of the row of a process after i others, which is number n of the plan: condition and mark, for each sum value, and, where it is enabled,
 // its data and next values. What is so at the state is found once for all rows (crate divisors).
 fn row(
-    lines: &Lines,
+    lines: Lent,
     shape: Shape,
     process: Process,
     plan: &[u16; row_plan::LENGTH],
@@ -33,28 +33,21 @@ fn row(
 ) -> bool
     requires n_bound { n < 64 }
     requires so_value { so ≡ so_at v.now }
-    ensures { result ≡ row_by lines.now.fields lines.now.starts shape process plan.now n (i + 1) v.now }
+    ensures { result ≡ row_by lines.entry.fields.now lines.entry.starts.now shape process plan.now n (i + 1) v.now }
 {
     if divisors::safe_where(row_plan::risk(plan, n), so, v) {
         return true;
     }
-    let line = steps::line_of(lines, process, i as u16 + 1);
+    let line = steps::line_of(lines.starts, process, i as u16 + 1);
     let planned = row_plan::planned(plan, n);
-    let place = marks::place_from(lines, shape, planned.mark.at);
-    let span = layout::field_of(&lines.fields, line, 2);
-    defined::row(
-        &lines.fields,
-        line,
-        process.parameters.count,
-        place,
-        span,
-        v,
-    )
+    let place = marks::place_from(lines.starts, shape, planned.mark.at);
+    let span = layout::field_of(lines.fields, line, 2);
+    defined::row(lines.fields, line, process.parameters.count, place, span, v)
 }
 
 // Of all rows of a process, whose first is number `from` of the plan.
 fn rows(
-    lines: &Lines,
+    lines: Lent,
     shape: Shape,
     process: Process,
     plan: &[u16; row_plan::LENGTH],
@@ -64,7 +57,7 @@ fn rows(
 ) -> bool
     requires count_bound { from + process.rows.count ≤ 64 }
     requires so_value { so ≡ so_at v.now }
-    ensures { result ≡ rows_by lines.now.fields lines.now.starts shape process plan.now from v.now }
+    ensures { result ≡ rows_by lines.entry.fields.now lines.entry.starts.now shape process plan.now from v.now }
 {
     for i in 0..process.rows.count {
         if !row(lines, shape, process, plan, from + i as usize, i, so, v) {
@@ -75,8 +68,8 @@ fn rows(
 }
 
 // Of the mapping, which may be known to be safe.
-fn mapping(lines: &Lines, shape: Shape, safe: bool, v: &limits::Values) -> bool
-    ensures { result ≡ mapping_by lines.now.fields lines.now.starts shape safe v.now }
+fn mapping(lines: Lent, shape: Shape, safe: bool, v: &limits::Values) -> bool
+    ensures { result ≡ mapping_by lines.entry.fields.now lines.entry.starts.now shape safe v.now }
 {
     if safe {
         return true;
@@ -85,8 +78,8 @@ fn mapping(lines: &Lines, shape: Shape, safe: bool, v: &limits::Values) -> bool
 }
 
 // Of the invariant.
-fn invariant(lines: &Lines, shape: Shape, safe: bool, v: &limits::Values) -> bool
-    ensures { result ≡ invariant_by lines.now.fields lines.now.starts shape safe v.now }
+fn invariant(lines: Lent, shape: Shape, safe: bool, v: &limits::Values) -> bool
+    ensures { result ≡ invariant_by lines.entry.fields.now lines.entry.starts.now shape safe v.now }
 {
     if safe {
         return true;
@@ -96,14 +89,14 @@ fn invariant(lines: &Lines, shape: Shape, safe: bool, v: &limits::Values) -> boo
 
 // Of all but invariant and measure, where the invariant holds: the mapping, the rows, and those of the specification at the mapped state.
 fn others(
-    lines: &Lines,
+    lines: Lent,
     shape: Shape,
     plan: &[u16; row_plan::LENGTH],
     safe: bool,
     v: &limits::Values,
 ) -> bool
     requires { Fits shape }
-    ensures { result ≡ others_by lines.now.fields lines.now.starts shape plan.now safe v.now }
+    ensures { result ≡ others_by lines.entry.fields.now lines.entry.starts.now shape plan.now safe v.now }
 {
     if !mapping(lines, shape, safe, v) {
         return false;
@@ -126,14 +119,9 @@ fn others(
 }
 
 // Whether criterion 10 holds, the measure apart.
-pub fn apart(
-    lines: &Lines,
-    shape: Shape,
-    plan: &[u16; row_plan::LENGTH],
-    v: &limits::Values,
-) -> bool
+pub fn apart(lines: Lent, shape: Shape, plan: &[u16; row_plan::LENGTH], v: &limits::Values) -> bool
     requires { Fits shape }
-    ensures { result ≡ apart_as_read lines.now.fields lines.now.starts shape plan.now v.now }
+    ensures { result ≡ apart_as_read lines.entry.fields.now lines.entry.starts.now shape plan.now v.now }
 {
     if sure(plan) {
         return true;
@@ -149,9 +137,9 @@ pub fn apart(
 }
 
 // Whether criterion 10 holds, where it is asked.
-fn asked(lines: &Lines, shape: Shape, plan: &[u16; row_plan::LENGTH], v: &limits::Values) -> bool
+fn asked(lines: Lent, shape: Shape, plan: &[u16; row_plan::LENGTH], v: &limits::Values) -> bool
     requires { Fits shape }
-    ensures { result ≡ asked_by lines.now.fields lines.now.starts shape plan.now v.now }
+    ensures { result ≡ asked_by lines.entry.fields.now lines.entry.starts.now shape plan.now v.now }
 {
     if !apart(lines, shape, plan, v) {
         return false;
@@ -166,14 +154,9 @@ fn asked(lines: &Lines, shape: Shape, plan: &[u16; row_plan::LENGTH], v: &limits
 }
 
 // Whether criterion 10 holds. It is small enough for the compiler to put it into the walk, so that a table that is sure pays no call.
-pub fn holds(
-    lines: &Lines,
-    shape: Shape,
-    plan: &[u16; row_plan::LENGTH],
-    v: &limits::Values,
-) -> bool
+pub fn holds(lines: Lent, shape: Shape, plan: &[u16; row_plan::LENGTH], v: &limits::Values) -> bool
     requires { Fits shape }
-    ensures { result ≡ tenth_by lines.now.fields lines.now.starts shape plan.now v.now }
+    ensures { result ≡ tenth_by lines.entry.fields.now lines.entry.starts.now shape plan.now v.now }
 {
     if sure(plan) {
         return true;

@@ -5,7 +5,7 @@
 #![tactic(auto)]
 
 use design::Counts;
-use layout::Lines;
+use layout::{Lent, Lines};
 use std::env::{Env, FillError};
 use std::fs::{File, Files};
 use std::io;
@@ -22,14 +22,8 @@ const MODULUS: u32 = 65521;
 
 const FACTOR: u32 = 31;
 
-// What is told of a text that is turned down.
-const NOTHING: Counts = Counts {
-    kind1: 0,
-    kind2: 0,
-    kind3: 0,
-    kind4: 0,
-    kind8: 0,
-};
+// What stands in the arrays before they are told what they hold.
+const BEFORE: u16 = 9;
 
 fn main(rt: HostRuntime) -> io::Result<()> {
     for i in 1..usize::MAX {
@@ -69,11 +63,21 @@ fn write_case<P: Print>(rt: &P, name: &str, text: &[u8]) -> io::Result<()> {
     print!(rt; "{name}")?;
     match loader::load(text) {
         Ok(loaded) => write_loaded(rt, 0, loaded.lines, loaded.counts),
-        Err(fault) => write_loaded(rt, fault.number(), Lines::none(), NOTHING),
+        Err(_) => write_held(rt, text),
     }
 }
 
-fn write_loaded<P: Print>(rt: &P, fault: u16, lines: Lines, counts: Counts) -> io::Result<()> {
+// Of a text that is turned down, what C is told.
+fn write_held<P: Print>(rt: &P, text: &[u8]) -> io::Result<()> {
+    let mut fields = [BEFORE; limits::MAX_FIELDS];
+    let mut starts = [BEFORE; limits::STARTS];
+    let mut counts = [usize::from(BEFORE); 5];
+    let fault = looking::hold_design(text, &mut fields, &mut starts, &mut counts);
+    let lines = Lines { fields, starts };
+    write_loaded(rt, fault, lines, desk_numbers::counts_in(counts))
+}
+
+fn write_loaded<P: Print>(rt: &P, fault: u32, lines: Lines, counts: Counts) -> io::Result<()> {
     print!(rt; ": fault {fault}, lines ")?;
     print!(rt;
         "{} {} {} {}",
@@ -95,8 +99,12 @@ fn mixed(number: u32, n: u16) -> u32 {
 }
 
 fn write_lines<P: Print>(rt: &P, lines: &Lines) -> io::Result<()> {
+    let lent = Lent {
+        fields: &lines.fields,
+        starts: &lines.starts,
+    };
     for i in 0..limits::MAX_LINES {
-        write_line(rt, &lines.fields, lines.line(i), lines.line(i + 1))?;
+        write_line(rt, &lines.fields, lent.line(i), lent.line(i + 1))?;
     }
     Ok(())
 }

@@ -11,16 +11,17 @@ ghost use Rattle.writer.specs.Put.{put, put_length};
 ghost use Rattle.design.specs.Loaded.{held_lines};
 ghost use Rattle.text_writer.specs.Length.{line_text, between, line_bytes, bytes_in};
 
-use layout::Lines;
+use layout::Lent;
 
 const LINE_END: u8 = 10;
 
 // The text of the first n lines; its length, which is 0 for no lines, or 0 where the buffer is too short for it.
-pub fn put_text(buffer: &mut [u8], lines: &Lines, n: u16) -> usize
-    ensures value { result ≡ put_length buffer.old 0 (text_of (held_lines lines.now.fields lines.now.starts n)) }
-    ensures buffer_after { buffer.new ≡ put buffer.old 0 (text_of (held_lines lines.now.fields lines.now.starts n)) }
+pub fn put_text(buffer: &mut [u8], lines: Lent, n: u16) -> usize
+    ensures value { result ≡ put_length buffer.old 0 (text_of (held_lines lines.entry.fields.now lines.entry.starts.now n)) }
+    ensures buffer_after { buffer.new ≡ put buffer.old 0 (text_of (held_lines lines.entry.fields.now lines.entry.starts.now n)) }
 {
-    let _all: &[u16] = &lines.fields; // for the proof: as a slice it has its length
+    let fields = lines.fields;
+    let _all: &[u16] = fields; // for the proof: as a slice it has its length
     let bytes = text_bytes(lines, n);
     if buffer.len() < bytes {
         return 0;
@@ -30,8 +31,8 @@ pub fn put_text(buffer: &mut [u8], lines: &Lines, n: u16) -> usize
 }
 
 // How many bytes that text has.
-fn text_bytes(lines: &Lines, n: u16) -> usize
-    ensures { result ≡ bytes_in lines.now.starts n }
+fn text_bytes(lines: Lent, n: u16) -> usize
+    ensures { result ≡ bytes_in lines.entry.starts.now n }
 {
     let mut bytes = 0;
     for i in 0..n {
@@ -56,16 +57,17 @@ fn fields_between(from: u16, to: u16) -> u16
 }
 
 // The lines one after the other, where there is room for them.
-fn put_lines(buffer: &mut [u8], lines: &Lines, n: u16)
-    requires { bytes_in lines.now.starts n ≤ length buffer.old }
-    ensures { buffer.new ≡ sets buffer.old 0 (text_of (held_lines lines.now.fields lines.now.starts n)) }
+fn put_lines(buffer: &mut [u8], lines: Lent, n: u16)
+    requires { bytes_in lines.starts.now n ≤ length buffer.old }
+    ensures { buffer.new ≡ sets buffer.old 0 (text_of (held_lines lines.entry.fields.now lines.entry.starts.now n)) }
 {
+    let fields = lines.fields;
     let mut at = 0;
     for i in 0..n {
         let line = i as usize;
         let from = lines.line(line);
         let to = lines.line(line + 1);
-        put_line(buffer, at, &lines.fields, from, to);
+        put_line(buffer, at, fields, from, to);
         at += line_bytes(from, to);
     }
 }

@@ -9,7 +9,7 @@ ghost use Rattle.told_terms.specs.Terms.{formula_told};
 ghost use Rattle.told_rows.specs.Rows.{told_row, line_told, mark_for, side_of, RowThere};
 
 use design::{Process, Shape};
-use layout::Lines;
+use layout::Lent;
 use told_terms::Places;
 
 // Condition, mark and data, and then the next values.
@@ -17,14 +17,14 @@ pub type RowPlaces = [u32; 3 + limits::MAX_PARAMETERS];
 
 // Row k of a side, 0 the implementation; nothing but zeros if there is none.
 pub fn row(
-    lines: &Lines,
+    lines: Lent,
     shape: Shape,
     side: u32,
     k: u16,
     values: &limits::Values,
     sum: u16,
 ) -> RowPlaces
-    ensures { result ≡ told_row (design_at lines.now.fields lines.now.starts shape) side k values.now sum }
+    ensures { result ≡ told_row (design_at lines.entry.fields.now lines.entry.starts.now shape) side k values.now sum }
 {
     let process = process_of(shape, side);
     if k == 0 {
@@ -33,10 +33,10 @@ pub fn row(
     if (process.rows.count as u16) < k {
         return [0u32; 3 + limits::MAX_PARAMETERS];
     }
-    let line = steps::line_of(lines, process, k);
+    let line = steps::line_of(lines.starts, process, k);
     let mark = mark_told(lines, shape, side, k, values, sum);
     row_told(
-        &lines.fields,
+        lines.fields,
         line,
         process.parameters.count,
         mark,
@@ -57,29 +57,22 @@ fn process_of(shape: Shape, side: u32) -> Process
 }
 
 // The mark of row k, which the process has.
-fn mark_told(
-    lines: &Lines,
-    shape: Shape,
-    side: u32,
-    k: u16,
-    values: &limits::Values,
-    sum: u16,
-) -> u32
+fn mark_told(lines: Lent, shape: Shape, side: u32, k: u16, values: &limits::Values, sum: u16) -> u32
     requires { RowThere shape side k }
-    ensures { result ≡ formula_told (mark_for (design_at lines.now.fields lines.now.starts shape) side k) values.now sum }
+    ensures { result ≡ formula_told (mark_for (design_at lines.entry.fields.now lines.entry.starts.now shape) side k) values.now sum }
 {
     if side != 0 {
         return told_terms::HOLDS;
     }
-    let line = steps::line_of(lines, shape.implementation, k);
-    if layout::field_of(&lines.fields, line, 1) != 0 {
+    let line = steps::line_of(lines.starts, shape.implementation, k);
+    if layout::field_of(lines.fields, line, 1) != 0 {
         return told_terms::HOLDS;
     }
     if shape.marks.count == 0 {
         return told_terms::HOLDS;
     }
     let place = marks::place(lines, shape, k);
-    told_terms::formula(&lines.fields, place, values, sum)
+    told_terms::formula(lines.fields, place, values, sum)
 }
 
 // What is told of the row in the line that starts at a place, of a process with n parameters, beside its mark.

@@ -14,7 +14,8 @@ use Rattle.terms.specs.Read.{read_v, read_f}
 use Rattle.terms.proofs.Meaning.{meant_v_lem, meant_f_lem}
 use Rattle.terms.proofs.Read.{place}
 use Rattle.has_value.specs.Answer.{value_of, truth_of as truth_of_term, answer_v, answer_f}
-use Rattle.std.specs.Prelude.{Some, None, unwrap_or, option_map}
+use Rattle.std.specs.Prelude.{Ok, Err, unwrap_or, option_map}
+use Rattle.std.specs.Result.{result_ok}
 use Rattle.has_value.specs.declared.Valued.{Valued}
 use Rattle.has_value.specs.declared.Held.{Held}
 use Rattle.design.specs.Line.{values_in}
@@ -26,19 +27,19 @@ use Rattle.told_terms.specs.Terms.{number_told, truth_told, number_of, truth_of,
 
 -- ---- terms: what is meant is what the evaluator answers
 
-number_given : (h : Bool) (n : ℕ) → unwrap_or (cond h (Some n) None) 65536 ≡ number_told (cond h (some n) none)
+number_given : (h : Bool) (n : ℕ) → unwrap_or (result_ok (cond h (Ok n) (Err n))) 65536 ≡ number_told (cond h (some n) none)
 number_given true n = refl
 number_given false n = refl
 
-truth_given : (h b : Bool) → unwrap_or (option_map (λ x. cond x 1 0) (cond h (Some b) None)) 2 ≡ truth_told (cond h (some b) none)
+truth_given : (h b : Bool) → unwrap_or (option_map (λ x. cond x 1 0) (result_ok (cond h (Ok b) (Err b)))) 2 ≡ truth_told (cond h (some b) none)
 truth_given true b = refl
 truth_given false b = refl
 
-pub value_is : (t : Value) (v : List ℕ) (e : ℕ) → unwrap_or (value_of t v e) 65536 ≡ value_told t v e
+pub value_is : (t : Value) (v : List ℕ) (e : ℕ) → unwrap_or (result_ok (value_of t v e)) 65536 ≡ value_told t v e
 unfolding value_told
 value_is t v e = number_given (has_v t v e) (eval_v t v e) ∙ sym (ap number_told (meant_v_lem t v e))
 
-pub formula_is : (f : Formula) (v : List ℕ) (e : ℕ) → unwrap_or (option_map (λ x. cond x 1 0) (truth_of_term f v e)) 2 ≡ formula_told f v e
+pub formula_is : (f : Formula) (v : List ℕ) (e : ℕ) → unwrap_or (option_map (λ x. cond x 1 0) (result_ok (truth_of_term f v e))) 2 ≡ formula_told f v e
 unfolding formula_told
 formula_is f v e = truth_given (has_f f v e) (eval_f f v e) ∙ sym (ap truth_told (meant_f_lem f v e))
 

@@ -1,5 +1,6 @@
 -- What C is told of a term: numbers and truth values are those of terms/specs/Meaning, at the values of a state and for a sum value.
 use Rattle.std.specs.Prelude.{ℕ, Bool, cond, List, map, unwrap_or, option_map}
+use Rattle.std.specs.Result.{result_ok}
 use Rattle.std.proofs.Math.Option.{Option, some, none}
 use Rattle.terms.specs.Tree.{Value, Formula}
 use Rattle.terms.specs.Meaning.{meant_v, meant_f}
@@ -31,7 +32,7 @@ values_told ts s e = padded (map (λ (t : Value). value_told t s e) ts)
 -- ---- as the evaluator answers
 
 abbrev pub number_of : Valued → ℕ
-number_of x = unwrap_or x.value 65536
+number_of x = unwrap_or (result_ok x.value) 65536
 
 abbrev pub truth_of : Held → ℕ
-truth_of x = unwrap_or (option_map (λ h. cond h 1 0) x.holds) 2
+truth_of x = unwrap_or (option_map (λ h. cond h 1 0) (result_ok x.holds)) 2

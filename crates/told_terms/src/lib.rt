@@ -41,8 +41,8 @@ pub fn number(x: Valued) -> u32
     ensures { result ≡ number_of x }
 {
     match x.value {
-        Some(n) => n as u32,
-        None => NO_VALUE,
+        Ok(n) => n as u32,
+        Err(_) => NO_VALUE,
     }
 }
 
@@ -50,9 +50,9 @@ pub fn truth(x: Held) -> u32
     ensures { result ≡ truth_of x }
 {
     match x.holds {
-        Some(true) => HOLDS,
-        Some(false) => FAILS,
-        None => NO_TRUTH,
+        Ok(true) => HOLDS,
+        Ok(false) => FAILS,
+        Err(_) => NO_TRUTH,
     }
 }
 

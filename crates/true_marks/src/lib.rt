@@ -7,7 +7,7 @@ ghost use Rattle.limits.specs.Limits.{max_fields};
 ghost use Rattle.true_marks.specs.Tens.{tens_from, tens_in};
 
 use design::Shape;
-use layout::Lines;
+use layout::Lent;
 
 // The kind of the line of marks, and the mark of a formula that is true.
 const MARKS: u16 = 8;
@@ -32,8 +32,8 @@ fn put_true(fields: &mut limits::Fields, at: usize, n: u16)
 }
 
 // Whether each formula of the line of marks is `10`, by its fields; true where there is no such line.
-pub fn all(lines: &Lines, shape: Shape) -> bool
-    ensures { result ≡ tens_in lines.now.fields lines.now.starts shape }
+pub fn all(lines: Lent, shape: Shape) -> bool
+    ensures { result ≡ tens_in lines.entry.fields.now lines.entry.starts.now shape }
 {
     if shape.marks.count == 0 {
         return true;
@@ -41,7 +41,7 @@ pub fn all(lines: &Lines, shape: Shape) -> bool
     let line = shape.marks.first as usize;
     let from = lines.line(line);
     let to = lines.line(line + 1);
-    all_true(&lines.fields, from as usize + 1, to as usize)
+    all_true(lines.fields, from as usize + 1, to as usize)
 }
 
 // Whether each field from one place to another is `10`.

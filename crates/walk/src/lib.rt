@@ -14,28 +14,22 @@ ghost use Rattle.plan.specs.Plan.{plan_in};
 ghost use Rattle.walk.specs.Turns.{Planned, Ready, Knows, TurnIs};
 
 use design::{Counts, Shape};
-use layout::Lines;
+use layout::Lent;
 use verdicts::{Failure, Outcome, Place, Walked};
 
 // How many numbers a plan has.
 pub const PLAN_LENGTH: usize = plan::LENGTH;
 
 // The plan for a walk: what does not change from state to state.
-pub fn plan(lines: &Lines, counts: Counts) -> [u16; PLAN_LENGTH]
-    ensures { result ≡ plan_of lines.now.fields lines.now.starts counts }
+pub fn plan(lines: Lent, counts: Counts) -> [u16; PLAN_LENGTH]
+    ensures { result ≡ plan_of lines.entry.fields.now lines.entry.starts.now counts }
 {
     plan::plan(lines, layout::shape_of(counts))
 }
 
 // The walk by a plan over n states from number `from` on, where there are so many; else no state is walked.
-pub fn walk(
-    lines: &Lines,
-    counts: Counts,
-    plan: &[u16; PLAN_LENGTH],
-    from: usize,
-    n: usize,
-) -> Walked
-    ensures { result ≡ walked_under lines.now.fields lines.now.starts counts plan.now n from }
+pub fn walk(lines: Lent, counts: Counts, plan: &[u16; PLAN_LENGTH], from: usize, n: usize) -> Walked
+    ensures { result ≡ walked_under lines.entry.fields.now lines.entry.starts.now counts plan.now n from }
 {
     let most = walkable(lines, counts);
     if most < from {
@@ -59,8 +53,8 @@ pub fn walk(
 }
 
 // The whole check: criterion 1, then all states.
-pub fn check(lines: &Lines, counts: Counts) -> Outcome
-    ensures { result ≡ checked_in lines.now.fields lines.now.starts counts }
+pub fn check(lines: Lent, counts: Counts) -> Outcome
+    ensures { result ≡ checked_in lines.entry.fields.now lines.entry.starts.now counts }
 {
     if !start::holds(lines, counts) {
         return Outcome::Fail(start::failure(lines, counts));
@@ -75,18 +69,12 @@ pub fn check(lines: &Lines, counts: Counts) -> Outcome
 const LONG: usize = 256;
 
 // A long walk by the plan of the arrays, by turns if nothing could lack a value.
-fn long_walk(
-    lines: &Lines,
-    shape: Shape,
-    plan: &[u16; PLAN_LENGTH],
-    from: usize,
-    n: usize,
-) -> Walked
+fn long_walk(lines: Lent, shape: Shape, plan: &[u16; PLAN_LENGTH], from: usize, n: usize) -> Walked
     requires fits { Fits shape }
-    requires plan_value { plan.now ≡ plan_in lines.now.fields lines.now.starts shape }
-    requires shape_bound { states (design_at lines.now.fields lines.now.starts shape) ≤ 65536 }
-    requires n_bound { from + n ≤ states (design_at lines.now.fields lines.now.starts shape) }
-    ensures { told_walked result ≡ walk_on lines.now.fields lines.now.starts shape plan.now n from }
+    requires plan_value { plan.now ≡ plan_in lines.fields.now lines.starts.now shape }
+    requires shape_bound { states (design_at lines.fields.now lines.starts.now shape) ≤ 65536 }
+    requires n_bound { from + n ≤ states (design_at lines.fields.now lines.starts.now shape) }
+    ensures { told_walked result ≡ walk_on lines.entry.fields.now lines.entry.starts.now shape plan.now n from }
 {
     if row_plan::unsure(plan) != 0 {
         return walk_on(lines, shape, plan, from, n);
@@ -95,8 +83,8 @@ fn long_walk(
 }
 
 // How many states may be walked.
-fn walkable(lines: &Lines, counts: Counts) -> usize
-    ensures { result ≡ min (state_count_in lines.now.fields lines.now.starts counts) 65536 }
+fn walkable(lines: Lent, counts: Counts) -> usize
+    ensures { result ≡ min (state_count_in lines.entry.fields.now lines.entry.starts.now counts) 65536 }
 {
     lines.state_count(counts).min(limits::MAX_STATES)
 }
@@ -112,10 +100,10 @@ fn no_walk() -> Walked
 }
 
 // The states from number `from` on, n of them, up to the first that fails.
-fn walk_on(lines: &Lines, shape: Shape, plan: &[u16; PLAN_LENGTH], from: usize, n: usize) -> Walked
+fn walk_on(lines: Lent, shape: Shape, plan: &[u16; PLAN_LENGTH], from: usize, n: usize) -> Walked
     requires fits { Fits shape }
     requires n_bound { from + n ≤ 65536 }
-    ensures { told_walked result ≡ walk_on lines.now.fields lines.now.starts shape plan.now n from }
+    ensures { told_walked result ≡ walk_on lines.entry.fields.now lines.entry.starts.now shape plan.now n from }
 {
     for i in 0..n {
         let o = examine(lines, shape, plan, (from + i) as u16);
@@ -147,7 +135,7 @@ pub struct Turn {
 // to be sought. Inside, if what is known is to be kept, a state that passes by it needs no examination; every other is examined, and nothing
 // is known after it.
 fn take_turn(
-    lines: &Lines,
+    lines: Lent,
     shape: Shape,
     plan: &[u16; PLAN_LENGTH],
     sets: &[u16; recall::SETS],
@@ -158,11 +146,11 @@ fn take_turn(
     t: &mut limits::Values,
     watch: &mut [u16; recall::WATCH],
 ) -> Turn
-    requires ready { Ready lines.now.fields lines.now.starts shape plan.now sets.now }
-    requires number_bound { number < states (design_at lines.now.fields lines.now.starts shape) }
-    requires knows { Knows lines.now.fields lines.now.starts shape watch.old t.old last.old }
-    ensures turn_is { TurnIs lines.now.fields lines.now.starts shape plan.now number result }
-    ensures knows_2 { Knows lines.now.fields lines.now.starts shape watch.new t.new last.new }
+    requires ready { Ready lines.fields.now lines.starts.now shape plan.now sets.now }
+    requires number_bound { number < states (design_at lines.fields.now lines.starts.now shape) }
+    requires knows { Knows lines.fields.now lines.starts.now shape watch.old t.old last.old }
+    ensures turn_is { TurnIs lines.entry.fields.now lines.entry.starts.now shape plan.now number result }
+    ensures knows_2 { Knows lines.entry.fields.now lines.entry.starts.now shape watch.new t.new last.new }
 {
     let mut v = [0u16; limits::MAX_PARAMETERS];
     steps::put_state(lines, shape.implementation, number, &mut v);
@@ -212,16 +200,16 @@ const PAUSE: usize = 64;
 
 // The states from number `from` on, n of them, up to the first that fails, by turns.
 fn walk_by_turns(
-    lines: &Lines,
+    lines: Lent,
     shape: Shape,
     plan: &[u16; PLAN_LENGTH],
     from: usize,
     n: usize,
 ) -> Walked
     requires fits { Fits shape }
-    requires planned { Planned lines.now.fields lines.now.starts shape plan.now }
-    requires n_bound { from + n ≤ states (design_at lines.now.fields lines.now.starts shape) }
-    ensures { told_walked result ≡ walk_on lines.now.fields lines.now.starts shape plan.now n from }
+    requires planned { Planned lines.fields.now lines.starts.now shape plan.now }
+    requires n_bound { from + n ≤ states (design_at lines.fields.now lines.starts.now shape) }
+    ensures { told_walked result ≡ walk_on lines.entry.fields.now lines.entry.starts.now shape plan.now n from }
 {
     let sets = recall::sets(lines, shape);
     let keep = recall::pays(&sets, shape.implementation);
@@ -265,9 +253,9 @@ fn walk_by_turns(
 
 // One state examined: no failure, or its lowest: criterion 10 first, and of the rest only a state that `state_passes` doesn't let pass is
 // searched. Outside the invariant nothing more is tried.
-fn examine(lines: &Lines, shape: Shape, plan: &[u16; PLAN_LENGTH], number: u16) -> Outcome
+fn examine(lines: Lent, shape: Shape, plan: &[u16; PLAN_LENGTH], number: u16) -> Outcome
     requires { Fits shape }
-    ensures { told result ≡ examine_in lines.now.fields lines.now.starts shape plan.now number }
+    ensures { told result ≡ examine_in lines.entry.fields.now lines.entry.starts.now shape plan.now number }
 {
     let mut v = [0u16; limits::MAX_PARAMETERS];
     steps::put_state(lines, shape.implementation, number, &mut v);
@@ -282,14 +270,14 @@ fn examine(lines: &Lines, shape: Shape, plan: &[u16; PLAN_LENGTH], number: u16) 
 
 // The same of a state v of the invariant where all have values.
 fn examine_inside(
-    lines: &Lines,
+    lines: Lent,
     shape: Shape,
     plan: &[u16; PLAN_LENGTH],
     number: u16,
     v: &limits::Values,
 ) -> Outcome
     requires { Fits shape }
-    ensures { told result ≡ inside_at lines.now.fields lines.now.starts shape plan.now number v.now }
+    ensures { told result ≡ inside_at lines.entry.fields.now lines.entry.starts.now shape plan.now number v.now }
 {
     let mut t = [0u16; limits::MAX_PARAMETERS];
     steps::put_mapped(lines, shape, v, &mut t);

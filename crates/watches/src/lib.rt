@@ -17,7 +17,7 @@ ghost use Rattle.watched.specs.Watched.{all_of, meeting, after_f, map_reads, thr
 ghost use Rattle.watches.specs.Watches.{no_parts, PartsOf, changed_of, after_seen};
 
 use design::{Process, Shape};
-use layout::Lines;
+use layout::Lent;
 use reads::Seen;
 
 // The mark of a conjunction.
@@ -59,8 +59,8 @@ fn meeting(changed: u16, set: u16) -> u16
 // ---- a step
 
 // Row k of a process; where there is none it reads nothing, and has no next values.
-fn row(lines: &Lines, process: Process, k: u16) -> Parts
-    ensures { PartsOf lines.now.fields process.parameters.count (row_at (process_in lines.now.fields lines.now.starts process).rows k) result }
+fn row(lines: Lent, process: Process, k: u16) -> Parts
+    ensures { PartsOf lines.entry.fields.now process.parameters.count (row_at (process_in lines.entry.fields.now lines.entry.starts.now process).rows k) result }
 {
     if k == 0 {
         return no_row();
@@ -68,11 +68,11 @@ fn row(lines: &Lines, process: Process, k: u16) -> Parts
     if (process.rows.count as u16) < k {
         return no_row();
     }
-    let line = steps::line_of(lines, process, k);
-    let condition = reads::formula_reads(&lines.fields, line as usize + 3, limits::MAX_DEPTH);
-    let data = reads::value_reads(&lines.fields, condition.next, limits::MAX_DEPTH);
+    let line = steps::line_of(lines.starts, process, k);
+    let condition = reads::formula_reads(lines.fields, line as usize + 3, limits::MAX_DEPTH);
+    let data = reads::value_reads(lines.fields, condition.next, limits::MAX_DEPTH);
     Parts {
-        action: layout::field_of(&lines.fields, line, 1),
+        action: layout::field_of(lines.fields, line, 1),
         condition: condition.reads,
         carries: data.reads,
         next: data.next,
@@ -157,12 +157,12 @@ fn values_reads(fields: &limits::Fields, at: usize, n: u8) -> limits::Values
 }
 
 // What each mapped value reads.
-pub fn mapping_reads(lines: &Lines, shape: Shape) -> limits::Values
-    ensures { result ≡ padded (map_reads (design_at lines.now.fields lines.now.starts shape)) }
+pub fn mapping_reads(lines: Lent, shape: Shape) -> limits::Values
+    ensures { result ≡ padded (map_reads (design_at lines.entry.fields.now lines.entry.starts.now shape)) }
 {
     let line = lines.line(shape.mapping as usize);
     values_reads(
-        &lines.fields,
+        lines.fields,
         line as usize + 1,
         shape.specification.parameters.count,
     )
@@ -180,10 +180,10 @@ fn all_of(mapping: &limits::Values, n: u8) -> u16
 }
 
 // What the mapping reads.
-pub fn mapping_watched(lines: &Lines, shape: Shape, mapping: &limits::Values) -> u16
+pub fn mapping_watched(lines: Lent, shape: Shape, mapping: &limits::Values) -> u16
     requires fits { Fits shape }
-    requires mapping_value { mapping.now ≡ padded (map_reads (design_at lines.now.fields lines.now.starts shape)) }
-    ensures { result ≡ all_of (map_reads (design_at lines.now.fields lines.now.starts shape)) }
+    requires mapping_value { mapping.now ≡ padded (map_reads (design_at lines.fields.now lines.starts.now shape)) }
+    ensures { result ≡ all_of (map_reads (design_at lines.entry.fields.now lines.entry.starts.now shape)) }
 {
     all_of(mapping, shape.specification.parameters.count)
 }
@@ -256,56 +256,56 @@ fn follows(
 // ---- the rows of the implementation
 
 // What decides whether row k is enabled.
-pub fn enabling(lines: &Lines, shape: Shape, k: u16) -> u16
-    ensures { result ≡ enabling (design_at lines.now.fields lines.now.starts shape) k }
+pub fn enabling(lines: Lent, shape: Shape, k: u16) -> u16
+    ensures { result ≡ enabling (design_at lines.entry.fields.now lines.entry.starts.now shape) k }
 {
     let x = row(lines, shape.implementation, k);
     x.condition
 }
 
 // What decides whether the invariant, which held before the step, holds after it.
-fn invariant_after(lines: &Lines, shape: Shape, changed: u16) -> u16
-    ensures { result ≡ after_f changed (design_at lines.now.fields lines.now.starts shape).invariant }
+fn invariant_after(lines: Lent, shape: Shape, changed: u16) -> u16
+    ensures { result ≡ after_f changed (design_at lines.entry.fields.now lines.entry.starts.now shape).invariant }
 {
     let line = lines.line(shape.invariant as usize);
-    let x = after(&lines.fields, line as usize + 1, limits::MAX_DEPTH, changed);
+    let x = after(lines.fields, line as usize + 1, limits::MAX_DEPTH, changed);
     x.reads
 }
 
 // What the mark of the internal row k reads; without a line of marks each step is marked.
-fn mark_reads(lines: &Lines, shape: Shape, k: u16) -> u16
+fn mark_reads(lines: Lent, shape: Shape, k: u16) -> u16
     requires k_nonzero { 0 < k }
     requires k_le_count { k ≤ shape.implementation.rows.count }
-    requires k_value { (row_at (process_in lines.now.fields lines.now.starts shape.implementation).rows k).action ≡ 0 }
-    ensures { result ≡ reads_f (mark_of (design_at lines.now.fields lines.now.starts shape) k) }
+    requires k_value { (row_at (process_in lines.fields.now lines.starts.now shape.implementation).rows k).action ≡ 0 }
+    ensures { result ≡ reads_f (mark_of (design_at lines.entry.fields.now lines.entry.starts.now shape) k) }
 {
     if shape.marks.count == 0 {
         return 0;
     }
     let place = marks::place(lines, shape, k);
-    let mark = reads::formula_reads(&lines.fields, place, limits::MAX_DEPTH);
+    let mark = reads::formula_reads(lines.fields, place, limits::MAX_DEPTH);
     mark.reads
 }
 
 // Criteria 4 and 5 of the internal row k.
-fn internal(lines: &Lines, shape: Shape, mapping: &limits::Values, k: u16, changed: u16) -> u16
+fn internal(lines: Lent, shape: Shape, mapping: &limits::Values, k: u16, changed: u16) -> u16
     requires fits { Fits shape }
-    requires mapping_value { mapping.now ≡ padded (map_reads (design_at lines.now.fields lines.now.starts shape)) }
+    requires mapping_value { mapping.now ≡ padded (map_reads (design_at lines.fields.now lines.starts.now shape)) }
     requires k_nonzero { 0 < k }
     requires k_le_count { k ≤ shape.implementation.rows.count }
-    requires k_value { (row_at (process_in lines.now.fields lines.now.starts shape.implementation).rows k).action ≡ 0 }
-    ensures { result ≡ internal_watched (design_at lines.now.fields lines.now.starts shape) k changed }
+    requires k_value { (row_at (process_in lines.fields.now lines.starts.now shape.implementation).rows k).action ≡ 0 }
+    ensures { result ≡ internal_watched (design_at lines.entry.fields.now lines.entry.starts.now shape) k changed }
 {
     let mark = mark_reads(lines, shape, k);
     let same = stays(mapping, shape.specification.parameters.count, changed);
     let line = lines.line(shape.measure as usize);
-    let measure = reads::value_reads(&lines.fields, line as usize + 1, limits::MAX_DEPTH);
+    let measure = reads::value_reads(lines.fields, line as usize + 1, limits::MAX_DEPTH);
     mark | (same | measure.reads)
 }
 
 // Criteria 6, 8 and 9 of the visible row k, with this action and data that read the given set.
 fn visible(
-    lines: &Lines,
+    lines: Lent,
     shape: Shape,
     mapping: &limits::Values,
     k: u16,
@@ -314,28 +314,28 @@ fn visible(
     changed: u16,
 ) -> u16
     requires fits { Fits shape }
-    requires mapping_value { mapping.now ≡ padded (map_reads (design_at lines.now.fields lines.now.starts shape)) }
-    requires carries_value { carries ≡ reads_v (row_at (process_in lines.now.fields lines.now.starts shape.implementation).rows k).carries }
-    ensures { result ≡ visible_watched (design_at lines.now.fields lines.now.starts shape) (row_at (process_in lines.now.fields lines.now.starts shape.implementation).rows k) (partner (process_in lines.now.fields lines.now.starts shape.specification) action) changed }
+    requires mapping_value { mapping.now ≡ padded (map_reads (design_at lines.fields.now lines.starts.now shape)) }
+    requires carries_value { carries ≡ reads_v (row_at (process_in lines.fields.now lines.starts.now shape.implementation).rows k).carries }
+    ensures { result ≡ visible_watched (design_at lines.entry.fields.now lines.entry.starts.now shape) (row_at (process_in lines.entry.fields.now lines.entry.starts.now shape.implementation).rows k) (partner (process_in lines.entry.fields.now lines.entry.starts.now shape.specification) action) changed }
 {
     let n = shape.specification.parameters.count;
     let reply = steps::row_with(lines, shape.specification, action);
     let q = row(lines, shape.specification, reply);
     let answer = through(mapping, n, q.condition | q.carries);
-    let next = follows(&lines.fields, q.next, q.count, mapping, n, changed);
+    let next = follows(lines.fields, q.next, q.count, mapping, n, changed);
     carries | (answer | next)
 }
 
 // What decides whether row k keeps all its criteria.
-pub fn watched(lines: &Lines, shape: Shape, mapping: &limits::Values, k: u16) -> u16
+pub fn watched(lines: Lent, shape: Shape, mapping: &limits::Values, k: u16) -> u16
     requires fits { Fits shape }
-    requires mapping_value { mapping.now ≡ padded (map_reads (design_at lines.now.fields lines.now.starts shape)) }
+    requires mapping_value { mapping.now ≡ padded (map_reads (design_at lines.fields.now lines.starts.now shape)) }
     requires k_nonzero { 0 < k }
     requires k_le_count { k ≤ shape.implementation.rows.count }
-    ensures { result ≡ watched (design_at lines.now.fields lines.now.starts shape) k }
+    ensures { result ≡ watched (design_at lines.entry.fields.now lines.entry.starts.now shape) k }
 {
     let x = row(lines, shape.implementation, k);
-    let step = changing(&lines.fields, x.next, x.count);
+    let step = changing(lines.fields, x.next, x.count);
     let kept = invariant_after(lines, shape, step.changes);
     if x.action == 0 {
         let rest = internal(lines, shape, mapping, k, step.changes);
@@ -348,10 +348,10 @@ pub fn watched(lines: &Lines, shape: Shape, mapping: &limits::Values, k: u16) ->
 // ---- the rows of the specification
 
 // What decides whether row k, at the mapped state, and its partner are enabled: criterion 7.
-pub fn reply_watched(lines: &Lines, shape: Shape, mapping: &limits::Values, k: u16) -> u16
+pub fn reply_watched(lines: Lent, shape: Shape, mapping: &limits::Values, k: u16) -> u16
     requires fits { Fits shape }
-    requires mapping_value { mapping.now ≡ padded (map_reads (design_at lines.now.fields lines.now.starts shape)) }
-    ensures { result ≡ reply_watched (design_at lines.now.fields lines.now.starts shape) k }
+    requires mapping_value { mapping.now ≡ padded (map_reads (design_at lines.fields.now lines.starts.now shape)) }
+    ensures { result ≡ reply_watched (design_at lines.entry.fields.now lines.entry.starts.now shape) k }
 {
     let q = row(lines, shape.specification, k);
     let asked = through(mapping, shape.specification.parameters.count, q.condition);

@@ -8,4 +8,4 @@ use Rattle.design.specs.Loaded.{process_in}
 use Rattle.blocks.proofs.width.Given as goal
 
 abbrev pub invariant-loop-i : goal.invariant-loop-i
-invariant-loop-i l = (l.n ≤ l.i) × (l.w ≡ product (drop l.i (sizes (process_in l.lines.fields l.lines.starts l.process))))
+invariant-loop-i l = (l.n ≤ l.i) × (l.w ≡ product (drop l.i (sizes (process_in l.lines.fields.now l.lines.starts.now l.process))))

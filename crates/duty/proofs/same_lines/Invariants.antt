@@ -7,4 +7,4 @@ use Rattle.duty.proofs.same_lines.Given as goal
 
 abbrev pub invariant-loop-k : goal.invariant-loop-k
 invariant-loop-k l =
-    (l.k ≤ l.count) × (laws.lines_to_come l.lines.fields l.lines.starts l.i l.due.fields l.due.starts l.j l.count l.k ≡ same_lines_from l.lines.fields l.lines.starts l.i l.due.fields l.due.starts l.j l.count)
+    (l.k ≤ l.count) × (laws.lines_to_come l.lines.fields.now l.lines.starts.now l.i l.due.fields.now l.due.starts.now l.j l.count l.k ≡ same_lines_from l.lines.fields.now l.lines.starts.now l.i l.due.fields.now l.due.starts.now l.j l.count)

@@ -5,7 +5,7 @@ use Rattle.longest_runs.proofs.search.Given as goal
 
 abbrev pub invariant-loop-depth : goal.invariant-loop-depth
 invariant-loop-depth l =
-    laws.Searching (next_in l.lines.fields l.lines.starts l.shape) l.n l.initial.out l.out l.mark l.path l.depth l.root
+    laws.Searching (next_in l.lines.fields.now l.lines.starts.now l.shape) l.n l.initial.out l.out l.mark l.path l.depth l.root
 
 abbrev pub decreases-loop-depth : goal.decreases-loop-depth
 decreases-loop-depth l = laws.work l.n l.mark l.depth l.root

@@ -7,8 +7,8 @@ use Rattle.marks.proofs.internal_rows.Goals as goal
 
 pub returns : goal.returns
 returns c =
-    let f = c.args.lines.now.fields in
-    let s = c.args.lines.now.starts in
+    let f = c.args.lines.fields.now in
+    let s = c.args.lines.starts.now in
     let n = c.args.n in
     count_from_yields_List c.filter-internal.result _ c.count.ensures.ran
     (YieldsList-from_filter _ (laws.internal_at f s c.args.process) (YieldsList-from_range 0 n n (search rules) (omega arith)) c.filter-internal.ensures.closure (λ x b q k. search (rules, tests)))

@@ -4,7 +4,7 @@ use Rattle.measurable.proofs.Measurable as laws
 use Rattle.measurable.proofs.row_stays.Given as goal
 
 abbrev pub invariant-loop-look : goal.invariant-loop-look
-invariant-loop-look l = laws.StaysTo l.lines.fields l.lines.starts l.v l.shape l.i l.row l.sum
+invariant-loop-look l = laws.StaysTo l.lines.fields.now l.lines.starts.now l.v l.shape l.i l.row l.sum
 
 abbrev pub decreases-loop-look : goal.decreases-loop-look
 decreases-loop-look l = l.row.looks - l.sum

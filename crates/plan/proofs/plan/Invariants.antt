@@ -13,4 +13,4 @@ invariant-loop-i l =
     (l.i ≤ 64)
     × ((length l.out ≡ 387)
     × (Blank l.out l.i
-    × ((l.sure && laws.sure_left l.lines.fields l.lines.starts l.shape l.i ≡ laws.sure_left l.lines.fields l.lines.starts l.shape 0) × (laws.plan_left l.lines.fields l.lines.starts l.shape l.out l.i ≡ plan_in l.lines.fields l.lines.starts l.shape))))
+    × ((l.sure && laws.sure_left l.lines.fields.now l.lines.starts.now l.shape l.i ≡ laws.sure_left l.lines.fields.now l.lines.starts.now l.shape 0) × (laws.plan_left l.lines.fields.now l.lines.starts.now l.shape l.out l.i ≡ plan_in l.lines.fields.now l.lines.starts.now l.shape))))

@@ -6,4 +6,4 @@ use Rattle.recall.proofs.put_replies.Given as goal
 
 abbrev pub invariant-loop-i : goal.invariant-loop-i
 invariant-loop-i l =
-    (l.i ≤ l.shape.specification.rows.count) × SetsTo (design_at l.lines.fields l.lines.starts l.shape) l.out l.shape.implementation.rows.count l.i
+    (l.i ≤ l.shape.specification.rows.count) × SetsTo (design_at l.lines.fields.now l.lines.starts.now l.shape) l.out l.shape.implementation.rows.count l.i

@@ -5,4 +5,4 @@ use Rattle.recall.proofs.rows_pass.Given as goal
 
 abbrev pub invariant-loop-i : goal.invariant-loop-i
 invariant-loop-i l =
-    (l.i ≤ l.shape.implementation.rows.count) × RowsTo l.lines.fields l.lines.starts l.shape l.initial.watch l.v l.watch l.i l.quiet
+    (l.i ≤ l.shape.implementation.rows.count) × RowsTo l.lines.fields.now l.lines.starts.now l.shape l.initial.watch l.v l.watch l.i l.quiet

@@ -7,4 +7,4 @@ use Rattle.start.proofs.no_internal.Given as goal
 
 abbrev pub invariant-loop-i : goal.invariant-loop-i
 invariant-loop-i l =
-    laws.rows_left l.lines.fields l.lines.starts l.shape l.v l.i ≡ no_internal_b (design_at l.lines.fields l.lines.starts l.shape) l.v
+    laws.rows_left l.lines.fields.now l.lines.starts.now l.shape l.v l.i ≡ no_internal_b (design_at l.lines.fields.now l.lines.starts.now l.shape) l.v

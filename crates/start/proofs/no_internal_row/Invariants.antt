@@ -7,4 +7,4 @@ use Rattle.start.proofs.no_internal_row.Given as goal
 
 abbrev pub invariant-loop-sum : goal.invariant-loop-sum
 invariant-loop-sum l =
-    laws.sums_left l.lines.fields l.lines.starts l.shape l.v l.k l.span l.sum ≡ no_internal_row (design_at l.lines.fields l.lines.starts l.shape) l.v l.k
+    laws.sums_left l.lines.fields.now l.lines.starts.now l.shape l.v l.k l.span l.sum ≡ no_internal_row (design_at l.lines.fields.now l.lines.starts.now l.shape) l.v l.k

@@ -6,4 +6,4 @@ use Rattle.state_passes.proofs.reply_looks.Given as goal
 
 abbrev pub invariant-loop-sum : goal.invariant-loop-sum
 invariant-loop-sum l =
-    laws.reply_left l.lines.fields l.lines.starts l.v l.t l.implementation l.row l.sum ≡ reply_looks l.lines.fields l.lines.starts l.implementation l.row l.v l.t
+    laws.reply_left l.lines.fields.now l.lines.starts.now l.v l.t l.implementation l.row l.sum ≡ reply_looks l.lines.fields.now l.lines.starts.now l.implementation l.row l.v l.t

@@ -6,4 +6,4 @@ use Rattle.state_passes.proofs.rows_replied_between.Given as goal
 
 abbrev pub invariant-loop-i : goal.invariant-loop-i
 invariant-loop-i l =
-    laws.spec_left l.lines.fields l.lines.starts l.plan l.v l.t l.shape l.first l.end l.i ≡ spec_between l.lines.fields l.lines.starts l.shape l.plan l.first l.end l.v l.t
+    laws.spec_left l.lines.fields.now l.lines.starts.now l.plan l.v l.t l.shape l.first l.end l.i ≡ spec_between l.lines.fields.now l.lines.starts.now l.shape l.plan l.first l.end l.v l.t

@@ -7,4 +7,4 @@ use Rattle.steps.proofs.initial_state.Given as goal
 
 abbrev pub invariant-loop-i : goal.invariant-loop-i
 invariant-loop-i l =
-    (length l.out ≡ 8) × (laws.initial_left l.lines.fields l.lines.starts l.process l.out l.i ≡ initial_in l.lines.fields l.lines.starts l.process)
+    (length l.out ≡ 8) × (laws.initial_left l.lines.fields.now l.lines.starts.now l.process l.out l.i ≡ initial_in l.lines.fields.now l.lines.starts.now l.process)

@@ -7,4 +7,4 @@ use Rattle.steps.proofs.number.Given as goal
 
 abbrev pub invariant-loop-i : goal.invariant-loop-i
 invariant-loop-i l =
-    (l.k ≤ 65536) × (laws.number_left l.lines.fields l.lines.starts l.v l.process l.i l.k ≡ number_in l.lines.fields l.lines.starts l.process l.v)
+    (l.k ≤ 65536) × (laws.number_left l.lines.fields.now l.lines.starts.now l.v l.process l.i l.k ≡ number_in l.lines.fields.now l.lines.starts.now l.process l.v)

@@ -6,4 +6,4 @@ use Rattle.steps.proofs.put_state.Given as goal
 
 abbrev pub invariant-loop-i : goal.invariant-loop-i
 invariant-loop-i l =
-    let b = l.process.parameters.first in let n = min l.process.parameters.count 8 in (l.i ≤ n) × ((l.out ≡ laws.last_values l.lines.fields l.lines.starts b n l.number l.initial.out l.i) × (l.left ≡ laws.left_over l.lines.fields l.lines.starts b n l.number l.initial.out l.i))
+    let b = l.process.parameters.first in let n = min l.process.parameters.count 8 in (l.i ≤ n) × ((l.out ≡ laws.last_values l.lines.fields.now l.lines.starts.now b n l.number l.initial.out l.i) × (l.left ≡ laws.left_over l.lines.fields.now l.lines.starts.now b n l.number l.initial.out l.i))

@@ -6,4 +6,4 @@ use Rattle.tenth.proofs.rows.Given as goal
 
 abbrev pub invariant-loop-i : goal.invariant-loop-i
 invariant-loop-i l =
-    laws.rows_left l.lines.fields l.lines.starts l.plan l.v l.shape l.process l.from l.i ≡ rows_by l.lines.fields l.lines.starts l.shape l.process l.plan l.from l.v
+    laws.rows_left l.lines.fields.now l.lines.starts.now l.plan l.v l.shape l.process l.from l.i ≡ rows_by l.lines.fields.now l.lines.starts.now l.shape l.process l.plan l.from l.v

@@ -11,5 +11,5 @@ use Rattle.text_writer.proofs.put_lines.Given as goal
 
 abbrev pub invariant-loop-i : goal.invariant-loop-i
 invariant-loop-i l =
-    (length l.buffer ≡ length l.initial.buffer) × (l.at + bytes_from l.lines.starts (l.n - l.i) l.i ≡ bytes_in l.lines.starts l.n)
-    × (sets l.buffer l.at (text_of (lines_to_come l.lines.fields l.lines.starts l.n l.i)) ≡ sets l.initial.buffer 0 (text_of (held_lines l.lines.fields l.lines.starts l.n)))
+    (length l.buffer ≡ length l.initial.buffer) × (l.at + bytes_from l.lines.starts.now (l.n - l.i) l.i ≡ bytes_in l.lines.starts.now l.n)
+    × (sets l.buffer l.at (text_of (lines_to_come l.lines.fields.now l.lines.starts.now l.n l.i)) ≡ sets l.initial.buffer 0 (text_of (held_lines l.lines.fields.now l.lines.starts.now l.n)))

@@ -7,4 +7,4 @@ use Rattle.walk.proofs.walk_on.Given as goal
 
 abbrev pub invariant-loop-i : goal.invariant-loop-i
 invariant-loop-i l =
-    (l.i ≤ l.n) × (laws.walk_left l.lines.fields l.lines.starts l.plan l.shape l.n l.from l.i ≡ walk_on l.lines.fields l.lines.starts l.shape l.plan l.n l.from)
+    (l.i ≤ l.n) × (laws.walk_left l.lines.fields.now l.lines.starts.now l.plan l.shape l.n l.from l.i ≡ walk_on l.lines.fields.now l.lines.starts.now l.shape l.plan l.n l.from)

@@ -7,7 +7,7 @@ use Rattle.lowest_failure.proofs.Here.in_row.Goals as goal
 
 pub returns : goal.returns
 returns c =
-    let holds = holds_for (design_at c.args.self.now.lines.now.fields c.args.self.now.lines.now.starts c.args.self.now.shape) c.args.self.now.state c.args.n c.args.k in
+    let holds = holds_for (design_at c.args.self.now.lines.fields.now c.args.self.now.lines.starts.now c.args.self.now.shape) c.args.self.now.state c.args.n c.args.k in
     laws.sums _ _ _ _ _ _ _ (search rules)
     (first_from_Range _ _ _ _ (λ e. holds e ≡ false) (λ e. holds e ≡ true) c.find.ensures.ran (λ x q k. search (rules, tests)) (λ x q k. (search rules, search (rules, tests))))
     (search rules)

@@ -3,8 +3,8 @@ use Prim.Native.Nat.{◌≤◌}
 use mathlib.Core.Path.{◌≡◌}
 use Rattle.layout.specs.Sizes.{product_up_to}
 use Rattle.layout.proofs.Sizes as laws
-use Rattle.layout.proofs.Lines.product.Given as goal
+use Rattle.layout.proofs.Lent.product.Given as goal
 
 abbrev pub invariant-loop-i : goal.invariant-loop-i
 invariant-loop-i l =
-    (l.p ≤ 65537) × (laws.product_left l.self.fields l.self.starts l.n l.i l.p ≡ product_up_to l.self.fields l.self.starts l.n)
+    (l.p ≤ 65537) × (laws.product_left l.self.fields.now l.self.starts.now l.n l.i l.p ≡ product_up_to l.self.fields.now l.self.starts.now l.n)

@@ -1,6 +1,6 @@
 use native.Mathlib.Omega.{arith}
 use Rattle.layout.proofs.Sizes as laws
-use Rattle.layout.proofs.Lines.product.Goals as goal
+use Rattle.layout.proofs.Lent.product.Goals as goal
 
 pub loop-i-init : goal.loop-i-init
 loop-i-init c = (omega arith, laws.product_starts _ _ _)

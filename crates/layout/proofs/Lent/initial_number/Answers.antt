@@ -1,7 +1,7 @@
 -- The number where the counts fit.
 use native.Mathlib.Omega.{arith}
 use Rattle.layout.proofs.Sizes as laws
-use Rattle.layout.proofs.Lines.initial_number.Goals as goal
+use Rattle.layout.proofs.Lent.initial_number.Goals as goal
 
 pub overflow_cast-result : goal.overflow_cast-result
 overflow_cast-result c = omega (arith, laws.number_small _ _ _ _ c.number.ensures)
