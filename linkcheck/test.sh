@@ -14,8 +14,8 @@ if [ "${1:-}" = --remake ]; then remake=yes; shift; fi
 count=${1:-4000}
 seed=${2:-1}
 work=$(mktemp -d)
-declare -A others
-trap 'if [ ${#others[@]} != 0 ]; then kill "${others[@]}" 2> /dev/null || true; fi; rm -rf "$work"' EXIT
+. tools/beside.sh
+trap 'none_beside; rm -rf "$work"' EXIT
 tables=compare/tables
 linkcheck=$PWD/target/bin/linkcheck
 linkcheck/build.sh
@@ -23,20 +23,6 @@ linkcheck/build.sh
 fail() {
     echo "linkcheck test: $*" >&2
     exit 1
-}
-# beside NAME COMMAND...: goes on beside what follows, until `joined NAME` waits for it and shows what it said.
-beside() {
-    local name=$1
-    shift
-    "$@" > "$work/$name.said" 2>&1 &
-    others[$name]=$!
-}
-joined() {
-    local got=0
-    wait "${others[$1]}" || got=$?
-    unset "others[$1]"
-    cat "$work/$1.said"
-    [ "$got" = 0 ] || fail "$1"
 }
 # judged STATUS: each table has its verdict.
 judged() { [ "$1" -le 2 ] || [ "$1" = 4 ]; }
@@ -248,8 +234,7 @@ store_and_pictures() {
     linkcheck/test_pictures.sh examples/*.txt "$tables"/{P_,m_c}*.txt "$work"/{marks,values,first}/*.txt "${some[@]}" || fail "pictures"
 }
 sanitized=
-if wait "${others[sanitized]}" && "$work/sanitized" --help > /dev/null 2>&1; then sanitized=$work/sanitized; fi
-unset "others[sanitized]"
+if ended sanitized && "$work/sanitized" --help > /dev/null 2>&1; then sanitized=$work/sanitized; fi
 SANITIZED=$sanitized beside "a store and pictures" store_and_pictures
 
 # ---- stored outputs: a name in expected/ and the arguments that give it, in the folder if one is set ----
@@ -830,8 +815,8 @@ if valgrind -q --error-exitcode=99 "$linkcheck" --help > /dev/null 2>&1; then
     looks_at_each valgrind -q --error-exitcode=99 --leak-check=full "$linkcheck"
     checked="$checked and valgrind"
 fi
-joined "typed tables"
-joined "a store and pictures"
+joined "typed tables" || fail "typed tables"
+joined "a store and pictures" || fail "a store and pictures"
 damaged=$((count + 3 * marked))
 echo "linkcheck: $(wc -l < "$work/due") tables as in compare/reports.tsv, $damaged damaged texts from seed $seed, $checked: no fault"
 tail -n 1 "$work/plain"

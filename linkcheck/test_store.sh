@@ -190,10 +190,11 @@ for options in --report --json "" "--report -j 3"; do
     due 2 "$linkcheck" --timeout 1000 $options "$@"
     cmp "$work/plain" "$work/out" || fail "--timeout 1000 $options: another answer by a desk"
 done
-# 65,536 states, 32 rows of 256 sum values, none of which is ever enabled: a check that takes far longer than it is given.
+# 65,536 states, 32 rows of 256 sum values, none of which is ever enabled, and each of which reads both parameters, so that what is known of
+# a state is of no use for the next: a check that takes far longer than it is given.
 {
     printf '1 256 0\n1 256 0\n2 1 0\n'
-    for ((row = 1; row <= 32; row++)); do echo "3 $row 256 12 5 3 2 5 3 2 5 3 2 5 3 2 1 0 0 7 0 7 0 7 0 7 0 9 0 0 1 0 1 1"; done
+    for ((row = 1; row <= 32; row++)); do echo "3 $row 256 12 5 3 2 5 3 2 5 3 2 5 3 2 3 1 0 1 1 0 7 0 7 0 7 0 7 0 9 0 0 1 0 1 1"; done
     printf '5 10\n6 0 0\n7 0 0\n'
 } | "$plain" --columns > "$work/slow.txt"
 unfinished='not finished: [0-9,]* of 65,536 states in 0\.5 s'
