@@ -8,9 +8,10 @@ beside_at=$(mktemp -d)
 beside() {
     local name=$1
     shift
+    rm -f "$beside_at/$name.status"
     (
         "$@" &
-        trap 'kill $! 2> /dev/null' TERM
+        trap 'kill $! 2> /dev/null; exit 143' USR1
         got=0
         wait $! || got=$?
         echo "$got" > "$beside_at/$name.status"
@@ -34,7 +35,10 @@ joined() {
 none_beside() {
     local name
     for name in "${!goes_beside[@]}"; do
-        if [ ! -e "$beside_at/$name.status" ]; then kill "${goes_beside[$name]}" 2> /dev/null || true; fi
+        if [ ! -e "$beside_at/$name.status" ]; then
+            kill -USR1 "${goes_beside[$name]}" 2> /dev/null || true
+            wait "${goes_beside[$name]}" 2> /dev/null || true
+        fi
     done
     rm -rf "$beside_at"
 }
